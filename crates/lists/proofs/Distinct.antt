@@ -1,0 +1,79 @@
+-- `distinct`: at two places, from all pairs of places, after a store, and along a loop. Assumes nothing.
+use Prim.Native.Nat.{ℕ, zero, suc, _+_, _-_, _≤_, _<_}
+use native.Mathlib.Omega.{arith}
+use mathlib.Core.Path.{_≡_, refl, sym, ap, _∙_, subst}
+use mathlib.Core.Bool.{Bool, true, false, cond, not, _&&_}
+use mathlib.Core.Logic.{⊎-elim}
+use mathlib.Core.List.{List, [], _∷_, _++_}
+use lib.ListN.{length, take, drop, set, getD, drop-of-length-le, length-set}
+use lib.Seq.{getD-set-same, getD-set-other}
+use borrow.Author.Tests.{not-true, not-false}
+use Rattle.lists.specs.Lists.{every, distinct}
+use Rattle.lists.proofs.Cases.{and-first, and-second, and-intro, and-true, and-false, never, by-test, eq-or-ne}
+use Rattle.lists.proofs.Every.{every-at, every-from, drop-step}
+
+module _ {A : Type 0} (alike : A → A → Bool) where
+  -- no later element is alike to x
+  abbrev pub unlike : A → A → Bool
+  unlike x y = not (alike x y)
+
+  pub distinct-cons : (x : A) (xs : List A) → distinct alike (x ∷ xs) ≡ (every (unlike x) xs && distinct alike xs)
+  unfolding distinct
+  distinct-cons x xs = refl
+
+  pub distinct-nil : distinct alike [] ≡ true
+  unfolding distinct
+  distinct-nil = refl
+
+  pub distinct-at : (xs : List A) (d : A) (i j : ℕ) → distinct alike xs ≡ true → i < j → j < length xs → alike (getD xs i d) (getD xs j d) ≡ false
+  distinct-at [] d i j h l m = absurd (omega arith)
+  distinct-at (x ∷ xs) d i zero h l m = absurd (omega arith)
+  distinct-at (x ∷ xs) d zero (suc j) h l m =
+      let e = sym (distinct-cons x xs) ∙ h in
+      not-true _ (every-at (unlike x) xs d j (and-first (every (unlike x) xs) (distinct alike xs) e) (omega arith))
+  distinct-at (x ∷ xs) d (suc i) (suc j) h l m =
+      let e = sym (distinct-cons x xs) ∙ h in
+      distinct-at xs d i j (and-second (every (unlike x) xs) (distinct alike xs) e) (omega arith) (omega arith)
+
+  pub distinct-from : (xs : List A) (d : A) → ((i j : ℕ) → i < j → j < length xs → alike (getD xs i d) (getD xs j d) ≡ false) → distinct alike xs ≡ true
+  distinct-from [] d f = distinct-nil
+  distinct-from (x ∷ xs) d f =
+      distinct-cons x xs
+      ∙ and-intro (every (unlike x) xs) (distinct alike xs)
+      (every-from (unlike x) xs d (λ i l. ap not (f 0 (suc i) (omega arith) (omega arith))))
+      (distinct-from xs d (λ i j l m. f (suc i) (suc j) (omega arith) (omega arith)))
+
+  -- an element unlike all the others, put at a place
+  pub distinct-set : (xs : List A) (d : A) (i : ℕ) (v : A) → distinct alike xs ≡ true
+      → ((j : ℕ) → j < length xs → (j ≡ i → ⊥) → (alike v (getD xs j d) ≡ false) × (alike (getD xs j d) v ≡ false))
+      → distinct alike (set xs i v) ≡ true
+  distinct-set xs d i v h f = distinct-from (set xs i v) d apart
+    where
+      apart : (j k : ℕ) → j < k → k < length (set xs i v) → alike (getD (set xs i v) j d) (getD (set xs i v) k d) ≡ false
+      apart j k l m =
+          let n : k < length xs = omega (arith, length-set xs i v) in
+          ⊎-elim
+          (λ e.
+          let g : k ≡ i → ⊥ = λ z. omega arith in
+          rw (e, getD-set-same xs i v d (omega arith), getD-set-other xs i k v d g) (f k n g .0))
+          (λ e.
+          rw (getD-set-other xs i j v d e)
+          (⊎-elim
+          (λ z. rw (z, getD-set-same xs i v d (omega arith)) (f j (omega arith) e .1))
+          (λ z. rw (getD-set-other xs i k v d z) (distinct-at xs d j k h l n))
+          (eq-or-ne k i)))
+          (eq-or-ne j i)
+
+  -- one element on
+  module _ (xs : List A) (i : ℕ) (d : A) (l : i < length xs) where
+    distinct-step : distinct alike (drop i xs) ≡ (every (unlike (getD xs i d)) (drop (i + 1) xs) && distinct alike (drop (i + 1) xs))
+    distinct-step = ap (distinct alike) (drop-step xs i d l) ∙ distinct-cons (getD xs i d) (drop (i + 1) xs)
+
+    pub distinct-stop : every (unlike (getD xs i d)) (drop (i + 1) xs) ≡ false → distinct alike (drop i xs) ≡ false
+    distinct-stop t = distinct-step ∙ and-false (every (unlike (getD xs i d)) (drop (i + 1) xs)) (distinct alike (drop (i + 1) xs)) t
+
+    pub distinct-next : every (unlike (getD xs i d)) (drop (i + 1) xs) ≡ true → distinct alike (drop i xs) ≡ distinct alike (drop (i + 1) xs)
+    distinct-next t = distinct-step ∙ and-true (every (unlike (getD xs i d)) (drop (i + 1) xs)) (distinct alike (drop (i + 1) xs)) t
+
+  pub distinct-end : (xs : List A) (i : ℕ) → length xs ≤ i → distinct alike (drop i xs) ≡ true
+  distinct-end xs i h = ap (distinct alike) (drop-of-length-le xs h) ∙ distinct-nil

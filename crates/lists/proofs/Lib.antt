@@ -1,0 +1,11 @@
+pub mod Cases
+pub mod Every
+pub mod Distinct
+pub mod Places
+pub mod Bytes
+pub mod Comparing
+pub mod Walking
+pub mod Elements
+pub mod Searching
+pub mod Testing
+pub mod Twins
