@@ -1,0 +1,13 @@
+pub mod Order
+pub mod Read
+pub mod Reading
+pub mod Write
+pub mod Sizes
+pub mod RoundTrip
+pub mod Advance
+pub mod Numbers
+pub mod Limited
+pub mod Server
+pub mod Behind
+pub mod Room
+pub mod Tenth
