@@ -1,0 +1,9 @@
+pub mod Rules
+pub mod Typed
+pub mod Lookup
+pub mod Putting
+pub mod Tested
+pub mod TwinLoops
+pub mod Facts
+pub mod Kept
+pub mod Ruled

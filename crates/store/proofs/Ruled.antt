@@ -1,0 +1,278 @@
+-- Putting a table or an entry by the rules keeps a sound store sound. Assumes nothing.
+use Prim.Native.Nat.{ℕ, _+_, _-_, _^_, _≤_, _<_}
+use native.Mathlib.Omega.{arith}
+use mathlib.Core.Path.{_≡_, refl, sym, ap, _∙_, subst}
+use mathlib.Core.Bool.{Bool, true, false, cond, not, _&&_}
+use mathlib.Core.Logic.{_⊎_, ⊎-elim, inl, inr}
+use mathlib.Core.List.{List, [], _∷_}
+use lib.ListN.{length, getD, set, take, drop, replicate, length-set, getD-replicate, length-replicate}
+use lib.Seq.{getD-set-same, getD-set-other}
+use lib.IntN.{ℤ}
+use lib.Dec.{leb, eqb}
+use borrow.Author.Tests.{eq-eqb}
+use Rattle.lists.specs.declared.Found.{Found}
+use Rattle.lists.specs.declared.Found.the-variants.{At, Nothing}
+use Rattle.lists.specs.Lists.{allOf, every, distinct, padTo, isZero}
+use Rattle.lists.proofs.Cases.{never, not-passed, and-first, and-second, and-false-second, eq-or-ne}
+use Rattle.lists.proofs.Bytes.{pad-take, pad-drop, zeros-zero}
+use Rattle.store.specs.declared.Table.{Table}
+use Rattle.store.specs.declared.Entry.{Entry}
+use Rattle.store.specs.declared.Store.{Store}
+use Rattle.store.specs.declared.Definition.{Definition}
+use Rattle.store.specs.Limits.{keyMax, nameMax, keyKind, isString, keyLengthOk, slotTypes}
+use Rattle.store.specs.Store.{tableHeld, entryHeld, nameOf, keyOf, tableNamed, entryKeyed, findTable, findEntry, makeEntry, makeTable, putTable, putEntry, noTable, noEntry, emptyStore}
+use Rattle.store.specs.Shape.{TableShape, EntryShape, StoreShape}
+use Rattle.store.specs.Sound.{sameName, entryKeyLengthOk, keyRestZero, slotsOk, valuesOk, sameKey, soundStore, soundTable, soundEntry}
+use Rattle.store.proofs.Facts.{TableFacts, EntryFacts, SoundStore, sound-facts, facts-sound, Named, Keyed, named-facts, facts-named, keyed-facts, facts-keyed, name-size, key-size}
+use Rattle.store.proofs.Kept.{only-table, only-entry, table-missing, entry-missing}
+
+-- ---- the rules
+
+-- "A known table and key has its values replaced. Otherwise the entry takes the lowest free place": no other place holds its table and key
+pub record EntryRules (s : Store) (place : ℕ) (e : Entry) : Type 0 where
+  pub mark : e .held ≡ 1
+  pub facts : EntryFacts (s .tables) e
+  pub shape : EntryShape e
+  pub fresh : (j : ℕ) → j < length (s .entries) → (j ≡ place → ⊥) → entryKeyed (e .table) (keyOf e) (getD (s .entries) j noEntry) ≡ false
+
+-- "A held name must agree in key type, key length and data types"
+pub record Agrees (t u : Table) : Type 0 where
+  pub keyType : t .«key_type» ≡ u .«key_type»
+  pub keyLength : t .«key_len» ≡ u .«key_len»
+  pub dataTypes : t .«data_types» ≡ u .«data_types»
+
+pub record TableRules (s : Store) (place : ℕ) (t : Table) : Type 0 where
+  pub mark : t .held ≡ 1
+  pub facts : TableFacts t
+  pub shape : TableShape t
+  pub fresh : (j : ℕ) → j < length (s .tables) → (j ≡ place → ⊥) → tableNamed (nameOf t) (getD (s .tables) j noTable) ≡ false
+  pub keeps : (tableHeld (getD (s .tables) place noTable) ≡ false) ⊎ Agrees (getD (s .tables) place noTable) t
+
+-- ---- an entry
+
+entry-held : (e : Entry) → e .held ≡ 1 → entryHeld e ≡ true
+unfolding entryHeld
+entry-held e h = eq-eqb (e .held) 1 h
+
+keyed-first : (e f : Entry) → entryKeyed (e .table) (keyOf e) f ≡ false → sameKey e f ≡ false
+unfolding sameKey
+keyed-first e f h = and-false-second (entryHeld e) (entryKeyed (e .table) (keyOf e) f) h
+
+keyed-second : (e f : Entry) → (entryHeld f ≡ true → length (keyOf f) ≡ f .«key_len») → entryKeyed (e .table) (keyOf e) f ≡ false → sameKey f e ≡ false
+unfolding sameKey
+keyed-second e f z h =
+    not-passed (entryHeld f && entryKeyed (f .table) (keyOf f) e)
+    (λ q.
+    let a = and-first (entryHeld f) (entryKeyed (f .table) (keyOf f) e) q in
+    let k = keyed-facts (f .table) (keyOf f) e (and-second (entryHeld f) (entryKeyed (f .table) (keyOf f) e) q) in
+    never
+    (facts-keyed (e .table) (keyOf e) f
+    (record { held = a; owner = sym (k .owner); size = sym (z a) ∙ ap length (sym (k .bytes)); bytes = sym (k .bytes) }))
+    h)
+
+module _ (s : Store) (h : StoreShape s) (r : SoundStore s) where
+  owner-facts : (e : Entry) → EntryFacts (s .tables) e → TableFacts (getD (s .tables) (e .table) noTable)
+  owner-facts e f = r .table (e .table) (omega (arith, f .place, h .tables)) (f .tableHeld)
+
+  held-size : (i : ℕ) → i < length (s .entries) → entryHeld (getD (s .entries) i noEntry) ≡ true
+      → length (keyOf (getD (s .entries) i noEntry)) ≡ getD (s .entries) i noEntry .«key_len»
+  held-size i l q =
+      let e = getD (s .entries) i noEntry in
+      let f = r .entry i l q in
+      key-size (getD (s .tables) (e .table) noTable) e (owner-facts e f) (f .keyLength) (h .entry i (omega (arith, h .entries)))
+
+  pub put-entry-facts : (place : ℕ) (e : Entry) → EntryRules s place e → SoundStore (putEntry s place e)
+  unfolding putEntry
+  put-entry-facts place e w =
+      record {
+        tableMark = r .tableMark;
+        table = r .table;
+        names = r .names;
+        entryMark = λ i l.
+            let m : i < length es = omega (arith, n) in
+            ⊎-elim
+            (λ z. rw (z, getD-set-same es place e noEntry (omega arith)) (omega (arith, w .mark)))
+            (λ z. rw (getD-set-other es place i e noEntry z) (r .entryMark i m))
+            (eq-or-ne i place);
+        entry = λ i l.
+            let m : i < length es = omega (arith, n) in
+            ⊎-elim
+            (λ z. rw (z, getD-set-same es place e noEntry (omega arith)) (λ q. w .facts))
+            (λ z. rw (getD-set-other es place i e noEntry z) (r .entry i m))
+            (eq-or-ne i place);
+        keys = λ i j k l.
+            let m : j < length es = omega (arith, n) in
+            ⊎-elim
+            (λ z.
+            let g : j ≡ place → ⊥ = λ y. omega arith in
+            rw (z, getD-set-same es place e noEntry (omega arith), getD-set-other es place j e noEntry g) (keyed-first e (getD es j noEntry) (w .fresh j m g)))
+            (λ z.
+            rw (getD-set-other es place i e noEntry z)
+            (⊎-elim
+            (λ y.
+            rw (y, getD-set-same es place e noEntry (omega arith))
+            (keyed-second e (getD es i noEntry) (held-size i (omega arith)) (w .fresh i (omega arith) z)))
+            (λ y. rw (getD-set-other es place j e noEntry y) (r .keys i j k m))
+            (eq-or-ne j place)))
+            (eq-or-ne i place);
+      }
+    where
+      es : List Entry
+      es = s .entries
+
+      n : length (set (s .entries) place e) ≡ length (s .entries)
+      n = length-set (s .entries) place e
+
+-- ---- a table
+
+table-held : (t : Table) → t .held ≡ 1 → tableHeld t ≡ true
+unfolding tableHeld
+table-held t h = eq-eqb (t .held) 1 h
+
+named-first : (t u : Table) → tableNamed (nameOf t) u ≡ false → sameName t u ≡ false
+unfolding sameName
+named-first t u h = and-false-second (tableHeld t) (tableNamed (nameOf t) u) h
+
+named-second : (t u : Table) → (tableHeld u ≡ true → length (nameOf u) ≡ u .«name_len») → tableNamed (nameOf t) u ≡ false → sameName u t ≡ false
+unfolding sameName
+named-second t u z h =
+    not-passed (tableHeld u && tableNamed (nameOf u) t)
+    (λ q.
+    let a = and-first (tableHeld u) (tableNamed (nameOf u) t) q in
+    let k = named-facts (nameOf u) t (and-second (tableHeld u) (tableNamed (nameOf u) t) q) in
+    never
+    (facts-named (nameOf t) u (record { held = a; size = sym (z a) ∙ ap length (sym (k .bytes)); bytes = sym (k .bytes) }))
+    h)
+
+-- what an entry's soundness takes of its table
+unfoldable lengthBy : ℕ → ℕ → ℕ → Bool
+lengthBy keyType most n = cond (isString (keyKind keyType)) (leb n most) (eqb n most)
+
+agreeing-length : (t u : Table) (e : Entry) → Agrees t u → entryKeyLengthOk t e ≡ entryKeyLengthOk u e
+unfolding entryKeyLengthOk lengthBy
+agreeing-length t u e a =
+    ap (λ (k : ℕ). lengthBy k (t .«key_len») (e .«key_len»)) (a .keyType) ∙ ap (λ (n : ℕ). lengthBy (u .«key_type») n (e .«key_len»)) (a .keyLength)
+
+agreeing-values : (t u : Table) (e : Entry) → Agrees t u → valuesOk t e ≡ valuesOk u e
+unfolding valuesOk
+agreeing-values t u e a = ap (λ (n : ℕ). slotsOk n slotTypes (e .values)) (a .dataTypes)
+
+module _ (tables : List Table) (place : ℕ) (t : Table) (held : t .held ≡ 1) (inside : place < length tables)
+    (keeps : (tableHeld (getD tables place noTable) ≡ false) ⊎ Agrees (getD tables place noTable) t) where
+  entry-stays : (e : Entry) → EntryFacts tables e → EntryFacts (set tables place t) e
+  entry-stays e f =
+      ⊎-elim
+      (λ z.
+      let here = ap (λ (n : ℕ). getD (set tables place t) n noTable) z ∙ getD-set-same tables place t noTable inside in
+      let old = ap (λ (n : ℕ). getD tables n noTable) z in
+      ⊎-elim
+      (λ g. never (subst (λ (u : Table). tableHeld u ≡ true) old (f .tableHeld)) g)
+      (λ a.
+      record {
+        place = f .place;
+        tableHeld = subst (λ (u : Table). tableHeld u ≡ true) (sym here) (table-held t held);
+        keyLength =
+            subst (λ (u : Table). entryKeyLengthOk u e ≡ true) (sym here)
+            (sym (agreeing-length (getD tables place noTable) t e a) ∙ subst (λ (u : Table). entryKeyLengthOk u e ≡ true) old (f .keyLength));
+        keyRest = f .keyRest;
+        values =
+            subst (λ (u : Table). valuesOk u e ≡ true) (sym here)
+            (sym (agreeing-values (getD tables place noTable) t e a) ∙ subst (λ (u : Table). valuesOk u e ≡ true) old (f .values));
+      })
+      keeps)
+      (λ z.
+      let there = getD-set-other tables place (e .table) t noTable z in
+      record {
+        place = f .place;
+        tableHeld = subst (λ (u : Table). tableHeld u ≡ true) (sym there) (f .tableHeld);
+        keyLength = subst (λ (u : Table). entryKeyLengthOk u e ≡ true) (sym there) (f .keyLength);
+        keyRest = f .keyRest;
+        values = subst (λ (u : Table). valuesOk u e ≡ true) (sym there) (f .values);
+      })
+      (eq-or-ne (e .table) place)
+
+module _ (s : Store) (h : StoreShape s) (r : SoundStore s) where
+  named-size : (i : ℕ) → i < length (s .tables) → tableHeld (getD (s .tables) i noTable) ≡ true
+      → length (nameOf (getD (s .tables) i noTable)) ≡ getD (s .tables) i noTable .«name_len»
+  named-size i l q = name-size (getD (s .tables) i noTable) (r .table i l q) (h .table i (omega (arith, h .tables)))
+
+  pub put-table-facts : (place : ℕ) (t : Table) → place < 8 → TableRules s place t → SoundStore (putTable s place t)
+  unfolding putTable
+  put-table-facts place t inside w =
+      record {
+        tableMark = λ i l.
+            let m : i < length ts = omega (arith, n) in
+            ⊎-elim
+            (λ z. rw (z, getD-set-same ts place t noTable (omega arith)) (omega (arith, w .mark)))
+            (λ z. rw (getD-set-other ts place i t noTable z) (r .tableMark i m))
+            (eq-or-ne i place);
+        table = λ i l.
+            let m : i < length ts = omega (arith, n) in
+            ⊎-elim
+            (λ z. rw (z, getD-set-same ts place t noTable (omega arith)) (λ q. w .facts))
+            (λ z. rw (getD-set-other ts place i t noTable z) (r .table i m))
+            (eq-or-ne i place);
+        names = λ i j k l.
+            let m : j < length ts = omega (arith, n) in
+            ⊎-elim
+            (λ z.
+            let g : j ≡ place → ⊥ = λ y. omega arith in
+            rw (z, getD-set-same ts place t noTable (omega arith), getD-set-other ts place j t noTable g) (named-first t (getD ts j noTable) (w .fresh j m g)))
+            (λ z.
+            rw (getD-set-other ts place i t noTable z)
+            (⊎-elim
+            (λ y.
+            rw (y, getD-set-same ts place t noTable (omega arith))
+            (named-second t (getD ts i noTable) (named-size i (omega arith)) (w .fresh i (omega arith) z)))
+            (λ y. rw (getD-set-other ts place j t noTable y) (r .names i j k m))
+            (eq-or-ne j place)))
+            (eq-or-ne i place);
+        entryMark = r .entryMark;
+        entry = λ i l q. entry-stays ts place t (w .mark) (omega (arith, h .tables)) (w .keeps) (getD (s .entries) i noEntry) (r .entry i l q);
+        keys = r .keys;
+      }
+    where
+      ts : List Table
+      ts = s .tables
+
+      n : length (set (s .tables) place t) ≡ length (s .tables)
+      n = length-set (s .tables) place t
+
+-- ---- in terms of the test
+
+pub put-entry-sound : (s : Store) (place : ℕ) (e : Entry) → StoreShape s → soundStore s ≡ true → EntryRules s place e → soundStore (putEntry s place e) ≡ true
+put-entry-sound s place e h q w = facts-sound (putEntry s place e) (put-entry-facts s h (sound-facts s q) place e w)
+
+pub put-table-sound : (s : Store) (place : ℕ) (t : Table) → StoreShape s → soundStore s ≡ true → place < 8 → TableRules s place t
+    → soundStore (putTable s place t) ≡ true
+put-table-sound s place t h q l w = facts-sound (putTable s place t) (put-table-facts s h (sound-facts s q) place t l w)
+
+-- ---- a made entry and a made table
+
+pub made-key : (table : ℕ) (key : List ℕ) (server : ℤ) (values : List ℕ) → length key ≤ 64 → keyOf (makeEntry table key server values) ≡ key
+unfolding keyOf makeEntry
+made-key table key server values l = pad-take keyMax key l
+
+pub made-rest : (table : ℕ) (key : List ℕ) (server : ℤ) (values : List ℕ) → length key ≤ 64 → keyRestZero (makeEntry table key server values) ≡ true
+unfolding keyRestZero makeEntry
+made-rest table key server values l = ap (every isZero) (pad-drop keyMax key l) ∙ zeros-zero (keyMax - length key)
+
+pub made-keyed : (table : ℕ) (key : List ℕ) (server : ℤ) (values : List ℕ) → length key ≤ 64 → entryKeyed table key (makeEntry table key server values) ≡ true
+unfolding makeEntry entryHeld
+made-keyed table key server values l =
+    facts-keyed table key (makeEntry table key server values)
+    (record { held = refl; owner = refl; size = refl; bytes = made-key table key server values l })
+
+pub made-name : (name : List ℕ) (d : Definition) → length name ≤ 32 → nameOf (makeTable name d) ≡ name
+unfolding nameOf makeTable
+made-name name d l = pad-take nameMax name l
+
+pub made-named : (name : List ℕ) (d : Definition) → length name ≤ 32 → tableNamed name (makeTable name d) ≡ true
+unfolding makeTable tableHeld
+made-named name d l = facts-named name (makeTable name d) (record { held = refl; size = refl; bytes = made-name name d l })
+
+-- ---- the store without tables and entries
+
+pub empty-sound : soundStore emptyStore ≡ true
+unfolding soundStore emptyStore allOf every distinct soundTable soundEntry sameName sameKey noTable noEntry tableHeld entryHeld
+empty-sound = refl

@@ -1,0 +1,105 @@
+-- The rules of key types and data types: one law for each case. Assumes nothing.
+use Prim.Native.Nat.{ℕ, zero, suc, _+_, _*_, _-_, _/_, _%_, _^_, _≤_, _<_}
+use native.Mathlib.Omega.{arith}
+use native.Mathlib.Nat.{div-eq-of-lt, pow-le-pow-right}
+use mathlib.Core.Path.{_≡_, refl, sym, ap, _∙_, subst}
+use mathlib.Core.Bool.{Bool, true, false, cond, not, _&&_, _||_}
+use mathlib.Core.List.{List, [], _∷_}
+use lib.ListN.{length, getD, List·getD-eq-default}
+use lib.Dec.{ltb, leb, eqb, lit<}
+use borrow.Author.Tests.{eqb-true, ne-eqb, leb-true, le-leb, lt-leb}
+use Rattle.lists.specs.Lists.{every, upTo, among}
+use Rattle.lists.proofs.Cases.{never, and-second, and-true, and-false}
+use Rattle.lists.proofs.Every.{every-at, up-at, up-length}
+use Rattle.store.specs.declared.KeyKind.{KeyKind}
+use Rattle.store.specs.declared.KeyKind.the-variants.{Integer, Ipv4, Ipv6, Str, Binary, Unknown}
+use Rattle.store.specs.Limits.{keyMax, keyKind, isKnown, keyLengthFits, keyLengthOk, present, isRate, isWide, rateTypes, slotTypes, slotsFor, integersOf}
+
+pub kind-unknown : (n : ℕ) → (n ≡ 0 → ⊥) → (n ≡ 1 → ⊥) → (n ≡ 2 → ⊥) → (n ≡ 3 → ⊥) → (n ≡ 4 → ⊥) → Unknown ≡ keyKind n
+unfolding keyKind
+kind-unknown n a b c d e = rw (ne-eqb n 0 a, ne-eqb n 1 b, ne-eqb n 2 c, ne-eqb n 3 d, ne-eqb n 4 e)
+
+-- a right key length fits the key's bytes
+fits-most : (kind : KeyKind) (n : ℕ) → keyLengthFits keyMax kind n ≡ true → n ≤ keyMax
+fits-most Integer n h = omega (arith, eqb-true n 4 h)
+fits-most Ipv4 n h = omega (arith, eqb-true n 4 h)
+fits-most Ipv6 n h = omega (arith, eqb-true n 16 h)
+fits-most Str n h = leb-true n keyMax (and-second (leb 1 n) (leb n keyMax) h)
+fits-most Binary n h = leb-true n keyMax (and-second (leb 1 n) (leb n keyMax) h)
+fits-most Unknown n h = never refl (sym h)
+
+pub key-length-most : (keyType n : ℕ) → keyLengthOk keyType n ≡ true → n ≤ 64
+unfolding keyLengthOk
+key-length-most keyType n h = fits-most (keyKind keyType) n h
+
+fits-known : (kind : KeyKind) (n : ℕ) → keyLengthFits keyMax kind n ≡ true → isKnown kind ≡ true
+fits-known Integer n h = refl
+fits-known Ipv4 n h = refl
+fits-known Ipv6 n h = refl
+fits-known Str n h = refl
+fits-known Binary n h = refl
+fits-known Unknown n h = h
+
+-- only a known key type has a right key length
+pub key-length-known : (keyType n : ℕ) → keyLengthOk keyType n ≡ true → isKnown (keyKind keyType) ≡ true
+unfolding keyLengthOk
+key-length-known keyType n h = fits-known (keyKind keyType) n h
+
+-- ---- tables of the code
+
+unfoldable pub powers : List ℕ
+powers =
+    1 ∷ 2 ∷ 4 ∷ 8 ∷ 16 ∷ 32 ∷ 64 ∷ 128 ∷ 256 ∷ 512 ∷ 1024 ∷ 2048 ∷ 4096 ∷ 8192 ∷ 16384 ∷ 32768 ∷ 65536 ∷ 131072 ∷ 262144 ∷ 524288
+    ∷ 1048576 ∷ 2097152 ∷ 4194304 ∷ 8388608 ∷ 16777216 ∷ 33554432 ∷ 67108864 ∷ 134217728 ∷ 268435456 ∷ 536870912 ∷ 1073741824
+    ∷ 2147483648 ∷ []
+
+unfoldable isPower : ℕ → Bool
+isPower t = eqb (getD powers t 0) (2 ^ t)
+
+all-powers : every isPower (upTo 32) ≡ true
+unfolding every upTo isPower powers
+all-powers = refl
+
+pub power-at : (t : ℕ) → t < 32 → getD powers t 0 ≡ 2 ^ t
+unfolding isPower
+power-at t h =
+    eqb-true (getD powers t 0) (2 ^ t)
+    (subst (λ (n : ℕ). isPower n ≡ true) (up-at 32 t 0 h) (every-at isPower (upTo 32) 0 t all-powers (omega (arith, up-length 32))))
+
+pub present-past : (types t : ℕ) → types < 2 ^ 32 → 32 ≤ t → false ≡ present types t
+unfolding present
+present-past types t h l =
+    let p = pow-le-pow-right {n = 2} (lit< tt) l in
+    let z : types / 2 ^ t ≡ 0 = div-eq-of-lt (omega arith) in
+    rw z
+
+pub present-at : (types t : ℕ) → t < 32 → eqb ((types / getD powers t 0) % 2) 1 ≡ present types t
+unfolding present
+present-at types t h = rw (power-at t h)
+
+-- 34 slots, each of a data type from 1 to 18
+pub slot-count : length slotTypes ≡ 34
+unfolding slotTypes slotsFor integersOf isRate rateTypes among
+slot-count = refl
+
+pub rate-count : length rateTypes ≡ 8
+unfolding rateTypes
+rate-count = refl
+
+pub slot-past : (slot : ℕ) → 34 ≤ slot → 0 ≡ getD slotTypes slot 0
+slot-past slot h = sym (List·getD-eq-default slotTypes 0 (omega (arith, slot-count)))
+
+pub rate-past : (period : ℕ) → 8 ≤ period → 0 ≡ getD rateTypes period 0
+rate-past period h = sym (List·getD-eq-default rateTypes 0 (omega (arith, rate-count)))
+
+pub below-least : (least n most : ℕ) → n < least → false ≡ (leb least n && leb n most)
+below-least least n most h = sym (and-false (leb least n) (leb n most) (lt-leb least n h))
+
+pub from-least : (least n most : ℕ) → least ≤ n → leb n most ≡ (leb least n && leb n most)
+from-least least n most h = sym (and-true (leb least n) (leb n most) (le-leb least n h))
+
+pub power-pos : (t : ℕ) → t < 32 → 0 < getD powers t 0
+power-pos t h = omega (arith, power-at t h, pow-le-pow-right {n = 2} (lit< tt) (omega-zero t))
+  where
+    omega-zero : (n : ℕ) → 0 ≤ n
+    omega-zero n = omega arith

@@ -1,0 +1,117 @@
+-- Tables and entries: what is held, lookup, the lowest free place, and what putting one makes. Assumes nothing.
+use Prim.Native.Nat.{ℕ, zero, suc, _+_, _-_}
+use mathlib.Core.List.{List, [], _∷_, _++_}
+use mathlib.Core.Bool.{Bool, true, false, cond, not, _&&_, _||_}
+use lib.ListN.{length, take, drop, set, getD, replicate}
+use lib.IntN.{ℤ, pos}
+use lib.Dec.{ltb, leb, eqb}
+use Rattle.lists.specs.declared.Found.{Found}
+use Rattle.lists.specs.Lists.{every, firstPlace, eqBytes, padTo}
+use Rattle.store.specs.declared.Table.{Table}
+use Rattle.store.specs.declared.Entry.{Entry}
+use Rattle.store.specs.declared.Store.{Store}
+use Rattle.store.specs.declared.Definition.{Definition}
+use Rattle.store.specs.Limits.{nameMax, keyMax, tablePlaces, entryPlaces}
+
+-- ---- what a place holds
+
+unfoldable pub tableHeld : Table → Bool
+tableHeld t = eqb (t .held) 1
+
+unfoldable pub entryHeld : Entry → Bool
+entryHeld e = eqb (e .held) 1
+
+unfoldable pub tableFree : Table → Bool
+tableFree t = eqb (t .held) 0
+
+unfoldable pub entryFree : Entry → Bool
+entryFree e = eqb (e .held) 0
+
+-- a table's name and an entry's key: the first bytes of their arrays
+unfoldable pub nameOf : Table → List ℕ
+nameOf t = take (t .«name_len») (t .name)
+
+unfoldable pub keyOf : Entry → List ℕ
+keyOf e = take (e .«key_len») (e .key)
+
+-- ---- lookup
+
+-- a held table of this name: names are compared by length and bytes
+unfoldable pub tableNamed : List ℕ → Table → Bool
+tableNamed name t = tableHeld t && (eqb (t .«name_len») (length name) && eqBytes (nameOf t) name)
+
+-- a held entry of the table at this place, with a key of n bytes
+unfoldable pub entryOf : ℕ → ℕ → Entry → Bool
+entryOf table n e = entryHeld e && (eqb (e .table) table && eqb (e .«key_len») n)
+
+-- and with this key
+unfoldable pub entryKeyed : ℕ → List ℕ → Entry → Bool
+entryKeyed table key e = entryOf table (length key) e && eqBytes (keyOf e) key
+
+-- "Lookup goes over the held entries and over key bytes, and leaves both at the first equal key"
+unfoldable pub findTable : Store → List ℕ → Found
+findTable s name = firstPlace (tableNamed name) (s .tables)
+
+unfoldable pub findEntry : Store → ℕ → List ℕ → Found
+findEntry s table key = firstPlace (entryKeyed table key) (s .entries)
+
+-- "A name not held takes the lowest free of 8 table places"; "Otherwise the entry takes the lowest free place"
+unfoldable pub freeTable : Store → Found
+freeTable s = firstPlace tableFree (s .tables)
+
+unfoldable pub freeEntry : Store → Found
+freeEntry s = firstPlace entryFree (s .entries)
+
+-- ---- putting a table or an entry at a place
+
+-- "Key bytes past the length are zero"
+unfoldable pub makeEntry : ℕ → List ℕ → ℤ → List ℕ → Entry
+makeEntry table key server values = record {
+  held = 1;
+  «server_id» = server;
+  table = table;
+  «key_len» = length key;
+  key = padTo keyMax key;
+  values = values;
+}
+
+-- where a definition has no times, expiry and periods are zero
+unfoldable pub makeTable : List ℕ → Definition → Table
+makeTable name d = record {
+  held = 1;
+  «key_type» = d .«key_type»;
+  timed = d .timed;
+  «data_types» = d .«data_types»;
+  «name_len» = length name;
+  «key_len» = d .«key_len»;
+  expiry = d .expiry;
+  periods = d .periods;
+  name = padTo nameMax name;
+}
+
+unfoldable pub putTable : Store → ℕ → Table → Store
+putTable s place t = record { tables = set (s .tables) place t; entries = s .entries }
+
+unfoldable pub putEntry : Store → ℕ → Entry → Store
+putEntry s place e = record { tables = s .tables; entries = set (s .entries) place e }
+
+-- ---- what a free place and a store without tables and entries hold
+
+unfoldable pub noTable : Table
+noTable = record {
+  held = 0;
+  «key_type» = 0;
+  timed = 0;
+  «data_types» = 0;
+  «name_len» = 0;
+  «key_len» = 0;
+  expiry = 0;
+  periods = replicate 8 0;
+  name = replicate nameMax 0;
+}
+
+unfoldable pub noEntry : Entry
+noEntry = record { held = 0; «server_id» = pos 0; table = 0; «key_len» = 0; key = replicate keyMax 0; values = replicate 34 0 }
+
+unfoldable pub emptyStore : Store
+emptyStore = record { tables = replicate tablePlaces noTable; entries = replicate entryPlaces noEntry }
