@@ -1,0 +1,10 @@
+pub mod Choice
+pub mod Scans
+pub mod Judging
+pub mod LineEnds
+pub mod JudgingHello
+pub mod Statuses
+pub mod Decimals
+pub mod Putting
+pub mod HelloLaws
+pub mod RoundTrip
