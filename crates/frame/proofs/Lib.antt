@@ -1,0 +1,5 @@
+pub mod Judging
+pub mod Lengths
+pub mod Limits
+pub mod Behind
+pub mod Wanting

@@ -1,0 +1,54 @@
+-- "Messages", first part, of document 01: the header's two bytes and the encoded body length.
+use Prim.Native.Nat.{ℕ, _+_, _-_}
+use mathlib.Core.List.{List}
+use mathlib.Core.Bool.{cond, _&&_}
+use lib.Dec.{ltb, leb, eqb}
+use lib.ListN.{length, getD}
+use Rattle.wire.specs.declared.Int.{Int}
+use Rattle.wire.specs.declared.Int.the-variants as int
+use Rattle.wire.specs.Integer.{readInt}
+use Rattle.frame.specs.declared.Header.{Header}
+use Rattle.frame.specs.declared.Header.the-variants as header
+use Rattle.frame.specs.declared.Frame.{Frame}
+use Rattle.frame.specs.declared.Frame.the-variants as frame
+
+-- "The header's two bytes decide among these: class 0 with type 0 request, 1 finished, 2 partial, 3 confirmed, 4 heartbeat; class 1 with
+-- type 0 protocol error, 1 size limit; class 10 with types from 128 up. All else is refusal 20"
+unfoldable pub headerOf : ℕ → ℕ → Header
+headerOf class type =
+    cond (eqb class 0 && leb type 4) (header.Control type)
+    (cond (eqb class 1 && leb type 1) (header.Error type)
+    (cond (eqb class 10 && leb 128 type) (header.StickTable type) header.Unknown))
+
+-- "22 | body over 1,024 bytes"
+abbrev pub bodyMax : ℕ
+bodyMax = 1024
+
+-- "Class 10 continues with the encoded body length, judged at its last byte (21 at the byte that shows an overflow), then the body, judged
+-- when whole."
+unfoldable pub withLength : ℕ → List ℕ → Int → Frame
+withLength kind u int.Short = frame.Waiting
+withLength kind u int.Overflow = frame.Refused 21
+withLength kind u (int.Value n start) =
+    cond (ltb bodyMax n) (frame.Refused 22)
+    (cond (ltb (length u) (start + n)) frame.Waiting (frame.Body kind start (start + n)))
+
+unfoldable pub withHeader : List ℕ → Header → Frame
+withHeader u (header.Control type) = frame.Control type
+withHeader u (header.Error type) = frame.Error type
+withHeader u (header.StickTable type) = withLength type u (readInt u 2)
+withHeader u header.Unknown = frame.Refused 20
+
+-- ".. refusal 20, shown at the second byte."
+unfoldable pub judgeFrame : List ℕ → Frame
+judgeFrame u = cond (ltb (length u) 2) frame.Waiting (withHeader u (headerOf (getD u 0 0) (getD u 1 0)))
+
+-- How many bytes waiting bytes still want: one while the length isn't whole, then what is missing of the body. For bytes that aren't
+-- waiting it has no meaning.
+unfoldable pub missing : List ℕ → Int → ℕ
+missing u int.Short = 1
+missing u int.Overflow = 1
+missing u (int.Value n start) = cond (ltb bodyMax n) 1 (cond (leb (start + n) (length u)) 1 (start + n - length u))
+
+unfoldable pub wantedOf : List ℕ → ℕ
+wantedOf u = missing u (readInt u 2)
