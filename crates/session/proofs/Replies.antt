@@ -1,0 +1,38 @@
+-- The code of replies: one law for each way to a result. Assumes nothing.
+use Prim.Native.Nat.{ℕ}
+use mathlib.Core.Path.{_≡_, refl, sym, ap, _∙_}
+use mathlib.Core.Bool.{Bool, true, false, cond, _||_}
+use mathlib.Core.List.{List, [], _∷_}
+use lib.Dec.{eqb}
+use borrow.Author.Needs.{needs}
+use borrow.Author.Tests.{ne-eqb}
+use Rattle.lists.specs.Lists.{padTo}
+use Rattle.lists.proofs.Cases.{cond-true, cond-false}
+use Rattle.handshake.specs.Handshake.{refusalLine}
+use Rattle.session.specs.Answers.{isSizeLimit, isProtocolError, refusalReply, replyOf}
+
+module _ (n : ℕ) where
+  pub no-limit : (n ≡ 22 → ⊥) → (n ≡ 26 → ⊥) → (n ≡ 29 → ⊥) → false ≡ isSizeLimit n
+  unfolding isSizeLimit
+  no-limit a b c = rw (ne-eqb n 22 a, ne-eqb n 26 b, ne-eqb n 29 c)
+
+  pub no-error : (n ≡ 20 → ⊥) → (n ≡ 21 → ⊥) → (n ≡ 23 → ⊥) → (n ≡ 24 → ⊥) → (n ≡ 25 → ⊥) → (n ≡ 27 → ⊥) → (n ≡ 28 → ⊥)
+      → false ≡ isProtocolError n
+  unfolding isProtocolError
+  no-error a b c d e f g = rw (ne-eqb n 20 a, ne-eqb n 21 b, ne-eqb n 23 c, ne-eqb n 24 d, ne-eqb n 25 e, ne-eqb n 27 f, ne-eqb n 28 g)
+
+  pub no-line : (n ≡ 10 → ⊥) → (n ≡ 11 → ⊥) → (n ≡ 12 → ⊥) → (n ≡ 13 → ⊥) → replyOf [] ≡ replyOf (refusalLine n)
+  unfolding refusalLine
+  no-line a b c d = rw (ne-eqb n 10 a, ne-eqb n 11 b, ne-eqb n 12 c, ne-eqb n 13 d)
+
+  pub limit-reply : true ≡ isSizeLimit n → replyOf (1 ∷ 1 ∷ []) ≡ replyOf (refusalReply n)
+  unfolding refusalReply
+  limit-reply e = ap replyOf (sym (cond-true (isSizeLimit n) _ _ (sym e)))
+
+  pub error-reply : false ≡ isSizeLimit n → true ≡ isProtocolError n → replyOf (1 ∷ 0 ∷ []) ≡ replyOf (refusalReply n)
+  unfolding refusalReply
+  error-reply e f = ap replyOf (sym (cond-false (isSizeLimit n) _ _ (sym e) ∙ cond-true (isProtocolError n) _ _ (sym f)))
+
+  pub line-reply : false ≡ isSizeLimit n → false ≡ isProtocolError n → replyOf (refusalLine n) ≡ replyOf (refusalReply n)
+  unfolding refusalReply
+  line-reply e f = ap replyOf (sym (cond-false (isSizeLimit n) _ _ (sym e) ∙ cond-false (isProtocolError n) _ _ (sym f)))

@@ -1,0 +1,134 @@
+-- The changes of a connection keep its shape. Assumes nothing.
+use Prim.Native.Nat.{ℕ, _+_, _^_, _≤_, _<_}
+use native.Mathlib.Omega.{arith}
+use mathlib.Core.Path.{_≡_, refl, sym, ap, _∙_, subst}
+use mathlib.Core.Logic.{⊎-elim}
+use mathlib.Core.Bool.{Bool, true, false}
+use mathlib.Core.List.{List, []}
+use lib.ListN.{length, getD, List·getD-eq-default}
+use Rattle.lists.specs.Lists.{padTo}
+use Rattle.lists.proofs.Cases.{by-test, lt-or-le, eq-or-ne}
+use Rattle.lists.proofs.Bytes.{pad-length, pad-at}
+use Rattle.store.specs.Shape.{Cells}
+use Rattle.session.specs.declared.Binding.{Binding}
+use Rattle.session.specs.declared.Connection.{Connection}
+use Rattle.session.specs.declared.Session.{Session}
+use Rattle.session.specs.Session.{boundTo, noBinding, bindingAt, holding, closedWith, establish, withTables, currentMark, makeCurrent, unbind, bindTo, bind, commitTo, committed}
+use Rattle.session.specs.Shape.{BindingShape, ConnectionShape, SessionShape}
+use Rattle.session.proofs.Changing.{mark-of, mark-none}
+use Rattle.session.proofs.Bindings.{bind-length, bind-cases, commit-length, commit-cases}
+
+pub mark-limit : (place : ℕ) → currentMark place ≤ 8
+mark-limit place = ⊎-elim (λ l. omega (arith, mark-of place l)) (λ l. omega (arith, mark-none place l)) (lt-or-le place 8)
+
+mark-small : (place : ℕ) → currentMark place < 2 ^ 64
+mark-small place = omega (arith, mark-limit place)
+
+-- ---- a connection
+
+module _ {c : Connection} (h : ConnectionShape c) where
+  pub closed-shape : {n : ℕ} → n < 2 ^ 8 → ConnectionShape (closedWith c n)
+  unfolding closedWith bindingAt
+  closed-shape l =
+      record {
+        phase = h .phase;
+        closed = omega arith;
+        number = l;
+        current = h .current;
+        localLength = h .localLength;
+        remoteLength = h .remoteLength;
+        local = h .local;
+        remote = h .remote;
+        places = h .places;
+        binding = h .binding;
+      }
+
+  pub establish-shape : ConnectionShape (establish c)
+  unfolding establish bindingAt
+  establish-shape =
+      record {
+        phase = omega arith;
+        closed = h .closed;
+        number = h .number;
+        current = h .current;
+        localLength = h .localLength;
+        remoteLength = h .remoteLength;
+        local = h .local;
+        remote = h .remote;
+        places = h .places;
+        binding = h .binding;
+      }
+
+  tables-shape : (mark : ℕ) (bs : List Binding) → mark < 2 ^ 64 → length bs ≡ 8 → ((i : ℕ) → i < 8 → BindingShape (getD bs i noBinding))
+      → ConnectionShape (withTables c mark bs)
+  unfolding withTables bindingAt
+  tables-shape mark bs m l f =
+      record {
+        phase = h .phase;
+        closed = h .closed;
+        number = h .number;
+        current = m;
+        localLength = h .localLength;
+        remoteLength = h .remoteLength;
+        local = h .local;
+        remote = h .remote;
+        places = l;
+        binding = f;
+      }
+
+  pub current-shape : (place : ℕ) → ConnectionShape (makeCurrent c place)
+  unfolding makeCurrent bindingAt
+  current-shape place = tables-shape (currentMark place) (c .bindings) (mark-small place) (h .places) (h .binding)
+
+  bind-to-shape : {b : Binding} {id : ℕ} → BindingShape b → id < 2 ^ 32 → BindingShape (bindTo id b)
+  unfolding bindTo
+  bind-to-shape b l = record { bound = omega arith; updated = b .updated; id = l; previous = b .previous }
+
+  unbind-shape : {b : Binding} → BindingShape b → BindingShape (unbind b)
+  unfolding unbind
+  unbind-shape b = record { bound = omega arith; updated = b .updated; id = omega arith; previous = b .previous }
+
+  commit-to-shape : {b : Binding} {update : ℕ} → BindingShape b → update < 2 ^ 32 → BindingShape (commitTo update b)
+  unfolding commitTo
+  commit-to-shape b l = record { bound = b .bound; updated = omega arith; id = b .id; previous = l }
+
+  bind-each : (place : ℕ) {id : ℕ} → id < 2 ^ 32 → (i : ℕ) → i < 8 → BindingShape (bindingAt (bind c place id) i)
+  bind-each place {id} l i m =
+      bind-cases c place id BindingShape i (λ e. omega (arith, h .places))
+      (λ e. bind-to-shape (h .binding place (omega arith)) l)
+      (λ g. unbind-shape (h .binding i m))
+      (λ g. h .binding i m)
+
+  pub bind-shape : (place : ℕ) {id : ℕ} → id < 2 ^ 32 → ConnectionShape (bind c place id)
+  unfolding bind withTables bindingAt
+  bind-shape place {id} l =
+      tables-shape (currentMark place) (bind c place id .bindings) (mark-small place) (bind-length c place id ∙ h .places) (bind-each place l)
+
+  commit-each : (place : ℕ) {update : ℕ} → update < 2 ^ 32 → (i : ℕ) → i < 8 → BindingShape (bindingAt (committed c place update) i)
+  commit-each place {update} l i m =
+      commit-cases c place update BindingShape i (λ e. omega (arith, h .places))
+      (λ e. commit-to-shape (h .binding place (omega arith)) l)
+      (λ g. h .binding i m)
+
+  pub commit-shape : (place : ℕ) {update : ℕ} → update < 2 ^ 32 → ConnectionShape (committed c place update)
+  unfolding committed withTables bindingAt
+  commit-shape place {update} l =
+      tables-shape (c .current) (committed c place update .bindings) (h .current) (commit-length c place update ∙ h .places) (commit-each place l)
+
+  -- ---- a session with given unfinished bytes
+
+  pub holding-shape : (u : List ℕ) → length u ≤ 1027 → ((i : ℕ) → getD u i 0 < 2 ^ 8) → SessionShape (holding c u)
+  unfolding holding
+  holding-shape u l b =
+      record {
+        connection = h;
+        len = omega arith;
+        buffer = record { size = pad-length 1027 u; small = padded-small };
+      }
+    where
+      padded-small : (i : ℕ) → getD (padTo 1027 u) i 0 < 2 ^ 8
+      padded-small i =
+          ⊎-elim
+          (λ m. subst (λ (n : ℕ). n < 2 ^ 8) (sym (pad-at 1027 u i 0 m)) (b i))
+          (λ m. subst (λ (n : ℕ). n < 2 ^ 8) (sym (List·getD-eq-default (padTo 1027 u) 0 (omega (arith, pad-length 1027 u)))) (omega arith))
+          (lt-or-le i 1027)

@@ -1,0 +1,77 @@
+-- The numbers and values of answers, and the replies to refusals.
+use Prim.Native.Nat.{ℕ}
+use mathlib.Core.List.{List, [], _∷_}
+use mathlib.Core.Bool.{Bool, true, false, cond, _||_}
+use lib.Dec.{eqb}
+use lib.ListN.{length}
+use Rattle.lists.specs.Lists.{padTo}
+use Rattle.handshake.specs.Handshake.{refusalLine}
+use Rattle.session.specs.declared.Values.{Values}
+use Rattle.session.specs.declared.Reply.{Reply}
+use Rattle.session.specs.declared.Commit.{Commit}
+use Rattle.session.specs.declared.Commit.the-variants as commit
+use Rattle.session.specs.declared.Answer.{Answer}
+use Rattle.session.specs.declared.Answer.the-variants as answer
+
+-- "Where an answer is an enum, a definition gives this paper's number and values for each of the enum's cases."
+-- A refusal has its own number; the others go from 100 on.
+unfoldable pub answerNumber : Answer → ℕ
+answerNumber answer.More = 100
+answerNumber (answer.Hello process relative) = 101
+answerNumber answer.Status = 102
+answerNumber answer.Request = 103
+answerNumber answer.Finished = 104
+answerNumber answer.Partial = 105
+answerNumber answer.Confirmed = 106
+answerNumber answer.Heartbeat = 107
+answerNumber (answer.Error type) = 108
+answerNumber (answer.Table place) = 109
+answerNumber (answer.Switch place) = 110
+answerNumber (answer.Update table id entry how) = 111
+answerNumber (answer.Acknowledgement id update) = 112
+answerNumber (answer.Skipped type) = 113
+answerNumber (answer.Refused number) = number
+
+abbrev pub commitNumber : Commit → ℕ
+commitNumber commit.New = 0
+commitNumber commit.Replaced = 1
+
+-- "The numbers on its line, and new or replaced, are an answer's fields."
+unfoldable pub answerValues : Answer → List ℕ
+answerValues answer.More = []
+answerValues (answer.Hello process relative) = process ∷ relative ∷ []
+answerValues answer.Status = []
+answerValues answer.Request = []
+answerValues answer.Finished = []
+answerValues answer.Partial = []
+answerValues answer.Confirmed = []
+answerValues answer.Heartbeat = []
+answerValues (answer.Error type) = type ∷ []
+answerValues (answer.Table place) = place ∷ []
+answerValues (answer.Switch place) = place ∷ []
+answerValues (answer.Update table id entry how) = table ∷ id ∷ entry ∷ commitNumber how ∷ []
+answerValues (answer.Acknowledgement id update) = id ∷ update ∷ []
+answerValues (answer.Skipped type) = type ∷ []
+answerValues (answer.Refused number) = []
+
+-- the same in an array of four places, zeros after them
+unfoldable pub valuesOf : Answer → Values
+valuesOf a = record { numbers = padTo 4 (answerValues a); count = length (answerValues a) }
+
+-- ---- the table of refusals, its replies
+
+-- "22 | body over 1,024 bytes | `01 01`", "26 | new name, 8 tables held | `01 01`", "29 | new key and no free entry | `01 01`"
+unfoldable pub isSizeLimit : ℕ → Bool
+isSizeLimit n = eqb n 22 || (eqb n 26 || eqb n 29)
+
+-- 20, 21, 23, 24, 25, 27, 28: `01 00`
+unfoldable pub isProtocolError : ℕ → Bool
+isProtocolError n = eqb n 20 || (eqb n 21 || (eqb n 23 || (eqb n 24 || (eqb n 25 || (eqb n 27 || eqb n 28)))))
+
+-- 10 to 13: the status line; 1 to 4, 14 and 15: none
+unfoldable pub refusalReply : ℕ → List ℕ
+refusalReply n = cond (isSizeLimit n) (0x01 ∷ 0x01 ∷ []) (cond (isProtocolError n) (0x01 ∷ 0x00 ∷ []) (refusalLine n))
+
+-- bytes of a reply in an array of twelve, zeros after them
+unfoldable pub replyOf : List ℕ → Reply
+replyOf bytes = record { bytes = padTo 12 bytes; len = length bytes }

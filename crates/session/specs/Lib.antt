@@ -1,0 +1,4 @@
+pub mod Answers
+pub mod Session
+pub mod Shape
+pub mod Examples

@@ -1,0 +1,143 @@
+-- The session record: what it says, and how a refusal or an accepted handshake changes it.
+use Prim.Native.Nat.{ℕ, suc, _+_, _-_}
+use mathlib.Core.List.{List, [], _∷_}
+use mathlib.Core.Bool.{Bool, true, false, cond, _&&_}
+use lib.ListN.{length, take, getD, set, replicate}
+use lib.Dec.{eqb, ltb}
+use Rattle.lists.specs.declared.Found.{Found}
+use Rattle.lists.specs.Lists.{padTo, firstPlace}
+use Rattle.store.specs.Limits.{tablePlaces}
+use Rattle.session.specs.declared.Binding.{Binding}
+use Rattle.session.specs.declared.Connection.{Connection}
+use Rattle.session.specs.declared.Session.{Session}
+
+-- ---- what a record says
+
+-- at most 1,027 bytes are unfinished: two of a header, two of a length and 1,023 of a body
+abbrev pub unfinishedMax : ℕ
+unfinishedMax = 1027
+
+unfoldable pub unfinished : Session → List ℕ
+unfinished s = take (s .len) (s .buffer)
+
+unfoldable pub isClosed : Connection → Bool
+isClosed c = eqb (c .closed) 1
+
+unfoldable pub localName : Connection → List ℕ
+localName c = take (c .«local_len») (c .local)
+
+unfoldable pub remoteName : Connection → List ℕ
+remoteName c = take (c .«remote_len») (c .remote)
+
+-- a place without ID and previous ID
+unfoldable pub noBinding : Binding
+noBinding = record { bound = 0; updated = 0; id = 0; previous = 0 }
+
+unfoldable pub bindingAt : Connection → ℕ → Binding
+bindingAt c place = getD (c .bindings) place noBinding
+
+unfoldable pub isBound : Binding → Bool
+isBound b = eqb (b .bound) 1
+
+unfoldable pub isUpdated : Binding → Bool
+isUpdated b = eqb (b .updated) 1
+
+unfoldable pub boundTo : ℕ → Binding → Bool
+boundTo id b = isBound b && eqb (b .id) id
+
+-- "the table bound to it"
+unfoldable pub findBound : Connection → ℕ → Found
+findBound c id = firstPlace (boundTo id) (c .bindings)
+
+-- ---- a record with given unfinished bytes: zeros stand behind them
+
+unfoldable pub holding : Connection → List ℕ → Session
+holding c u = record { connection = c; len = length u; buffer = padTo unfinishedMax u }
+
+-- ---- changes of a record
+
+-- "the record is closed with that number", and all else stays
+unfoldable pub closedWith : Connection → ℕ → Connection
+closedWith c n = record {
+  phase = c .phase;
+  closed = 1;
+  number = n;
+  current = c .current;
+  «local_len» = c .«local_len»;
+  «remote_len» = c .«remote_len»;
+  local = c .local;
+  remote = c .remote;
+  bindings = c .bindings;
+}
+
+abbrev pub awaitingHello : ℕ
+awaitingHello = 0
+
+abbrev pub awaitingStatus : ℕ
+awaitingStatus = 1
+
+abbrev pub established : ℕ
+established = 2
+
+-- an accepted hello or status: the handshake is done, and all else stays
+unfoldable pub establish : Connection → Connection
+establish c = record {
+  phase = established;
+  closed = c .closed;
+  number = c .number;
+  current = c .current;
+  «local_len» = c .«local_len»;
+  «remote_len» = c .«remote_len»;
+  local = c .local;
+  remote = c .remote;
+  bindings = c .bindings;
+}
+
+-- another current table and other bindings, and all else stays
+unfoldable pub withTables : Connection → ℕ → List Binding → Connection
+withTables c current bindings = record {
+  phase = c .phase;
+  closed = c .closed;
+  number = c .number;
+  current = current;
+  «local_len» = c .«local_len»;
+  «remote_len» = c .«remote_len»;
+  local = c .local;
+  remote = c .remote;
+  bindings = bindings;
+}
+
+-- the mark of a current table: its place plus 1; a number past the last place marks none
+unfoldable pub currentMark : ℕ → ℕ
+currentMark place = cond (ltb place tablePlaces) (place + 1) 0
+
+-- "this table becomes current"
+unfoldable pub makeCurrent : Connection → ℕ → Connection
+makeCurrent c place = withTables c (currentMark place) (c .bindings)
+
+-- the place without its ID; its previous ID stays
+unfoldable pub unbind : Binding → Binding
+unbind b = record { bound = 0; updated = b .updated; id = 0; previous = b .previous }
+
+unfoldable pub bindTo : ℕ → Binding → Binding
+bindTo id b = record { bound = 1; updated = b .updated; id = id; previous = b .previous }
+
+-- "The ID is then this table's only one, another table that had it loses it": what stands at place i then
+unfoldable pub rebind : ℕ → ℕ → ℕ → Binding → Binding
+rebind i place id b = cond (eqb i place) (bindTo id b) (cond (boundTo id b) (unbind b) b)
+
+-- at each place, the list's first having place i
+unfoldable pub rebindFrom : ℕ → ℕ → ℕ → List Binding → List Binding
+rebindFrom i place id [] = []
+rebindFrom i place id (b ∷ bs) = rebind i place id b ∷ rebindFrom (i + 1) place id bs
+
+-- ".. and this table becomes current."
+unfoldable pub bind : Connection → ℕ → ℕ → Connection
+bind c place id = withTables c (currentMark place) (rebindFrom 0 place id (c .bindings))
+
+-- "its last committed update ID"
+unfoldable pub commitTo : ℕ → Binding → Binding
+commitTo update b = record { bound = b .bound; updated = 1; id = b .id; previous = update }
+
+unfoldable pub committed : Connection → ℕ → ℕ → Connection
+committed c place update = withTables c (c .current) (set (c .bindings) place (commitTo update (bindingAt c place)))

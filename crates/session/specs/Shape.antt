@@ -1,0 +1,33 @@
+-- The shape of Rattle's values: how many elements each array has, and how large each number can be. Assumes nothing.
+use Prim.Native.Nat.{ℕ, _^_, _<_}
+use mathlib.Core.Path.{_≡_}
+use lib.ListN.{length, getD}
+use Rattle.store.specs.Limits.{tablePlaces}
+use Rattle.store.specs.Shape.{Cells}
+use Rattle.session.specs.declared.Binding.{Binding}
+use Rattle.session.specs.declared.Connection.{Connection}
+use Rattle.session.specs.declared.Session.{Session}
+use Rattle.session.specs.Session.{unfinishedMax, bindingAt}
+
+pub record BindingShape (b : Binding) : Type 0 where
+  pub bound : b .bound < 2 ^ 8
+  pub updated : b .updated < 2 ^ 8
+  pub id : b .id < 2 ^ 32
+  pub previous : b .previous < 2 ^ 32
+
+pub record ConnectionShape (c : Connection) : Type 0 where
+  pub phase : c .phase < 2 ^ 8
+  pub closed : c .closed < 2 ^ 8
+  pub number : c .number < 2 ^ 8
+  pub current : c .current < 2 ^ 64
+  pub localLength : c .«local_len» < 2 ^ 64
+  pub remoteLength : c .«remote_len» < 2 ^ 64
+  pub local : Cells 32 8 (c .local)
+  pub remote : Cells 32 8 (c .remote)
+  pub places : length (c .bindings) ≡ tablePlaces
+  pub binding : (i : ℕ) → i < tablePlaces → BindingShape (bindingAt c i)
+
+pub record SessionShape (s : Session) : Type 0 where
+  pub connection : ConnectionShape (s .connection)
+  pub len : s .len < 2 ^ 64
+  pub buffer : Cells unfinishedMax 8 (s .buffer)
