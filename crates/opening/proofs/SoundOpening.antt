@@ -1,0 +1,141 @@
+-- The record that opening returns is sound with every sound store. Assumes nothing.
+use Prim.Native.Nat.{ℕ, _+_, _≤_, _<_}
+use native.Mathlib.Omega.{arith}
+use mathlib.Core.Path.{_≡_, refl, sym, ap, _∙_, subst}
+use mathlib.Core.Logic.{⊎-elim}
+use mathlib.Core.Bool.{Bool, true, false, cond, _&&_}
+use mathlib.Core.List.{List, []}
+use lib.ListN.{length, getD, replicate, getD-replicate, length-replicate}
+use lib.Dec.{ltb}
+use Rattle.lists.specs.Lists.{padTo, allOf, every}
+use Rattle.lists.proofs.Cases.{by-test, never, and-first, and-second, and-intro, cond-true, cond-false, lt-or-le}
+use Rattle.lists.proofs.Bytes.{pad-take}
+use Rattle.store.specs.declared.Table.{Table}
+use Rattle.store.specs.declared.Store.{Store}
+use Rattle.store.specs.Sound.{soundStore}
+use Rattle.handshake.specs.Handshake.{nameOk}
+use Rattle.session.specs.declared.Binding.{Binding}
+use Rattle.session.specs.declared.Connection.{Connection}
+use Rattle.session.specs.Session.{isClosed, localName, remoteName, isBound, isUpdated, boundTo, noBinding, bindingAt, holding}
+use Rattle.session.proofs.Bindings.{past-last, unbound-past}
+use Rattle.soundness.specs.Sound.{refusesOpening, noMarks, isRefusedOpening, sound, soundSession}
+use Rattle.soundness.proofs.Facts.{SoundConnection}
+use Rattle.soundness.proofs.Records.{sound-both, record-refused, empty-sound}
+use Rattle.opening.specs.Opening.{Role, answerer, caller, firstPhase, newConnection, opened, refusedOpening, refuseOpening, accept, Opening, «open»}
+use Rattle.opening.proofs.Making.{name-most}
+
+-- ---- an opened session
+
+module _ (phase : ℕ) (local remote : List ℕ) where
+  abbrev new : Connection
+  new = newConnection phase 0 0 local remote
+
+  new-binding : (i : ℕ) → bindingAt new i ≡ noBinding
+  unfolding bindingAt newConnection
+  new-binding i =
+      ⊎-elim
+      (λ l. getD-replicate 8 i noBinding noBinding l)
+      (λ l. past-last new i l)
+      (lt-or-le i 8)
+
+  new-open : isClosed new ≡ false
+  unfolding isClosed newConnection
+  new-open = refl
+
+  new-local : length local ≤ 32 → localName new ≡ local
+  unfolding localName newConnection
+  new-local l = pad-take 32 local l
+
+  new-remote : length remote ≤ 32 → remoteName new ≡ remote
+  unfolding remoteName newConnection
+  new-remote l = pad-take 32 remote l
+
+  new-unbound : (i : ℕ) → isBound (bindingAt new i) ≡ true → ⊥
+  unfolding isBound noBinding
+  new-unbound i t = never (sym (ap isBound (new-binding i)) ∙ t) refl
+
+  new-not-updated : (i : ℕ) → isUpdated (bindingAt new i) ≡ true → ⊥
+  unfolding isUpdated noBinding
+  new-not-updated i t = never (sym (ap isUpdated (new-binding i)) ∙ t) refl
+
+  new-bound-mark : (i : ℕ) → bindingAt new i .bound ≤ 1
+  unfolding noBinding
+  new-bound-mark i = subst (λ (b : Binding). b .bound ≤ 1) (sym (new-binding i)) (omega arith)
+
+  new-updated-mark : (i : ℕ) → bindingAt new i .updated ≤ 1
+  unfolding noBinding
+  new-updated-mark i = subst (λ (b : Binding). b .updated ≤ 1) (sym (new-binding i)) (omega arith)
+
+  pub new-facts : (ts : List Table) → phase ≤ 2 → nameOk local ≡ true → nameOk remote ≡ true → SoundConnection ts new
+  unfolding newConnection
+  new-facts ts p a b =
+      record {
+        phase = p;
+        closed = omega arith;
+        closedNumber = λ t. never t new-open;
+        openNumber = λ t. refl;
+        localLength = name-most local a;
+        remoteLength = name-most remote b;
+        local = ap nameOk (new-local (name-most local a)) ∙ a;
+        remote = ap nameOk (new-remote (name-most remote b)) ∙ b;
+        boundMark = new-bound-mark;
+        updatedMark = new-updated-mark;
+        boundHeld = λ i t. absurd (new-unbound i t);
+        updatedHeld = λ i t. absurd (new-not-updated i t);
+        once = λ i j id t u. never (sym (ap (boundTo id) (new-binding i)) ∙ t) (unbound-past id);
+        currentLimit = omega arith;
+        currentHeld = λ q e. absurd (omega arith);
+        currentBound = λ q e. absurd (omega arith);
+      }
+
+first-phase : (role : Role) → firstPhase role ≤ 2
+first-phase answerer = omega arith
+first-phase (caller process relative) = omega arith
+
+pub opened-sound : (ts : List Table) (role : Role) (local remote : List ℕ) → nameOk local ≡ true → nameOk remote ≡ true
+    → soundSession ts (opened role local remote) ≡ true
+unfolding opened
+opened-sound ts role local remote a b = empty-sound (new-facts (firstPhase role) local remote ts (first-phase role) a b)
+
+-- ---- a refused one
+
+refused-is : (n : ℕ) → refusesOpening n ≡ true → isRefusedOpening (refusedOpening n) ≡ true
+unfolding isRefusedOpening refusedOpening holding newConnection allOf every noMarks noBinding
+refused-is n h = and-intro (refusesOpening n) true h refl
+
+pub refused-sound : (ts : List Table) (n : ℕ) → refusesOpening n ≡ true → soundSession ts (refusedOpening n) ≡ true
+refused-sound ts n h = record-refused ts (refusedOpening n) (refused-is n h)
+
+-- ---- both roles, refused or not
+
+refuses-one : refusesOpening 1 ≡ true
+unfolding refusesOpening
+refuses-one = refl
+
+refuses-three : refusesOpening 3 ≡ true
+unfolding refusesOpening
+refuses-three = refl
+
+open-cases : (P : Opening → Type 0) (role : Role) (local remote : List ℕ) (room : ℕ) → P (refuseOpening 1) → P (refuseOpening 3)
+    → (nameOk local ≡ true → nameOk remote ≡ true → P (accept role local remote))
+    → P («open» role local remote room)
+unfolding «open»
+open-cases P role local remote room one three f =
+    by-test (ltb room 101)
+    (λ t. subst P (sym (cond-true (ltb room 101) _ _ t)) one)
+    (λ t.
+    subst P (sym (cond-false (ltb room 101) _ _ t))
+    (by-test (nameOk local && nameOk remote)
+    (λ u.
+    subst P (sym (cond-true (nameOk local && nameOk remote) _ _ u))
+    (f (and-first (nameOk local) (nameOk remote) u) (and-second (nameOk local) (nameOk remote) u)))
+    (λ u. subst P (sym (cond-false (nameOk local && nameOk remote) _ _ u)) three)))
+
+pub open-sound : (role : Role) (local remote : List ℕ) (room : ℕ) (t : Store) → soundStore t ≡ true
+    → sound («open» role local remote room .session) t ≡ true
+open-sound role local remote room t h =
+    sound-both («open» role local remote room .session) t h
+    (open-cases (λ (o : Opening). soundSession (t .tables) (o .session) ≡ true) role local remote room
+    (refused-sound (t .tables) 1 refuses-one)
+    (refused-sound (t .tables) 3 refuses-three)
+    (λ a b. opened-sound (t .tables) role local remote a b))
