@@ -1,0 +1,227 @@
+-- Each way through the readers of a definition, in the form of what it has to show. Assumes nothing.
+use Prim.Native.Nat.{ℕ, _-_, _^_, _<_}
+use native.Mathlib.Omega.{arith}
+use mathlib.Core.Path.{_≡_, refl, sym, _∙_}
+use mathlib.Core.List.{List}
+use mathlib.Core.Bool.{true}
+use lib.ListN.{length, replicate}
+use borrow.Author.Needs.{needs}
+use borrow.Author.Tests.{eq-eqb, ne-eqb}
+use Rattle.lists.proofs.Cases.{lt-or-le, never}
+use Rattle.wire.specs.declared.Field.{Field}
+use Rattle.wire.specs.declared.Field.the-variants as field
+use Rattle.wire.proofs.Order.{split}
+use Rattle.store.specs.Limits.{keyLengthOk, dataTypesOk}
+use Rattle.body.specs.declared.Reading.{Reading}
+use Rattle.body.specs.declared.Reading.the-variants as reading
+use Rattle.body.specs.declared.Word.{Word}
+use Rattle.body.specs.declared.Word.the-variants as word
+use Rattle.body.specs.declared.Part.{Part}
+use Rattle.body.specs.declared.Part.the-variants as part
+use Rattle.body.specs.declared.NamedRead.{NamedRead}
+use Rattle.body.specs.declared.NamedRead.the-variants as named-read
+use Rattle.body.specs.declared.ShapeRead.{ShapeRead}
+use Rattle.body.specs.declared.ShapeRead.the-variants as shape-read
+use Rattle.body.specs.declared.DefinitionBody.{DefinitionBody}
+use Rattle.body.specs.Fields.{Read, got, andThen, integer, between, integerOf, bytes}
+use Rattle.body.specs.Bodies.{Named, named, namedFields, isKeyType, shapeFields, periodFields, Times, noTimes, timesThere, timesFields, restFields, definitionFields}
+use Rattle.body.specs.Results.{fieldRead, wordRead, partRead, namedRead, shapeRead, readAs, definitionStruct, noDefinition, definitionBody}
+use Rattle.body.proofs.FieldLaws.{same-integer, types-between, no-type, field-got}
+use Rattle.body.proofs.Taken.{integer-passed, between-high}
+
+-- ---- `read_named`, where w, f and q are what was read of ID, length and name
+module _ (s : List ℕ) (at : ℕ) (w : Word) (p : wordRead w ≡ integerOf 32 s at) where
+  pub id-short : w ≡ word.Short → namedRead named-read.Short ≡ namedFields s at
+  unfolding namedFields namedRead andThen wordRead
+  id-short e = rw (← p, e)
+
+  pub id-out : w ≡ word.OutOfRange → namedRead named-read.OutOfRange ≡ namedFields s at
+  unfolding namedFields namedRead andThen wordRead
+  id-out e = rw (← p, e)
+
+  module _ (id at₁ : ℕ) (e : w ≡ word.Value id at₁) (f : Field) (p₁ : fieldRead f ≡ integer (between 1 32) s at₁) where
+    pub length-short : f ≡ field.Short → namedRead named-read.Short ≡ namedFields s at
+    unfolding namedFields namedRead andThen wordRead fieldRead
+    length-short e₁ = rw (← p, e, ← p₁, e₁)
+
+    pub length-out : f ≡ field.OutOfRange → namedRead named-read.OutOfRange ≡ namedFields s at
+    unfolding namedFields namedRead andThen wordRead fieldRead
+    length-out e₁ = rw (← p, e, ← p₁, e₁)
+
+    module _ (len at₂ : ℕ) (e₁ : f ≡ field.Value len at₂) (q : Part) (p₂ : partRead q ≡ bytes len s at₂) where
+      pub name-short : q ≡ part.Short → namedRead named-read.Short ≡ namedFields s at
+      unfolding namedFields namedRead andThen wordRead fieldRead partRead
+      name-short e₂ = rw (← p, e, ← p₁, e₁, ← p₂, e₂)
+
+      pub name-out : q ≡ part.OutOfRange → namedRead named-read.OutOfRange ≡ namedFields s at
+      unfolding namedFields namedRead andThen wordRead fieldRead partRead
+      name-out e₂ = rw (← p, e, ← p₁, e₁, ← p₂, e₂)
+
+      pub name-bytes : (start n next : ℕ) → q ≡ part.Bytes start n next → namedRead (named-read.Fields id start n next) ≡ namedFields s at
+      unfolding namedFields namedRead andThen wordRead fieldRead partRead
+      name-bytes start n next e₂ = rw (← p, e, ← p₁, e₁, ← p₂, e₂)
+
+pub ruleset named-laws = (needs, id-short, id-out, length-short, length-out, name-short, name-out, name-bytes)
+
+-- ---- `read_shape`, where f, g and h are what was read of key type, key length and data types
+small-type : (n : ℕ) → isKeyType n ≡ true → n < 256
+small-type n t = split (lt-or-le n 256) (λ l. l) (λ l. never t (sym (no-type n (omega arith))))
+
+module _ (s : List ℕ) (at : ℕ) (f : Field) (p : fieldRead f ≡ integer isKeyType s at) where
+  pub type-short : f ≡ field.Short → shapeRead shape-read.Short ≡ shapeFields s at
+  unfolding shapeFields shapeRead andThen fieldRead
+  type-short e = rw (← p, e)
+
+  pub type-out : f ≡ field.OutOfRange → shapeRead shape-read.OutOfRange ≡ shapeFields s at
+  unfolding shapeFields shapeRead andThen fieldRead
+  type-out e = rw (← p, e)
+
+  pub type-fits : (kind at₁ : ℕ) → f ≡ field.Value kind at₁ → kind < 256
+  type-fits kind at₁ e = small-type kind (integer-passed isKeyType s at kind at₁ (field-got _ f p kind at₁ e))
+
+  module _ (kind at₁ : ℕ) (e : f ≡ field.Value kind at₁) (g : Field) (p₁ : fieldRead g ≡ integer (keyLengthOk kind) s at₁) where
+    pub len-short : g ≡ field.Short → shapeRead shape-read.Short ≡ shapeFields s at
+    unfolding shapeFields shapeRead andThen fieldRead
+    len-short e₁ = rw (← p, e, ← p₁, e₁)
+
+    pub len-out : g ≡ field.OutOfRange → shapeRead shape-read.OutOfRange ≡ shapeFields s at
+    unfolding shapeFields shapeRead andThen fieldRead
+    len-out e₁ = rw (← p, e, ← p₁, e₁)
+
+    module _ (len at₂ : ℕ) (e₁ : g ≡ field.Value len at₂) (h : Field) (p₂ : fieldRead h ≡ integer (between 0 0x7ffff) s at₂) where
+      types-read : fieldRead h ≡ integer dataTypesOk s at₂
+      types-read = p₂ ∙ same-integer (between 0 0x7ffff) dataTypesOk types-between s at₂
+
+      pub types-short : h ≡ field.Short → shapeRead shape-read.Short ≡ shapeFields s at
+      unfolding shapeFields shapeRead andThen fieldRead
+      types-short e₂ = rw (← p, e, ← p₁, e₁, ← types-read, e₂)
+
+      pub types-out : h ≡ field.OutOfRange → shapeRead shape-read.OutOfRange ≡ shapeFields s at
+      unfolding shapeFields shapeRead andThen fieldRead
+      types-out e₂ = rw (← p, e, ← p₁, e₁, ← types-read, e₂)
+
+      pub types-value : (types next : ℕ) → h ≡ field.Value types next → shapeRead (shape-read.Fields kind len types next) ≡ shapeFields s at
+      unfolding shapeFields shapeRead andThen fieldRead
+      types-value types next e₂ = rw (← p, e, ← p₁, e₁, ← types-read, e₂)
+
+pub types-fits : (high : ℕ) (s : List ℕ) (at : ℕ) (h : Field) → fieldRead h ≡ integer (between 0 high) s at → high < 2 ^ 32
+    → (types next : ℕ) → h ≡ field.Value types next → types < 2 ^ 32
+types-fits high s at h p l types next e =
+    omega (arith, between-high 0 high types (integer-passed (between 0 high) s at types next (field-got _ h p types next e)))
+
+pub ruleset shape-laws = (needs, type-short, type-out, type-fits, len-short, len-out, types-short, types-out, types-value, types-fits)
+
+-- ---- `read_times`, where x is what `no_times` says was read and w what was read of the expiry
+module _ (types : ℕ) (s : List ℕ) (at : ℕ) where
+  pub ended : (x : Read Times) → x ≡ readAs (reading.Whole at) noTimes → at ≡ length s → x ≡ timesFields types s at
+  unfolding timesFields readAs
+  ended x p h = p ∙ rw (eq-eqb at (length s) h)
+
+  module _ (h : at ≡ length s → ⊥) (w : Word) (p : wordRead w ≡ integerOf 32 s at) where
+    pub expiry-short : (x : Read Times) → x ≡ readAs reading.Short noTimes → w ≡ word.Short → x ≡ timesFields types s at
+    unfolding timesFields timesThere readAs andThen wordRead
+    expiry-short x q e = q ∙ rw (ne-eqb at (length s) h, ← p, e)
+
+    pub expiry-out : (x : Read Times) → x ≡ readAs reading.OutOfRange noTimes → w ≡ word.OutOfRange → x ≡ timesFields types s at
+    unfolding timesFields timesThere readAs andThen wordRead
+    expiry-out x q e = q ∙ rw (ne-eqb at (length s) h, ← p, e)
+
+    pub expiry-value : (expiry at₁ : ℕ) → w ≡ word.Value expiry at₁ → (how : Reading) (ps : List ℕ) → readAs how ps ≡ periodFields types s at₁
+        → readAs {A = Times} how (record { timed = 1; expiry = expiry; periods = ps }) ≡ timesFields types s at
+    unfolding timesFields timesThere andThen wordRead readAs
+    expiry-value expiry at₁ e how ps q = rw (ne-eqb at (length s) h, ← p, e, ← q) (by-reading how)
+      where
+        by-reading : (how : Reading) → readAs {A = Times} how (record { timed = 1; expiry = expiry; periods = ps })
+            ≡ andThen (readAs how ps) λ periods at₂. got (record { timed = 1; expiry = expiry; periods = periods }) at₂
+        by-reading (reading.Whole n) = refl
+        by-reading reading.Short = refl
+        by-reading reading.OutOfRange = refl
+
+pub ruleset times-laws = (needs, ended, expiry-short, expiry-out, expiry-value)
+
+-- ---- `read_rest`, where q is what was read of the shape and t of the times
+module _ (n : Named) (s : List ℕ) (at : ℕ) (q : ShapeRead) (p : shapeRead q ≡ shapeFields s at) where
+  pub shape-short : (x : DefinitionBody) → x ≡ definitionStruct reading.Short noDefinition
+      → q ≡ shape-read.Short → x ≡ definitionBody (restFields n s at)
+  unfolding restFields definitionBody andThen shapeRead
+  shape-short x h e = h ∙ rw (← p, e)
+
+  pub shape-out : (x : DefinitionBody) → x ≡ definitionStruct reading.OutOfRange noDefinition
+      → q ≡ shape-read.OutOfRange → x ≡ definitionBody (restFields n s at)
+  unfolding restFields definitionBody andThen shapeRead
+  shape-out x h e = h ∙ rw (← p, e)
+
+  module _ (kind len types at₁ : ℕ) (e : q ≡ shape-read.Fields kind len types at₁)
+      (how : Reading) (t : Times) (p₁ : readAs how t ≡ timesFields types s at₁) where
+    pub times-short : (x : DefinitionBody) → x ≡ definitionStruct reading.Short noDefinition
+        → how ≡ reading.Short → x ≡ definitionBody (restFields n s at)
+    unfolding restFields definitionBody andThen shapeRead readAs
+    times-short x h e₁ = h ∙ rw (← p, e, ← p₁, e₁)
+
+    pub times-out : (x : DefinitionBody) → x ≡ definitionStruct reading.OutOfRange noDefinition
+        → how ≡ reading.OutOfRange → x ≡ definitionBody (restFields n s at)
+    unfolding restFields definitionBody andThen shapeRead readAs
+    times-out x h e₁ = h ∙ rw (← p, e, ← p₁, e₁)
+
+pub times-whole : (id start n : ℕ) (s : List ℕ) (at : ℕ) (q : ShapeRead) → shapeRead q ≡ shapeFields s at
+    → (kind len types at₁ : ℕ) → q ≡ shape-read.Fields kind len types at₁
+    → (how : Reading) (timed expiry : ℕ) (ps : List ℕ)
+    → readAs {A = Times} how (record { timed = timed; expiry = expiry; periods = ps }) ≡ timesFields types s at₁
+    → (next : ℕ) → how ≡ reading.Whole next
+    → _≡_ {A = DefinitionBody}
+    (record {
+      reading = reading.Whole next;
+      id = id;
+      «name_at» = start;
+      «name_len» = n;
+      «key_type» = kind;
+      «key_len» = len;
+      «data_types» = types;
+      timed = timed;
+      expiry = expiry;
+      periods = ps;
+    })
+    (definitionBody (restFields (named id start n) s at))
+unfolding restFields definitionBody definitionStruct andThen shapeRead readAs
+times-whole id start n s at q p kind len types at₁ e how timed expiry ps p₁ next e₁ = rw (← p, e, ← p₁, e₁)
+
+pub ruleset rest-laws = (needs, shape-short, shape-out, times-short, times-out, times-whole)
+
+-- ---- `read_definition`, where q is what was read of ID and name
+module _ (s : List ℕ) (q : NamedRead) (p : namedRead q ≡ namedFields s 0) where
+  pub named-short : (x : DefinitionBody) → x ≡ definitionStruct reading.Short noDefinition
+      → q ≡ named-read.Short → x ≡ definitionBody (definitionFields s)
+  unfolding definitionFields definitionBody andThen namedRead
+  named-short x h e = h ∙ rw (← p, e)
+
+  pub named-out : (x : DefinitionBody) → x ≡ definitionStruct reading.OutOfRange noDefinition
+      → q ≡ named-read.OutOfRange → x ≡ definitionBody (definitionFields s)
+  unfolding definitionFields definitionBody andThen namedRead
+  named-out x h e = h ∙ rw (← p, e)
+
+  pub named-fields : (id start len at : ℕ) → q ≡ named-read.Fields id start len at
+      → (x : DefinitionBody) → x ≡ definitionBody (restFields (named id start len) s at) → x ≡ definitionBody (definitionFields s)
+  unfolding definitionFields andThen namedRead
+  named-fields id start len at e x h = h ∙ rw (← p, e)
+
+pub ruleset definition-laws = (needs, named-short, named-out, named-fields)
+
+-- ---- `no_definition`
+pub none : (how : Reading) → _≡_ {A = DefinitionBody}
+    (record {
+      reading = how;
+      id = 0;
+      «name_at» = 0;
+      «name_len» = 0;
+      «key_type» = 0;
+      «key_len» = 0;
+      «data_types» = 0;
+      timed = 0;
+      expiry = 0;
+      periods = replicate 8 0;
+    })
+    (definitionStruct how noDefinition)
+unfolding definitionStruct
+none how = refl
+
+pub ruleset blank-laws = (needs, none)

@@ -1,0 +1,189 @@
+-- The definitions at worked examples: the listing's bodies, a cut inside each field, and each limit from both sides.
+use Prim.Native.Nat.{ℕ, _+_, _-_, _^_}
+use mathlib.Core.Path.{_≡_, refl}
+use mathlib.Core.List.{List, [], _∷_, _++_}
+use lib.ListN.{take, replicate}
+use lib.IntN.{ℤ, pos, negsuc}
+use Rattle.lists.specs.Lists.{among}
+use Rattle.wire.specs.Integer.{readInt, readFirst, withLater, laterBytes, before, weighted, fitting}
+use Rattle.wire.specs.Number.{readNumber, numberOf}
+use Rattle.wire.specs.Server.{readServerId, serverOf, serverBefore, serverIdOf}
+use Rattle.store.specs.declared.Table.{Table}
+use Rattle.store.specs.Limits.{keyKind, keyLengthOk, dataTypesOk, present, isRate, isWide, widthOf, integersOf, slotsFor, slotTypes, rateTypes}
+use Rattle.body.specs.Fields.{got, short, outside, andThen, forEach, tested, integer, between, integerOf, bytes, numberRead, number4, serverRead, serverId}
+use Rattle.body.specs.Bodies.{namedFields, isKeyType, shapeFields, pairField, periodField, Times, noTimes, timesThere, timesFields, Definition, restFields, definitionFields, switchFields, acknowledgementFields, stringField, keyField, serverField, slotField, dataFields, Update, entryFields, updateFields, incrementalFields}
+
+-- ---- definition
+
+-- "The listing": `01 02 74 31 00 04 04 F0 97 1C`
+abbrev listed : List ℕ
+listed = 0x01 ∷ 0x02 ∷ 0x74 ∷ 0x31 ∷ 0x00 ∷ 0x04 ∷ 0x04 ∷ 0xF0 ∷ 0x97 ∷ 0x1C ∷ []
+
+-- ID 1 and name `t1`, and what follows
+abbrev named : List ℕ → List ℕ
+named rest = 0x01 ∷ 0x02 ∷ 0x74 ∷ 0x31 ∷ rest
+
+-- a table with integer keys
+abbrev defines : ℕ → Times → Definition
+defines types times = record {
+  id = 1;
+  name = record { start = 2; len = 2 };
+  keyType = 0;
+  keyLength = 4;
+  dataTypes = types;
+  times = times;
+}
+
+abbrev timed : ℕ → List ℕ → Times
+timed expiry periods = record { timed = 1; expiry = expiry; periods = periods }
+
+record DefinitionExamples : Type 0 where
+  whole : definitionFields listed ≡ got (defines 4 (timed 60000 (replicate 8 0))) 10
+  behind : definitionFields (listed ++ (0xFF ∷ 0xFF ∷ [])) ≡ got (defines 4 (timed 60000 (replicate 8 0))) 10
+  without-expiry : definitionFields (take 7 listed) ≡ got (defines 4 noTimes) 7
+  -- cut before and inside a field
+  cut-id : definitionFields [] ≡ short
+  cut-length : definitionFields (take 1 listed) ≡ short
+  cut-name : definitionFields (take 3 listed) ≡ short
+  cut-key-type : definitionFields (take 4 listed) ≡ short
+  cut-key-length : definitionFields (take 5 listed) ≡ short
+  cut-types : definitionFields (take 6 listed) ≡ short
+  cut-expiry : definitionFields (take 9 listed) ≡ short
+  -- rate types 3 and 5, with periods 10 and 11
+  rates : definitionFields (named (0x00 ∷ 0x04 ∷ 0x28 ∷ 0x07 ∷ 0x03 ∷ 0x0A ∷ 0x05 ∷ 0x0B ∷ []))
+      ≡ got (defines 0x28 (timed 7 (10 ∷ 11 ∷ replicate 6 0))) 12
+  cut-number : definitionFields (named (0x00 ∷ 0x04 ∷ 0x28 ∷ 0x07 ∷ 0x03 ∷ 0x0A ∷ [])) ≡ short
+  cut-period : definitionFields (named (0x00 ∷ 0x04 ∷ 0x28 ∷ 0x07 ∷ 0x03 ∷ [])) ≡ short
+  -- a pair's number out of order, at once
+  other-number : definitionFields (named (0x00 ∷ 0x04 ∷ 0x28 ∷ 0x07 ∷ 0x05 ∷ [])) ≡ outside
+  -- name lengths 0 and 33
+  no-name : definitionFields (0x01 ∷ 0x00 ∷ []) ≡ outside
+  long-name : definitionFields (0x01 ∷ 0x21 ∷ []) ≡ outside
+  -- key type 5, key length 5 of an integer key, 0 and 65 of a string
+  no-key-type : definitionFields (named (0x05 ∷ [])) ≡ outside
+  other-length : definitionFields (named (0x00 ∷ 0x05 ∷ [])) ≡ outside
+  no-length : definitionFields (named (0x03 ∷ 0x00 ∷ [])) ≡ outside
+  long-key : definitionFields (named (0x03 ∷ 0x41 ∷ [])) ≡ outside
+  -- data types 2^19 - 1 and 2^19
+  all-types : definitionFields (named (0x00 ∷ 0x04 ∷ 0xFF ∷ 0xF0 ∷ 0xFE ∷ 0x00 ∷ [])) ≡ got (defines (2 ^ 19 - 1) noTimes) 10
+  more-types : definitionFields (named (0x00 ∷ 0x04 ∷ 0xF0 ∷ 0xF1 ∷ 0xFE ∷ 0x00 ∷ [])) ≡ outside
+
+definition-examples : DefinitionExamples
+unfolding definitionFields restFields namedFields shapeFields isKeyType timesFields timesThere periodField pairField andThen forEach tested integer between integerOf bytes readInt readFirst withLater laterBytes before weighted fitting keyKind keyLengthOk dataTypesOk present rateTypes
+definition-examples = record {
+  whole = refl;
+  behind = refl;
+  without-expiry = refl;
+  cut-id = refl;
+  cut-length = refl;
+  cut-name = refl;
+  cut-key-type = refl;
+  cut-key-length = refl;
+  cut-types = refl;
+  cut-expiry = refl;
+  rates = refl;
+  cut-number = refl;
+  cut-period = refl;
+  other-number = refl;
+  no-name = refl;
+  long-name = refl;
+  no-key-type = refl;
+  other-length = refl;
+  no-length = refl;
+  long-key = refl;
+  all-types = refl;
+  more-types = refl;
+}
+
+-- ---- switch and acknowledgement
+
+record OtherExamples : Type 0 where
+  -- IDs 2^32 - 1 and 2^32
+  switch : switchFields (0xFF ∷ 0xF0 ∷ 0xFE ∷ 0xFE ∷ 0x7E ∷ []) ≡ got (2 ^ 32 - 1) 5
+  switch-over : switchFields (0xF0 ∷ 0xF1 ∷ 0xFE ∷ 0xFE ∷ 0x7E ∷ []) ≡ outside
+  switch-cut : switchFields (0xF0 ∷ 0xF1 ∷ 0xFE ∷ 0xFE ∷ []) ≡ short
+  acknowledgement : acknowledgementFields (0x01 ∷ 0xFF ∷ 0xFF ∷ 0xFF ∷ 0xFF ∷ []) ≡ got (record { id = 1; update = 4294967295 }) 5
+  acknowledgement-cut : acknowledgementFields (0x01 ∷ 0xFF ∷ 0xFF ∷ 0xFF ∷ []) ≡ short
+
+other-examples : OtherExamples
+unfolding switchFields acknowledgementFields andThen tested integer integerOf number4 numberRead readInt readFirst withLater laterBytes before weighted fitting readNumber numberOf
+other-examples = record { switch = refl; switch-over = refl; switch-cut = refl; acknowledgement = refl; acknowledgement-cut = refl }
+
+-- ---- update
+
+-- a table with this key type, key length and data types
+abbrev table : ℕ → ℕ → ℕ → Table
+table keyType keyLength types = record {
+  held = 1;
+  «key_type» = keyType;
+  timed = 0;
+  «data_types» = types;
+  «name_len» = 1;
+  «key_len» = keyLength;
+  expiry = 0;
+  periods = replicate 8 0;
+  name = replicate 32 0x74;
+}
+
+-- "The listing": `FF FF FF FF 00 00 00 2A F4 94 01`
+abbrev update : List ℕ
+update = 0xFF ∷ 0xFF ∷ 0xFF ∷ 0xFF ∷ 0x00 ∷ 0x00 ∷ 0x00 ∷ 0x2A ∷ 0xF4 ∷ 0x94 ∷ 0x01 ∷ []
+
+abbrev updates : ℕ → ℕ → ℕ → ℤ → List ℕ → Update
+updates id start len server values = record { id = id; key = record { start = start; len = len }; server = server; values = values }
+
+-- the key 42, and what follows
+abbrev keyed : List ℕ → List ℕ
+keyed rest = 0x00 ∷ 0x00 ∷ 0x00 ∷ 0x2A ∷ rest
+
+-- 2^64 - 1, and server ID -1
+abbrev largest : List ℕ
+largest = 0xFF ∷ 0xF0 ∷ 0xFE ∷ 0xFE ∷ 0xFE ∷ 0xFE ∷ 0xFE ∷ 0xFE ∷ 0xFE ∷ 0x0E ∷ []
+
+record UpdateExamples : Type 0 where
+  whole : updateFields (table 0 4 4) update ≡ got (updates 4294967295 4 4 (pos 0) (0 ∷ 4660 ∷ replicate 32 0)) 11
+  behind : updateFields (table 0 4 4) (update ++ (0xFF ∷ [])) ≡ got (updates 4294967295 4 4 (pos 0) (0 ∷ 4660 ∷ replicate 32 0)) 11
+  incremental : incrementalFields (table 0 4 4) 0 (keyed (0x05 ∷ [])) ≡ got (updates 0 0 4 (pos 0) (0 ∷ 5 ∷ replicate 32 0)) 5
+  -- cut inside ID, key and value
+  cut-id : updateFields (table 0 4 4) (take 3 update) ≡ short
+  cut-key : updateFields (table 0 4 4) (take 7 update) ≡ short
+  cut-value : updateFields (table 0 4 4) (take 10 update) ≡ short
+  -- rate type 3 is three integers
+  rate : incrementalFields (table 0 4 8) 0 (keyed (0x07 ∷ 0x08 ∷ 0x09 ∷ []))
+      ≡ got (updates 0 0 4 (pos 0) (0 ∷ 0 ∷ 7 ∷ 8 ∷ 9 ∷ replicate 29 0)) 7
+  cut-rate : incrementalFields (table 0 4 8) 0 (keyed (0x07 ∷ 0x08 ∷ [])) ≡ short
+  -- types 13 and 15 take 64 bits, type 1 takes 32
+  bytes-in : incrementalFields (table 0 4 (2 ^ 13)) 0 (keyed largest)
+      ≡ got (updates 0 0 4 (pos 0) (replicate 22 0 ++ ((2 ^ 64 - 1) ∷ replicate 11 0))) 14
+  bytes-out : incrementalFields (table 0 4 (2 ^ 15)) 0 (keyed largest)
+      ≡ got (updates 0 0 4 (pos 0) (replicate 26 0 ++ ((2 ^ 64 - 1) ∷ replicate 7 0))) 14
+  over : incrementalFields (table 0 4 2) 0 (keyed largest) ≡ outside
+  server : incrementalFields (table 0 4 1) 0 (keyed largest) ≡ got (updates 0 0 4 (negsuc 0) (replicate 34 0)) 14
+  cut-server : incrementalFields (table 0 4 1) 0 (keyed []) ≡ short
+  -- a string of 0 to 2 bytes
+  empty : incrementalFields (table 3 2 0) 0 (0x00 ∷ []) ≡ got (updates 0 1 0 (pos 0) (replicate 34 0)) 1
+  string : incrementalFields (table 3 2 0) 0 (0x02 ∷ 0x61 ∷ 0x62 ∷ []) ≡ got (updates 0 1 2 (pos 0) (replicate 34 0)) 3
+  long-string : incrementalFields (table 3 2 0) 0 (0x03 ∷ []) ≡ outside
+  cut-string : incrementalFields (table 3 2 0) 0 (0x02 ∷ 0x61 ∷ []) ≡ short
+
+update-examples : UpdateExamples
+unfolding updateFields incrementalFields entryFields keyField stringField dataFields serverField slotField andThen forEach tested integer between integerOf bytes number4 numberRead serverId serverRead readInt readFirst withLater laterBytes before weighted fitting readNumber numberOf readServerId serverOf serverBefore serverIdOf keyKind present isRate isWide among widthOf integersOf slotsFor slotTypes rateTypes
+update-examples = record {
+  whole = refl;
+  behind = refl;
+  incremental = refl;
+  cut-id = refl;
+  cut-key = refl;
+  cut-value = refl;
+  rate = refl;
+  cut-rate = refl;
+  bytes-in = refl;
+  bytes-out = refl;
+  over = refl;
+  server = refl;
+  cut-server = refl;
+  empty = refl;
+  string = refl;
+  long-string = refl;
+  cut-string = refl;
+}

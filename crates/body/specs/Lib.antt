@@ -1,0 +1,4 @@
+pub mod Fields
+pub mod Bodies
+pub mod Results
+pub mod Examples
