@@ -1,0 +1,141 @@
+-- A definition: a law for each way to a result. Assumes nothing.
+use Prim.Native.Nat.{ℕ, _+_, _-_, _^_, _≤_, _<_}
+use native.Mathlib.Omega.{arith}
+use mathlib.Core.Path.{_≡_, sym, ap, _∙_}
+use mathlib.Core.Bool.{Bool, true, false}
+use mathlib.Core.List.{List, []}
+use lib.ListN.{length, take, drop, getD, List·getD-eq-default}
+use lib.Dec.{eqb}
+use mir.Val.{Fits}
+use mir.Syntax.{w64}
+use borrow.Author.Needs.{needs}
+use borrow.Author.Tests.{eq-eqb, ne-eqb}
+use Rattle.lists.specs.declared.Found.{Found}
+use Rattle.lists.specs.declared.Found.the-variants as found
+use Rattle.lists.proofs.Cases.{cond-true, cond-false, and-true, and-false}
+use Rattle.lists.proofs.Every.{getD-any}
+use Rattle.store.specs.declared.Table.{Table}
+use Rattle.store.specs.declared.Store.{Store}
+use Rattle.store.specs.Store.{findTable, freeTable, makeTable, putTable, noTable}
+use Rattle.store.proofs.Typed.{length-mapped}
+use Rattle.session.specs.declared.Connection.{Connection}
+use Rattle.session.specs.declared.Reply.{Reply}
+use Rattle.session.specs.declared.Answer.the-variants as answer
+use Rattle.session.specs.Answers.{replyOf}
+use Rattle.session.specs.Session.{bind}
+use Rattle.body.specs.declared.Reading.the-variants as reading
+use Rattle.body.specs.declared.DefinitionBody.{DefinitionBody}
+use Rattle.body.specs.Fields.{spanIn}
+use Rattle.body.specs.Bodies.{definitionFields}
+use Rattle.body.specs.Results.{definitionBody}
+use Rattle.body.proofs.Within.{definition-within}
+use Rattle.body.proofs.Given.{definitionIn, definition-whole, definition-short, definition-out}
+use Rattle.message.specs.declared.Settled.{Settled}
+use Rattle.message.specs.Effects.{refuse, fieldsThen, definedTable, defineAt, defineNew, agrees, defineNamed, definition}
+use Rattle.message.specs.Settled.{settledOf}
+use Rattle.message.proofs.Settling.{settled}
+
+-- ---- the table at a place
+-- what a read past the end gives
+abbrev pub blank : Table
+blank = record { held = 0; «key_type» = 0; timed = 0; «data_types» = 0; «name_len» = 0; «key_len» = 0; expiry = 0; periods = []; name = [] }
+
+module _ (ts : List Table) (place : ℕ) (l : length ts ≡ 8) where
+  pub past-tables : (t : Table) → t ≡ noTable → 8 ≤ place → t ≡ getD ts place noTable
+  past-tables t e h = e ∙ sym (List·getD-eq-default ts noTable (omega arith))
+
+  pub table-there : place < 8 → getD ts place blank ≡ getD ts place noTable
+  table-there h = getD-any ts place blank noTable (omega arith)
+
+pub ruleset placing = (needs, length-mapped, past-tables, table-there)
+
+-- ---- whether two tables agree
+module _ (held t : Table) where
+  pub type-differs : (held .«key_type» ≡ t .«key_type» → ⊥) → false ≡ agrees held t
+  unfolding agrees
+  type-differs h = sym (and-false _ _ (ne-eqb (held .«key_type») (t .«key_type») h))
+
+  pub length-differs : held .«key_type» ≡ t .«key_type» → (held .«key_len» ≡ t .«key_len» → ⊥) → false ≡ agrees held t
+  unfolding agrees
+  length-differs e h =
+      sym (and-true _ _ (eq-eqb (held .«key_type») (t .«key_type») e) ∙ and-false _ _ (ne-eqb (held .«key_len») (t .«key_len») h))
+
+  pub types-decide : held .«key_type» ≡ t .«key_type» → held .«key_len» ≡ t .«key_len» → eqb (held .«data_types») (t .«data_types») ≡ agrees held t
+  unfolding agrees
+  types-decide e f =
+      sym (and-true _ _ (eq-eqb (held .«key_type») (t .«key_type») e) ∙ and-true _ _ (eq-eqb (held .«key_len») (t .«key_len») f))
+
+pub ruleset agreeing = (needs, type-differs, length-differs, types-decide)
+
+-- ---- the table put, at a place or at the lowest free one
+module _ (c : Connection) (s : Store) (id : ℕ) (t : Table) where
+  pub defines : (place : ℕ) (r : Reply) (k : Connection) (u : Store) → k ≡ bind c place id → r ≡ replyOf [] → u ≡ putTable s place t
+      → settled (answer.Table place) r k u ≡ settledOf (defineAt c s id t place)
+  unfolding settledOf defineAt
+  defines place r k u p q z = rw (p, q, z)
+
+  module _ (f : Found) (p : f ≡ freeTable s) (x : Settled) where
+    pub free-place : (place : ℕ) → f ≡ found.At place → x ≡ settledOf (defineAt c s id t place) → x ≡ settledOf (defineNew c s id t (freeTable s))
+    unfolding defineNew
+    free-place place e q = q ∙ rw (← p, e)
+
+    pub all-held : f ≡ found.Nothing → x ≡ settledOf (refuse c s 26) → x ≡ settledOf (defineNew c s id t (freeTable s))
+    unfolding defineNew
+    all-held e q = q ∙ rw (← p, e)
+
+  -- ---- where f is the place of the table held under the name, and a says whether it agrees
+  module _ (name : List ℕ) (f : Found) (p : f ≡ findTable s name) (x : Settled) where
+    module _ (place : ℕ) (e : f ≡ found.At place) (u : Table) (h : u ≡ getD (s .tables) place noTable) (a : Bool) (g : a ≡ agrees u t) where
+      pub held-agrees : a ≡ true → x ≡ settledOf (defineAt c s id t place) → x ≡ settledOf (defineNamed c s id t (findTable s name))
+      unfolding defineNamed
+      held-agrees y q = q ∙ sym (rw (← p, e) (ap settledOf (cond-true _ _ _ (sym (ap (λ (v : Table). agrees v t) h) ∙ sym g ∙ y))))
+
+      pub held-disagrees : a ≡ false → x ≡ settledOf (refuse c s 25) → x ≡ settledOf (defineNamed c s id t (findTable s name))
+      unfolding defineNamed
+      held-disagrees y q = q ∙ sym (rw (← p, e) (ap settledOf (cond-false _ _ _ (sym (ap (λ (v : Table). agrees v t) h) ∙ sym g ∙ y))))
+
+    pub not-held : f ≡ found.Nothing → x ≡ settledOf (defineNew c s id t (freeTable s)) → x ≡ settledOf (defineNamed c s id t (findTable s name))
+    unfolding defineNamed
+    not-held e q = q ∙ rw (← p, e)
+
+pub ruleset defining = (needs, defines, free-place, all-held, held-agrees, held-disagrees, not-held)
+
+-- ---- the fields of a definition, where d is what was read
+module _ (body : List ℕ) (d : DefinitionBody) (p : d ≡ definitionBody (definitionFields body)) where
+  pub name-inside : (next : ℕ) → d .reading ≡ reading.Whole next → d .«name_at» + d .«name_len» ≤ length body
+  name-inside next w = definition-within body (definitionIn d) next (definition-whole (definitionFields body) d p next w) .0 .nameEnd
+
+  pub name-fits : (next : ℕ) → d .reading ≡ reading.Whole next → length body < 2 ^ 64 → Fits w64 (d .«name_at» + d .«name_len»)
+  name-fits next w h = record { fits = omega (arith, name-inside next w) }
+
+  module _ (c : Connection) (s : Store) (x : Settled) where
+    pub fields-short : d .reading ≡ reading.Short → x ≡ settledOf (refuse c s 23) → x ≡ settledOf (definition c s body)
+    unfolding definition fieldsThen
+    fields-short w q = q ∙ rw (definition-short (definitionFields body) d p w)
+
+    pub fields-out : d .reading ≡ reading.OutOfRange → x ≡ settledOf (refuse c s 24) → x ≡ settledOf (definition c s body)
+    unfolding definition fieldsThen
+    fields-out w q = q ∙ rw (definition-out (definitionFields body) d p w)
+
+    -- the name's bytes, as the code lends them
+    abbrev name : List ℕ
+    name = take (d .«name_at» + d .«name_len» - d .«name_at») (drop (d .«name_at») body)
+
+    pub fields-whole : (next : ℕ) (t : Table) → d .reading ≡ reading.Whole next
+        → t ≡ makeTable name
+        (record {
+          «key_type» = d .«key_type»;
+          «key_len» = d .«key_len»;
+          «data_types» = d .«data_types»;
+          timed = d .timed;
+          expiry = d .expiry;
+          periods = d .periods;
+        })
+        → x ≡ settledOf (defineNamed c s (d .id) t (findTable s name))
+        → x ≡ settledOf (definition c s body)
+    unfolding definition fieldsThen definedTable spanIn
+    fields-whole next t w e q =
+        let n : d .«name_at» + d .«name_len» - d .«name_at» ≡ d .«name_len» = omega arith in
+        q ∙ rw (definition-whole (definitionFields body) d p next w, e, n)
+
+pub ruleset reading-definition = (needs, name-inside, name-fits, fields-short, fields-out, fields-whole)

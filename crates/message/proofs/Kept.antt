@@ -1,0 +1,324 @@
+-- What a message does keeps record and store sound, and their shape; its reply is short. Assumes nothing.
+use Prim.Native.Nat.{ℕ, zero, suc, _+_, _-_, _^_, _≤_, _<_}
+use native.Mathlib.Omega.{arith}
+use mathlib.Core.Path.{_≡_, refl, sym, ap, subst, _∙_}
+use mathlib.Core.Logic.{_⊎_, inl, inr, ⊎-elim}
+use mathlib.Core.List.{List, [], _∷_, _++_}
+use mathlib.Core.Bool.{Bool, true, false, cond, _&&_, true≢false}
+use lib.ListN.{length, getD}
+use lib.Seq.{getD-set-same}
+use lib.IntN.{ℤ}
+use lib.Dec.{ltb, leb, eqb, lit<}
+use borrow.Author.Tests.{eqb-true, eq-eqb, ne-eqb, leb-true}
+use Rattle.lists.specs.declared.Found.{Found}
+use Rattle.lists.specs.declared.Found.the-variants as found
+use Rattle.lists.proofs.Cases.{by-test, and-first, and-second, and-true, cond-true, cond-false, never, not-passed, eq-or-ne, lt-or-le}
+use Rattle.store.specs.declared.Definition.{Definition as Rules}
+use Rattle.store.specs.declared.Table.{Table}
+use Rattle.store.specs.declared.Entry.{Entry}
+use Rattle.store.specs.declared.Store.{Store}
+use Rattle.store.specs.Limits.{keyKind, isKnown, isString, keyLengthOk, dataTypesOk, slotTypes}
+use Rattle.store.specs.Store.{tableHeld, entryHeld, tableFree, entryFree, nameOf, keyOf, tableNamed, entryKeyed, findTable, findEntry, freeTable, freeEntry, putTable, putEntry, makeTable, makeEntry, noTable, noEntry}
+use Rattle.store.specs.Sound.{entryKeyLengthOk, slotsOk, valuesOk}
+use Rattle.store.specs.Shape.{Cells, TableShape, EntryShape, StoreShape}
+use Rattle.store.proofs.Rules.{key-length-most}
+use Rattle.store.proofs.Facts.{TableFacts, EntryFacts, SoundStore}
+use Rattle.store.proofs.Kept.{table-found, table-missing, entry-missing, table-place, free-not-held, only-table, only-entry, put-table-shape, put-entry-shape, made-entry-shape, made-table-shape}
+use Rattle.store.proofs.Ruled.{EntryRules, Agrees, TableRules, put-entry-facts, put-table-facts, made-key, made-rest, made-name}
+use Rattle.session.specs.declared.Connection.{Connection}
+use Rattle.session.specs.declared.Commit.{Commit}
+use Rattle.session.specs.declared.Commit.the-variants as commit
+use Rattle.session.specs.declared.Answer.{Answer}
+use Rattle.session.specs.declared.Answer.the-variants as answer
+use Rattle.session.specs.Session.{closedWith, makeCurrent, bind, committed, findBound, bindingAt, isBound, boundTo}
+use Rattle.soundness.specs.Sound.{isClosing, refusesOpening}
+use Rattle.session.specs.Shape.{ConnectionShape}
+use Rattle.soundness.proofs.Facts.{SoundConnection, heldAt, bound-to-bound}
+use Rattle.soundness.proofs.Keeping.{put-keeps, close-keeps, establish-keeps, current-keeps, bind-keeps, commit-keeps}
+use Rattle.session.proofs.Bindings.{found-bound}
+use Rattle.session.proofs.Shapes.{closed-shape, current-shape, bind-shape, commit-shape}
+use Rattle.body.specs.Fields.{Read, got, short, outside, Span, spanIn}
+use Rattle.body.specs.Bodies.{Definition, definitionFields, Update}
+use Rattle.body.proofs.Spans.{span-length, span-bytes}
+use Rattle.body.proofs.Within.{definition-within, UpdateWithin}
+use Rattle.wire.specs.Value.{Bytes}
+use Rattle.message.specs.Effects
+
+-- a known key type is below 256
+key-type-small : (n : ℕ) → isKnown (keyKind n) ≡ true → n < 2 ^ 8
+unfolding keyKind
+key-type-small n h =
+    ⊎-elim
+    (λ l. l)
+    (λ l.
+    absurd
+    (true≢false
+    (sym h
+    ∙ rw (ne-eqb n 0 (λ e. let z : ⊥ = omega arith in z), ne-eqb n 1 (λ e. let z : ⊥ = omega arith in z), ne-eqb n 2 (λ e. let z : ⊥ = omega arith in z), ne-eqb n 3 (λ e. let z : ⊥ = omega arith in z), ne-eqb n 4 (λ e. let z : ⊥ = omega arith in z))
+    refl)))
+    (lt-or-le n 256)
+
+-- a key is no longer than its table's
+key-at-most : (t : Table) (n : ℕ) → cond (isString (keyKind (t .«key_type»))) (leb n (t .«key_len»)) (eqb n (t .«key_len»)) ≡ true → n ≤ t .«key_len»
+key-at-most t n h =
+    let y = leb n (t .«key_len») in
+    let z = eqb n (t .«key_len») in
+    by-test (isString (keyKind (t .«key_type»)))
+    (λ k. leb-true n (t .«key_len») (sym (cond-true (isString (keyKind (t .«key_type»))) y z k) ∙ h))
+    (λ k. let q = eqb-true n (t .«key_len») (sym (cond-false (isString (keyKind (t .«key_type»))) y z k) ∙ h) in omega arith)
+
+-- ---- a table and an entry that are made
+
+made-mark : (name : List ℕ) (d : Rules) → makeTable name d .held ≡ 1
+unfolding makeTable
+made-mark name d = refl
+
+made-facts : (name : List ℕ) (d : Rules) → 1 ≤ length name → length name ≤ 32 → isKnown (keyKind (d .«key_type»)) ≡ true
+    → keyLengthOk (d .«key_type») (d .«key_len») ≡ true → d .«data_types» < 2 ^ 19 → d .timed ≤ 1 → TableFacts (makeTable name d)
+unfolding makeTable
+made-facts name d a b k l e t = record { nameLeast = a; nameMost = b; known = k; keyLength = l; dataTypes = e; timed = t }
+
+module _ (table : ℕ) (key : List ℕ) (server : ℤ) (values : List ℕ) where
+  made-entry-mark : makeEntry table key server values .held ≡ 1
+  unfolding makeEntry
+  made-entry-mark = refl
+
+  made-entry-table : makeEntry table key server values .table ≡ table
+  unfolding makeEntry
+  made-entry-table = refl
+
+  made-entry-facts : (tables : List Table) → table < 8 → tableHeld (getD tables table noTable) ≡ true → length key ≤ 64
+      → cond (isString (keyKind (getD tables table noTable .«key_type»))) (leb (length key) (getD tables table noTable .«key_len»)) (eqb (length key) (getD tables table noTable .«key_len»)) ≡ true
+      → slotsOk (getD tables table noTable .«data_types») slotTypes values ≡ true → EntryFacts tables (makeEntry table key server values)
+  made-entry-facts tables a b l k v = record {
+    place = unfold makeEntry in a;
+    tableHeld = unfold makeEntry in b;
+    keyLength = unfold makeEntry entryKeyLengthOk in k;
+    keyRest = made-rest table key server values l;
+    values = unfold makeEntry valuesOk in v;
+  }
+
+closing-0 : isClosing 0 ≡ true
+unfolding isClosing refusesOpening
+closing-0 = refl
+
+closing-25 : isClosing 25 ≡ true
+unfolding isClosing refusesOpening
+closing-25 = refl
+
+closing-26 : isClosing 26 ≡ true
+unfolding isClosing refusesOpening
+closing-26 = refl
+
+closing-27 : isClosing 27 ≡ true
+unfolding isClosing refusesOpening
+closing-27 = refl
+
+closing-29 : isClosing 29 ≡ true
+unfolding isClosing refusesOpening
+closing-29 = refl
+
+-- record and store together, sound and of their types' shape
+pub record Held (c : Connection) (s : Store) : Type 0 where
+  pub store : SoundStore s
+  pub storeShape : StoreShape s
+  pub connection : SoundConnection (s .tables) c
+  pub connectionShape : ConnectionShape c
+
+abbrev pub Kept : Effects.Effect → Type 0
+Kept e = Held (e .connection) (e .store)
+
+module _ (c : Connection) (s : Store) (h : Held c s) where
+  pub close-kept : (n : ℕ) → isClosing n ≡ true → n < 2 ^ 8 → Held (closedWith c n) s
+  close-kept n k l = record {
+    store = h .store;
+    storeShape = h .storeShape;
+    connection = close-keeps (h .connection) n k;
+    connectionShape = closed-shape (h .connectionShape) l;
+  }
+
+  pub refuse-kept : (n : ℕ) → isClosing n ≡ true → n < 2 ^ 8 → Kept (Effects.refuse c s n)
+  unfolding Effects.refuse
+  refuse-kept = close-kept
+
+  pub error-kept : (type : ℕ) → Kept (Effects.peerError c s type)
+  unfolding Effects.peerError
+  error-kept type = close-kept 0 closing-0 (lit< tt)
+
+  pub note-kept : (a : Answer) (reply : List ℕ) → Kept (Effects.note c s a reply)
+  unfolding Effects.note
+  note-kept a reply = h
+
+  -- ---- a switch
+
+  switch-at : (id p : ℕ) → findBound c id ≡ found.At p → Held (makeCurrent c p) s
+  switch-at id p e =
+      let b = found-bound c id p e in
+      record {
+        store = h .store;
+        storeShape = h .storeShape;
+        connection = current-keeps (h .connection) p (omega (arith, b .0, h .connectionShape .places)) (bound-to-bound id (bindingAt c p) (b .1));
+        connectionShape = current-shape (h .connectionShape) p;
+      }
+
+  pub switch-kept : (id : ℕ) (f : Found) → findBound c id ≡ f → Kept (Effects.switchTo c s f)
+  unfolding Effects.switchTo Effects.note
+  switch-kept id (found.At p) e = switch-at id p e
+  switch-kept id found.Nothing e = refuse-kept 27 closing-27 (lit< tt)
+
+  -- ---- a definition
+
+  -- a table by the rules, under an ID
+  module _ (name : List ℕ) (id : ℕ) (t : Table) (idFits : id < 2 ^ 32) (mark : t .held ≡ 1) (facts : TableFacts t) (shape : TableShape t)
+      (t-name : nameOf t ≡ name) where
+    t-held : tableHeld t ≡ true
+    unfolding tableHeld
+    t-held = eq-eqb (t .held) 1 mark
+
+    -- tables that agree
+    agreed : (old : Table) → Effects.agrees old t ≡ true → Agrees old t
+    unfolding Effects.agrees
+    agreed old a =
+        let p = eqb (old .«key_type») (t .«key_type») in
+        let q = eqb (old .«key_len») (t .«key_len») in
+        let r = eqb (old .«data_types») (t .«data_types») in
+        let b = and-second p (q && r) a in
+        record {
+          keyType = eqb-true (old .«key_type») (t .«key_type») (and-first p (q && r) a);
+          keyLength = eqb-true (old .«key_len») (t .«key_len») (and-first q r b);
+          dataTypes = eqb-true (old .«data_types») (t .«data_types») (and-second q r b);
+        }
+
+    define-connection : (place : ℕ) → place < 8 → SoundConnection (putTable s place t .tables) (bind c place id)
+    unfolding putTable
+    define-connection place l =
+        bind-keeps (put-keeps place t t-held (h .connection)) place id l (h .connectionShape .places)
+        (ap tableHeld (getD-set-same (s .tables) place t noTable (omega (arith, h .storeShape .tables))) ∙ t-held)
+
+    -- at a place where no other table has the name, and that is free or agrees
+    define-at : (place : ℕ) → place < 8
+        → ((q : ℕ) → q < length (s .tables) → (q ≡ place → ⊥) → tableNamed name (getD (s .tables) q noTable) ≡ false)
+        → (tableHeld (getD (s .tables) place noTable) ≡ false) ⊎ Agrees (getD (s .tables) place noTable) t
+        → Kept (Effects.defineAt c s id t place)
+    unfolding Effects.defineAt
+    define-at place l other keeps = record {
+      store =
+          put-table-facts s (h .storeShape) (h .store) place t l
+          (record {
+            mark = mark;
+            facts = facts;
+            shape = shape;
+            fresh = λ q m n. ap (λ (k : List ℕ). tableNamed k (getD (s .tables) q noTable)) t-name ∙ other q m n;
+            keeps = keeps;
+          });
+      storeShape = put-table-shape s place t (h .storeShape) shape;
+      connection = define-connection place l;
+      connectionShape = bind-shape (h .connectionShape) place idFits;
+    }
+
+    define-new : (f : Found) → freeTable s ≡ f → findTable s name ≡ found.Nothing → Kept (Effects.defineNew c s id t f)
+    unfolding Effects.defineNew
+    define-new (found.At p) e n =
+        let k = table-place s p e in
+        define-at p (omega (arith, k .inside, h .storeShape .tables)) (λ q m z. table-missing s name n q noTable m)
+        (inl (free-not-held (getD (s .tables) p noTable) (k .passes noTable)))
+    define-new found.Nothing e n = refuse-kept 26 closing-26 (lit< tt)
+
+    pub define-kept : (f : Found) → findTable s name ≡ f → Kept (Effects.defineNamed c s id t f)
+    unfolding Effects.defineNamed
+    define-kept (found.At p) e =
+        let k = table-found s name p e in
+        by-test (Effects.agrees (getD (s .tables) p noTable) t)
+        (λ a. rw a (define-at p (omega (arith, k .inside, h .storeShape .tables)) (only-table s name p (h .store) e) (inr (agreed (getD (s .tables) p noTable) a))))
+        (λ a. rw a (refuse-kept 25 closing-25 (lit< tt)))
+    define-kept found.Nothing e = define-new (freeTable s) refl e
+
+  -- the table that a definition describes
+  pub definition-kept : (body : List ℕ) (d : Definition) (next : ℕ) → Bytes body → definitionFields body ≡ got d next
+      → Kept (Effects.defineNamed c s (d .id) (Effects.definedTable body d) (findTable s (spanIn body (d .name))))
+  unfolding Effects.definedTable
+  definition-kept body d next bytes e =
+      let w = definition-within body d next e .0 in
+      let name = spanIn body (d .name) in
+      let n : length name ≡ d .name .len = span-length body (d .name) (w .nameEnd) in
+      let r : Rules = record {
+        «key_type» = d .keyType;
+        «key_len» = d .keyLength;
+        «data_types» = d .dataTypes;
+        timed = d .times .timed;
+        expiry = d .times .expiry;
+        periods = d .times .periods;
+      } in
+      let l = key-length-most (d .keyType) (d .keyLength) (w .keyLength) in
+      define-kept name (d .id) (makeTable name r) (w .id) (made-mark name r)
+      (made-facts name r (omega (arith, n, w .nameLeast)) (omega (arith, n, w .nameMost)) (w .keyType) (w .keyLength) (w .dataTypes) (w .timed))
+      (made-table-shape name r (omega (arith, n, w .nameMost)) (span-bytes body (d .name) (w .nameEnd) bytes .byte)
+      (record {
+        keyType = key-type-small (d .keyType) (w .keyType);
+        keyLength = omega arith;
+        dataTypes = omega (arith, w .dataTypes);
+        timed = omega (arith, w .timed);
+        expiry = w .expiry;
+        periods = w .periods;
+      }))
+      (made-name name r (omega (arith, n, w .nameMost))) (findTable s name) refl
+
+  -- ---- an update
+
+  -- an entry by the rules, under an update ID
+  module _ (table id : ℕ) (key : List ℕ) (e : Entry) (idFits : id < 2 ^ 32) (now : c .current ≡ table + 1) (mark : e .held ≡ 1)
+      (facts : EntryFacts (s .tables) e) (shape : EntryShape e) (e-table : e .table ≡ table) (e-key : keyOf e ≡ key) where
+    commit-connection : (place : ℕ) → SoundConnection (putEntry s place e .tables) (committed c table id)
+    unfolding putEntry
+    commit-connection place =
+        let l = h .connection .currentLimit in
+        commit-keeps (h .connection) table id (omega (arith, h .connectionShape .places)) (h .connection .currentHeld table now)
+
+    commit-at : (place : ℕ) (how : Commit)
+        → ((q : ℕ) → q < length (s .entries) → (q ≡ place → ⊥) → entryKeyed table key (getD (s .entries) q noEntry) ≡ false)
+        → Kept (Effects.commitAt c s table id e place how)
+    unfolding Effects.commitAt
+    commit-at place how other = record {
+      store =
+          put-entry-facts s (h .storeShape) (h .store) place e
+          (record {
+            mark = mark;
+            facts = facts;
+            shape = shape;
+            fresh = λ q m n.
+                ap (λ (x : List ℕ). entryKeyed (e .table) x (getD (s .entries) q noEntry)) e-key
+                ∙ (ap (λ (x : ℕ). entryKeyed x key (getD (s .entries) q noEntry)) e-table ∙ other q m n);
+          });
+      storeShape = put-entry-shape s place e (h .storeShape) shape;
+      connection = commit-connection place;
+      connectionShape = commit-shape (h .connectionShape) table idFits;
+    }
+
+    commit-new : (f : Found) → findEntry s table key ≡ found.Nothing → Kept (Effects.commitNew c s table id e f)
+    unfolding Effects.commitNew
+    commit-new (found.At p) n = commit-at p commit.New (λ q m z. entry-missing s table key n q noEntry m)
+    commit-new found.Nothing n = refuse-kept 29 closing-29 (lit< tt)
+
+    pub commit-kept : (f : Found) → findEntry s table key ≡ f → Kept (Effects.commitUpdate c s table id e f)
+    unfolding Effects.commitUpdate
+    commit-kept (found.At p) q = commit-at p commit.Replaced (only-entry s table key p (h .store) q)
+    commit-kept found.Nothing q = commit-new (freeEntry s) q
+
+  -- the entry that an update makes
+  pub update-kept : (body : List ℕ) (table : ℕ) (u : Update) → Bytes body → c .current ≡ table + 1 → u .id < 2 ^ 32
+      → UpdateWithin (getD (s .tables) table noTable) body u
+      → Kept (Effects.commitUpdate c s table (u .id) (Effects.updatedEntry body table u) (findEntry s table (spanIn body (u .key))))
+  unfolding Effects.updatedEntry
+  update-kept body table u bytes now idFits w =
+      let t = getD (s .tables) table noTable in
+      let key = spanIn body (u .key) in
+      let n : length key ≡ u .key .len = span-length body (u .key) (w .keyEnd) in
+      let small : table < 8 = (let l = h .connection .currentLimit in omega arith) in
+      let held = h .connection .currentHeld table now in
+      let tf = h .store .table table (omega (arith, small, h .storeShape .tables)) held in
+      let most = key-length-most (t .«key_type») (t .«key_len») (tf .keyLength) in
+      let short : length key ≤ 64 = omega (arith, key-at-most t (u .key .len) (w .keyLength)) in
+      commit-kept table (u .id) key (makeEntry table key (u .server) (u .values)) idFits now (made-entry-mark table key (u .server) (u .values))
+      (made-entry-facts table key (u .server) (u .values) (s .tables) small held short (rw n (w .keyLength)) (w .slots))
+      (made-entry-shape table key (u .server) (u .values) (omega arith) (omega arith) (span-bytes body (u .key) (w .keyEnd) bytes .byte) (w .server) (w .values))
+      (made-entry-table table key (u .server) (u .values)) (made-key table key (u .server) (u .values) short) (findEntry s table key) refl

@@ -1,0 +1,7 @@
+pub mod Settling
+pub mod Controlling
+pub mod Defining
+pub mod Acknowledging
+pub mod Committing
+pub mod Updating
+pub mod Kept

@@ -1,0 +1,129 @@
+-- Updates with and without an ID, and the types of class 10: a law for each way to a result. Assumes nothing.
+use Prim.Native.Nat.{ℕ, _+_, _-_, _%_, _^_, _≤_}
+use native.Mathlib.Omega.{arith}
+use mathlib.Core.Path.{_≡_, refl, sym, ap, _∙_}
+use mathlib.Core.Bool.{cond}
+use mathlib.Core.List.{List}
+use lib.ListN.{length, getD}
+use lib.Dec.{eqb}
+use borrow.Author.Needs.{needs}
+use borrow.Author.Tests.{eq-eqb, ne-eqb}
+use Rattle.lists.proofs.Cases.{cond-true, cond-false}
+use Rattle.store.specs.declared.Table.{Table}
+use Rattle.store.specs.declared.Store.{Store}
+use Rattle.store.specs.Store.{noTable}
+use Rattle.session.specs.declared.Binding.{Binding}
+use Rattle.session.specs.declared.Connection.{Connection}
+use Rattle.session.specs.Session.{noBinding, bindingAt, isUpdated}
+use Rattle.body.specs.declared.UpdateBody.{UpdateBody}
+use Rattle.body.specs.Fields.{Read, got, short, outside}
+use Rattle.body.specs.Bodies.{Update, updateFields, incrementalFields}
+use Rattle.body.specs.Results.{updateBody, updateStruct}
+use Rattle.body.proofs.Within.{update-within, incremental-within}
+use Rattle.body.proofs.Given.{update-given}
+use Rattle.message.specs.declared.Settled.{Settled}
+use Rattle.message.specs.Effects.{Effect, refuse, withFields, followingId, incrementalOf, update, incremental, definition, switch, acknowledgement, skipped, stickTable}
+use Rattle.message.specs.Settled.{settledOf, updateRead}
+
+-- ---- the key that was read lies within the body
+key-inside : (body : List ℕ) (x : Read Update) → ((u : Update) (next : ℕ) → x ≡ got u next → u .key .start + u .key .len ≤ length body)
+    → (r : UpdateBody) → r ≡ updateBody x → r .«key_at» + r .«key_len» ≤ length body
+unfolding updateBody updateStruct
+key-inside body (got u next) f r p = rw p (f u next refl)
+key-inside body short f r p = rw p (omega arith)
+key-inside body outside f r p = rw p (omega arith)
+
+pub update-inside : (t : Table) (body : List ℕ) (r : UpdateBody) → r ≡ updateBody (updateFields t body) → r .«key_at» + r .«key_len» ≤ length body
+update-inside t body = key-inside body (updateFields t body) (λ u next e. update-within t body u next e .0 .keyEnd)
+
+pub incremental-inside : (t : Table) (id : ℕ) (body : List ℕ) (r : UpdateBody) → r ≡ updateBody (incrementalFields t id body)
+    → r .«key_at» + r .«key_len» ≤ length body
+incremental-inside t id body = key-inside body (incrementalFields t id body) (λ u next e. incremental-within t id body u next e .1 .keyEnd)
+
+-- what was read, from the struct that says so
+read-back : (x : Read Update) (r : UpdateBody) → r ≡ updateBody x → updateRead r ≡ x
+unfolding updateRead
+read-back x r p = sym (update-given x r p)
+
+-- ---- update
+module _ (c : Connection) (s : Store) (x : Settled) (rest : Effect) where
+  abbrev by-current : Type 0
+  by-current = x ≡ settledOf (cond (eqb (c .current) 0) (refuse c s 27) rest)
+
+  without : c .current ≡ 0 → x ≡ settledOf (refuse c s 27) → by-current
+  without e q = q ∙ ap settledOf (sym (cond-true _ _ _ (eq-eqb (c .current) 0 e)))
+
+  with : (c .current ≡ 0 → ⊥) → x ≡ settledOf rest → by-current
+  with h q = q ∙ ap settledOf (sym (cond-false _ _ _ (ne-eqb (c .current) 0 h)))
+
+module _ (c : Connection) (s : Store) (body : List ℕ) (x : Settled) where
+  pub no-current : c .current ≡ 0 → x ≡ settledOf (refuse c s 27) → x ≡ settledOf (update c s body)
+  unfolding update
+  no-current = without c s x _
+
+  pub current-there : (c .current ≡ 0 → ⊥) → (t : Table) → t ≡ getD (s .tables) (c .current - 1) noTable
+      → (r : UpdateBody) → r ≡ updateBody (updateFields t body) → x ≡ settledOf (withFields c s body (c .current - 1) (updateRead r))
+      → x ≡ settledOf (update c s body)
+  unfolding update
+  current-there h t e r p q =
+      with c s x _ h (q ∙ rw (read-back (updateFields t body) r p, e))
+
+  -- ---- incremental update
+  pub no-current-either : c .current ≡ 0 → x ≡ settledOf (refuse c s 27) → x ≡ settledOf (incremental c s body)
+  unfolding incremental
+  no-current-either = without c s x _
+
+  pub current-known : (c .current ≡ 0 → ⊥) → x ≡ settledOf (incrementalOf c s (c .current - 1) body) → x ≡ settledOf (incremental c s body)
+  unfolding incremental
+  current-known = with c s x _
+
+  -- where b is what the session knows of the table
+  module _ (table : ℕ) (b : Binding) (g : b ≡ getD (c .bindings) table noBinding) where
+    by-binding : isUpdated (bindingAt c table) ≡ eqb (b .updated) 1
+    unfolding isUpdated bindingAt
+    by-binding = ap (λ (d : Binding). eqb (d .updated) 1) (sym g)
+
+    pub no-previous : (b .updated ≡ 1 → ⊥) → x ≡ settledOf (refuse c s 28) → x ≡ settledOf (incrementalOf c s table body)
+    unfolding incrementalOf
+    no-previous h q = q ∙ ap settledOf (sym (cond-false _ _ _ (by-binding ∙ ne-eqb (b .updated) 1 h)))
+
+    pub follows : b .updated ≡ 1 → (id : ℕ) → id ≡ (b .previous + 1) % 2 ^ 32 → (t : Table) → t ≡ getD (s .tables) table noTable
+        → (r : UpdateBody) → r ≡ updateBody (incrementalFields t id body) → x ≡ settledOf (withFields c s body table (updateRead r))
+        → x ≡ settledOf (incrementalOf c s table body)
+    unfolding incrementalOf bindingAt followingId
+    follows h id i t e r p q =
+        q
+        ∙ rw (read-back (incrementalFields t id body) r p, i, e, g)
+        (ap settledOf (sym (cond-true _ _ _ (by-binding ∙ eq-eqb (b .updated) 1 h))))
+
+pub ruleset updating = (needs, update-inside, incremental-inside, no-current, current-there, no-current-either, current-known, no-previous, follows)
+
+-- ---- the types of class 10
+module _ (c : Connection) (s : Store) (kind : ℕ) (body : List ℕ) (x : Settled) where
+  pub is-update : kind ≡ 128 → x ≡ settledOf (update c s body) → x ≡ settledOf (stickTable c s kind body)
+  unfolding stickTable
+  is-update e q = q ∙ rw e
+
+  pub is-incremental : kind ≡ 129 → x ≡ settledOf (incremental c s body) → x ≡ settledOf (stickTable c s kind body)
+  unfolding stickTable
+  is-incremental e q = q ∙ rw e
+
+  pub is-definition : kind ≡ 130 → x ≡ settledOf (definition c s body) → x ≡ settledOf (stickTable c s kind body)
+  unfolding stickTable
+  is-definition e q = q ∙ rw e
+
+  pub is-switch : kind ≡ 131 → x ≡ settledOf (switch c s body) → x ≡ settledOf (stickTable c s kind body)
+  unfolding stickTable
+  is-switch e q = q ∙ rw e
+
+  pub is-acknowledgement : kind ≡ 133 → x ≡ settledOf (acknowledgement c s body) → x ≡ settledOf (stickTable c s kind body)
+  unfolding stickTable
+  is-acknowledgement e q = q ∙ rw e
+
+  pub is-other : (kind ≡ 128 → ⊥) → (kind ≡ 129 → ⊥) → (kind ≡ 130 → ⊥) → (kind ≡ 131 → ⊥) → (kind ≡ 133 → ⊥)
+      → x ≡ settledOf (skipped c s kind) → x ≡ settledOf (stickTable c s kind body)
+  unfolding stickTable
+  is-other f g h i j q =
+      q ∙ sym (rw (ne-eqb kind 128 f, ne-eqb kind 129 g, ne-eqb kind 130 h, ne-eqb kind 131 i, ne-eqb kind 133 j))
+
+pub ruleset typing = (needs, is-update, is-incremental, is-definition, is-switch, is-acknowledgement, is-other)
