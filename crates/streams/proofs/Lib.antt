@@ -1,0 +1,6 @@
+pub mod Basics
+pub mod OneCall
+pub mod Theorem
+pub mod Offering
+pub mod Timeline
+pub mod Instance

@@ -1,0 +1,130 @@
+-- Reading calls by the byte model, lists of calls, and the offering of a timeline. Assumes nothing.
+use Prim.Native.Nat.{ℕ, suc, _≤_}
+use mathlib.Core.Path.{_≡_}
+use mathlib.Core.Logic.{_⊎_}
+use mathlib.Core.List.{List, [], _∷_, _++_, map, flatten}
+use mathlib.Core.Bool.{Bool, true, false, cond}
+use lib.ListN.{take, drop}
+use lib.Dec.{ltb, eqb}
+use Rattle.lists.specs.Lists.{every}
+use Rattle.streams.specs.Model.{quiet, answered, Receiver, Item, event, bytes, Ended, Ran}
+
+-- "It returns the bytes taken, the reply's length and the answer", and "leaves the new state there"
+pub record Call (S A : Type 0) : Type 0 where
+  pub taken : ℕ
+  pub answer : A
+  pub reply : List ℕ
+  pub state : S
+
+pub data Step (E : Type 0) : Type 0 where
+  reading : (piece : List ℕ) (room : ℕ) → Step E
+  happening : E → Step E
+
+-- A test of a reading call's piece
+abbrev pub onPiece : {E : Type 0} → (List ℕ → Bool) → Step E → Bool
+onPiece p (reading piece room) = p piece
+onPiece p (happening e) = true
+
+-- A reading call with this room
+abbrev pub readsIn : {E : Type 0} → ℕ → Step E → Bool
+readsIn n (reading piece room) = eqb room n
+readsIn n (happening e) = false
+
+-- An answer with its reply
+pub record Response (A : Type 0) : Type 0 where
+  pub answer : A
+  pub reply : List ℕ
+
+-- The answers that end a message or close the session with their replies, the joined replies, and the end state
+pub record Result (S A : Type 0) : Type 0 where
+  pub responses : List (Response A)
+  pub replies : List ℕ
+  pub state : S
+
+module _ {S A : Type 0} where
+  -- "A call's 1, 4 and 2 take nothing and change nothing"
+  abbrev pub stay : S → A → Call S A
+  stay s a = record { taken = 0; answer = a; reply = []; state = s }
+
+  -- The call that took one byte more, before its others
+  abbrev pub onward : Call S A → Call S A
+  onward c = record { taken = suc (c .taken); answer = c .answer; reply = c .reply; state = c .state }
+
+  -- What the byte model came to, with every answer that it gave
+  abbrev pub resultOf : Ran S A → Result S A
+  resultOf r =
+      record {
+        responses = map (λ (e : Ended A). record { answer = e .answer; reply = e .reply }) (r .ended);
+        replies = flatten (map (λ (e : Ended A). e .reply) (r .ended));
+        state = r .state;
+      }
+
+module _ {S A E : Type 0} (R : Receiver S A E) where
+  -- "takes its piece up to and with the first byte at which the model answers, and gives that answer and reply;
+  -- if there is no such byte, it takes the whole piece and answers more wanted, with no reply"
+  unfoldable pub scan : S → List ℕ → Call S A
+  scan s [] = stay s (R .more)
+  scan s (b ∷ bs) =
+      elim (R .feed s b) [
+        | quiet t ↦ onward (scan t bs)
+        | answered a r t ↦ record { taken = 1; answer = a; reply = r; state = t }
+      ]
+
+  -- "A call tests 1, then 4, then 2"
+  unfoldable pub readCall : S → List ℕ → ℕ → Call S A
+  readCall s piece room =
+      cond (ltb room (R .least)) (stay s (R .refused 1))
+      (cond (R .sound s) (cond (R .closed s) (stay s (R .refused 2)) (scan s piece)) (stay s (R .refused 4)))
+
+  -- Of the calls, only those whose answer ends a message or closes the session
+  abbrev pub respond : Call S A → List (Response A) → List (Response A)
+  respond c rest = cond (R .ends (c .answer)) (record { answer = c .answer; reply = c .reply } ∷ rest) rest
+
+  -- "The host keeps one session record per connection and lends it to each call, which leaves the new state there."
+  unfoldable pub runCalls : S → List (Step E) → Result S A
+  runCalls s [] = record { responses = []; replies = []; state = s }
+  runCalls s (reading piece room ∷ steps) =
+      let c = readCall s piece room in
+      let r = runCalls (c .state) steps in
+      record { responses = respond c (r .responses); replies = c .reply ++ r .replies; state = r .state }
+  runCalls s (happening e ∷ steps) = runCalls (R .act e s) steps
+
+  -- The bytes that the calls took, and the events where they happened
+  unfoldable pub takenOf : S → List (Step E) → List (Item E)
+  takenOf s [] = []
+  takenOf s (reading piece room ∷ steps) =
+      let c = readCall s piece room in
+      bytes (take (c .taken) piece) ++ takenOf (c .state) steps
+  takenOf s (happening e ∷ steps) = event e ∷ takenOf (R .act e s) steps
+
+  -- The steps offer the timeline `rest`. "Until the session closes, the host offers untaken bytes again."
+  unfoldable pub Offers : S → List (Item E) → List (Step E) → Type 0
+  Offers s rest [] = (rest ≡ []) ⊎ ((R .closed s ≡ true) × ((last : List ℕ) × (rest ≡ bytes last)))
+  Offers s rest (reading piece room ∷ steps) =
+      let c = readCall s piece room in
+      ((later : List (Item E)) × (bytes piece ++ later ≡ rest)) × (R .least ≤ room) × Offers (c .state) (drop (c .taken) rest) steps
+  Offers s rest (happening e ∷ steps) =
+      (later : List (Item E)) × (event e ∷ later ≡ rest) × Offers (R .act e s) later steps
+
+  abbrev pub ofBytes : Step E → Bool
+  ofBytes = onPiece (every (R .isByte))
+
+-- A stream cut into pieces: the first piece that has bytes left, and the pieces without n bytes of that one
+unfoldable pub current : List (List ℕ) → List ℕ
+current [] = []
+current ([] ∷ cuts) = current cuts
+current ((b ∷ bs) ∷ cuts) = b ∷ bs
+
+unfoldable pub without : ℕ → List (List ℕ) → List (List ℕ)
+without n [] = []
+without n ([] ∷ cuts) = without n cuts
+without n ((b ∷ bs) ∷ cuts) = drop n (b ∷ bs) ∷ cuts
+
+module _ {S A E : Type 0} (R : Receiver S A E) where
+  -- No call's piece crosses a cut: each is a front of what is left between two cuts
+  unfoldable pub WithinCuts : S → List (List ℕ) → List (Step E) → Type 0
+  WithinCuts s cuts [] = Unit {0}
+  WithinCuts s cuts (reading piece room ∷ steps) =
+      let c = readCall R s piece room in
+      ((later : List ℕ) × (piece ++ later ≡ current cuts)) × WithinCuts (c .state) (without (c .taken) cuts) steps
+  WithinCuts s cuts (happening e ∷ steps) = WithinCuts (R .act e s) cuts steps
