@@ -1,0 +1,112 @@
+-- Taking a piece in one go is what the byte model does byte by byte. Assumes nothing.
+use Prim.Native.Nat.{ℕ, zero, suc, _+_, _≤_, _<_}
+use native.Mathlib.Omega.{arith}
+use mathlib.Core.Path.{_≡_, refl, sym, ap, subst, _∙_}
+use mathlib.Core.List.{List, [], _∷_, _++_}
+use mathlib.Core.Bool.{Bool, true, false, cond}
+use lib.ListN.{length, take, drop}
+use lib.Dec.{eqb}
+use Rattle.lists.proofs.Cases.{by-test, cond-true, cond-false}
+use Rattle.store.specs.declared.Store.{Store}
+use Rattle.handshake.specs.declared.Hello.{Hello}
+use Rattle.handshake.specs.declared.Hello.the-variants as hello
+use Rattle.handshake.specs.declared.Status.{Status}
+use Rattle.handshake.specs.declared.Status.the-variants as status
+use Rattle.handshake.specs.Handshake.{judgeHello, judgeStatus}
+use Rattle.frame.specs.declared.Frame.{Frame}
+use Rattle.frame.specs.declared.Frame.the-variants as frame
+use Rattle.frame.specs.Frame.{judgeFrame}
+use Rattle.session.specs.declared.Connection.{Connection}
+use Rattle.session.specs.declared.Answer.{Answer}
+use Rattle.session.specs.declared.Answer.the-variants as answer
+use Rattle.session.specs.Session.{isClosed, localName, remoteName}
+use Rattle.soundness.specs.Sound.{waits, helloWaits, statusWaits, frameWaits}
+use Rattle.message.specs.Effects.{Effect}
+use Rattle.streams.specs.Model.{Fed, quiet, answered}
+use Rattle.streams.specs.Calls.{Call, scan, onward}
+use Rattle.streams.proofs.OneCall.{scan-nil, scan-quiet, scan-answered}
+use Rattle.receiver.specs.Model.{State, Judged, waiting, settled, judge, helloJudged, statusJudged, frameJudged, joined, feed, peers}
+use Rattle.receiver.specs.Absorb.{Absorbed, oneMore, absorb, judgedCall, absorbedCall}
+
+-- bytes that wait come to nothing, and others to something
+pub data JudgedAs : Bool → Judged → Type 0 where
+  waits-on : JudgedAs true waiting
+  settles : (e : Effect) → JudgedAs false (settled e)
+
+hello-as : (c : Connection) (s : Store) (h : Hello) → JudgedAs (helloWaits h) (helloJudged c s h)
+unfolding helloJudged
+hello-as c s hello.Waiting = waits-on
+hello-as c s (hello.Accepted p r) = settles _
+hello-as c s (hello.Refused n) = settles _
+
+status-as : (c : Connection) (s : Store) (h : Status) → JudgedAs (statusWaits h) (statusJudged c s h)
+unfolding statusJudged
+status-as c s status.Waiting = waits-on
+status-as c s status.Accepted = settles _
+status-as c s (status.Refused n) = settles _
+
+frame-as : (c : Connection) (s : Store) (u : List ℕ) (f : Frame) → JudgedAs (frameWaits f) (frameJudged c s u f)
+unfolding frameJudged
+frame-as c s u frame.Waiting = waits-on
+frame-as c s u (frame.Control type) = settles _
+frame-as c s u (frame.Error type) = settles _
+frame-as c s u (frame.Body kind start end) = settles _
+frame-as c s u (frame.Refused n) = settles _
+
+pub judged-as : (c : Connection) (s : Store) (u : List ℕ) → JudgedAs (waits c u) (judge c s u)
+unfolding waits judge
+judged-as c s u =
+    by-test (eqb (c .phase) 0)
+    (λ a. rw a (hello-as c s (judgeHello (localName c) (remoteName c) u)))
+    (λ a. rw a (by-test (eqb (c .phase) 1) (λ b. rw b (status-as c s (judgeStatus u))) (λ b. rw b (frame-as c s u (judgeFrame u)))))
+
+pub judged-waiting : (t : Bool) (j : Judged) → JudgedAs t j → t ≡ true → j ≡ waiting
+judged-waiting t j waits-on h = refl
+judged-waiting t j (settles e) h = absurd (let z : _≡_ {A = ℕ} 0 1 = cc in omega arith)
+
+pub judged-settled : (t : Bool) (j : Judged) → JudgedAs t j → t ≡ false → (e : Effect) × (j ≡ settled e)
+judged-settled t j waits-on h = absurd (let z : _≡_ {A = ℕ} 0 1 = cc in omega arith)
+judged-settled t j (settles e) h = (e, refl)
+
+-- ---- one byte on an open session
+
+abbrev stateAt : Connection → List ℕ → Store → State
+stateAt c u s = record { connection = c; unfinished = u; store = s }
+
+pub feed-open : (c : Connection) (u : List ℕ) (s : Store) (b : ℕ) → isClosed c ≡ false
+    → feed (stateAt c u s) b ≡ joined c s (u ++ (b ∷ [])) (judge c s (u ++ (b ∷ [])))
+unfolding feed
+feed-open c u s b h = cond-false (isClosed c) _ _ h
+
+pub feed-waits : (c : Connection) (u : List ℕ) (s : Store) (b : ℕ) → isClosed c ≡ false → waits c (u ++ (b ∷ [])) ≡ true
+    → feed (stateAt c u s) b ≡ quiet (stateAt c (u ++ (b ∷ [])) s)
+feed-waits c u s b h w =
+    feed-open c u s b h
+    ∙ ap (joined c s (u ++ (b ∷ []))) (judged-waiting (waits c (u ++ (b ∷ []))) (judge c s (u ++ (b ∷ []))) (judged-as c s (u ++ (b ∷ []))) w)
+    ∙ unfold joined in refl
+
+-- ---- a piece
+
+pub scan-absorbs : (c : Connection) (u : List ℕ) (s : Store) (piece : List ℕ) → isClosed c ≡ false
+    → scan peers (stateAt c u s) piece ≡ absorbedCall c s (absorb c u piece)
+unfolding absorb
+scan-absorbs c u s [] h = scan-nil peers (stateAt c u s) ∙ unfold absorbedCall judgedCall in refl
+scan-absorbs c u s (b ∷ bs) h =
+    let v = u ++ (b ∷ []) in
+    by-test (waits c v)
+    (λ w. rw w (scan-quiet peers (stateAt c u s) (stateAt c v s) b bs (feed-waits c u s b h w) ∙ (ap onward (scan-absorbs c v s bs h) ∙ more-call c s (absorb c v bs))))
+    (λ w.
+    let j = judged-settled (waits c v) (judge c s v) (judged-as c s v) w in
+    let e = j .0 in
+    let f : feed (stateAt c u s) b ≡ answered (e .answer) (e .reply) (stateAt (e .connection) [] (e .store)) =
+    feed-open c u s b h ∙ (ap (joined c s v) (j .1) ∙ unfold joined in refl) in
+    rw w
+    (scan-answered peers (stateAt c u s) (stateAt (e .connection) [] (e .store)) b bs (e .answer) (e .reply) f
+    ∙ sym (ap (judgedCall c s v 1) (j .1) ∙ unfold judgedCall in refl) ∙ unfold absorbedCall in refl))
+  where
+    more-judged : (c : Connection) (s : Store) (u : List ℕ) (n : ℕ) (j : Judged) → onward (judgedCall c s u n j) ≡ judgedCall c s u (suc n) j
+    more-judged c s u n waiting = unfold judgedCall in refl
+    more-judged c s u n (settled e) = unfold judgedCall in refl
+
+    more-call : (c : Connection) (s : Store) (a : Absorbed) → onward (absorbedCall c s a) ≡ absorbedCall c s (oneMore a)
+    more-call c s a = unfold absorbedCall in more-judged c s (a .bytes) (a .taken) (cond (a .ended) (judge c s (a .bytes)) waiting)

@@ -1,0 +1,240 @@
+-- A list of real calls is the model's list of calls on the state that the first record and store hold. Assumes nothing.
+use Prim.Native.Nat.{ℕ, zero, suc, _+_, _^_, _≤_, _<_}
+use native.Mathlib.Omega.{arith}
+use mathlib.Core.Path.{_≡_, refl, sym, ap, subst, _∙_}
+use mathlib.Core.Logic.{_⊎_, inl, inr, ⊎-elim}
+use mathlib.Core.List.{List, [], _∷_, _++_, map}
+use mathlib.Core.Bool.{Bool, true, false, cond, true≢false}
+use lib.ListN.{length, getD, take, drop, length-append}
+use lib.Seq.{length-take-le}
+use lib.Dec.{eqb, ltb, lit<}
+use borrow.Author.Tests.{eqb-true, eqb-false, eq-eqb, ne-eqb, ltb-true, ltb-false}
+use Rattle.lists.specs.Lists.{every, front}
+use Rattle.lists.proofs.Cases.{by-test, cond-true, cond-false}
+use Rattle.lists.proofs.Bytes.{front-length}
+use Rattle.store.specs.declared.Store.{Store}
+use Rattle.session.specs.declared.Session.{Session}
+use Rattle.session.specs.declared.Answer.{Answer}
+use Rattle.session.specs.declared.Answer.the-variants as answer
+use Rattle.session.specs.Session.{holding, isClosed, unfinished}
+use Rattle.session.proofs.Holding.{unfinished-held}
+use Rattle.soundness.specs.Sound.{sound}
+use Rattle.streams.specs.Model.{Fed, quiet, answered, Item, byte, bytes, Ran, feedAll}
+use Rattle.streams.specs.Calls.{Call, Step, reading, Response, Result, resultOf, stay, respond, scan, readCall, runCalls, takenOf, Offers, ofBytes}
+use Rattle.streams.specs.Claim.{Lawful, AsModel}
+use Rattle.streams.proofs.Basics.{by-fed, every-nil, every-cons, every-both}
+use Rattle.streams.proofs.OneCall.{as-model, scan-nil, scan-quiet, scan-answered, call-short, call-closed, call-reads}
+use Rattle.streams.proofs.Theorem.{call-inside, call-good}
+use Rattle.receiver.specs.Model.{State, Event, heldBy, soundState, ends, feed, isByte, peers}
+use Rattle.receiver.specs.Good.{Good}
+use Rattle.receiver.specs.Promise.{Made, Shaped, ReadPromise}
+use Rattle.receiver.specs.Demand3.{Chain, replyIn, takenBy, lastSession, lastStore, responsesOf, repliesOf, cameTo, callMade, OffersTo}
+use Rattle.receiver.proofs.Held.{sound-held, state-fits}
+use Rattle.receiver.proofs.OneRead.{modelCall, made-taken, made-answer, made-reply, made-state, made-sound, made-good, made-is, kept, room-kept, taken-session}
+
+-- the calls as steps of the model
+unfoldable pub stepsOf : List Made → List (Step Event)
+stepsOf [] = []
+stepsOf (m ∷ ms) = reading (m .piece) (length (m .room)) ∷ stepsOf ms
+
+-- a first part of bytes
+take-small : (n : ℕ) (xs : List ℕ) (i : ℕ) → getD xs i 0 < 2 ^ 8 → getD (take n xs) i 0 < 2 ^ 8
+take-small zero xs i h = lit< tt
+take-small (suc n) [] i h = h
+take-small (suc n) (x ∷ xs) zero h = h
+take-small (suc n) (x ∷ xs) (suc i) h = take-small n xs i h
+
+pub good-held : (s : Session) (t : Store) → Shaped s t → sound s t ≡ true → Good (heldBy s t)
+unfolding heldBy unfinished
+good-held s t sh f =
+    record {
+      sound = sound-held s t (sh .session .buffer .size) f;
+      connection = sh .session .connection;
+      unfinished = λ i. take-small (s .len) (s .buffer) i (sh .session .buffer .small i);
+      store = sh .store;
+    }
+
+abbrev preceded : Call State Answer → Result State Answer → Result State Answer
+preceded c r = record { responses = respond peers c (r .responses); replies = c .reply ++ r .replies; state = r .state }
+
+came-cons : (s : Session) (t : Store) (m : Made) (ms : List Made) → cameTo s t (m ∷ ms) ≡ preceded (callMade m) (cameTo (m .session) (m .store) ms)
+unfolding cameTo responsesOf repliesOf lastSession lastStore
+came-cons s t m ms = refl
+
+run-cons : (s : State) (p : List ℕ) (n : ℕ) (steps : List (Step Event))
+    → runCalls peers s (reading p n ∷ steps) ≡ preceded (readCall peers s p n) (runCalls peers (readCall peers s p n .state) steps)
+unfolding runCalls
+run-cons s p n steps = refl
+
+pub steps-bytes : (s : Session) (t : Store) (ms : List Made) → Chain s t ms → every (ofBytes peers) (stepsOf ms) ≡ true
+unfolding Chain stepsOf
+steps-bytes s t [] h = every-nil (ofBytes peers)
+steps-bytes s t (m ∷ ms) h =
+    every-both (ofBytes peers) (reading (m .piece) (length (m .room))) (stepsOf ms) (h .0 .bytes) (steps-bytes (m .session) (m .store) ms (h .1))
+
+pub bytes-append : (xs ys : List ℕ) → bytes {E = Event} (xs ++ ys) ≡ bytes xs ++ bytes ys
+bytes-append [] ys = refl
+bytes-append (x ∷ xs) ys = ap (byte x ∷_) (bytes-append xs ys)
+
+pub bytes-drop : (n : ℕ) (xs : List ℕ) → drop n (bytes {E = Event} xs) ≡ bytes (drop n xs)
+bytes-drop zero xs = refl
+bytes-drop (suc n) [] = refl
+bytes-drop (suc n) (x ∷ xs) = bytes-drop n xs
+
+pub closed-held : (s : Session) (t : Store) → isClosed (heldBy s t .connection) ≡ isClosed (s .connection)
+unfolding heldBy
+closed-held s t = refl
+
+taken-cons : (s : State) (p : List ℕ) (n : ℕ) (steps : List (Step Event))
+    → takenOf peers s (reading p n ∷ steps) ≡ bytes (take (readCall peers s p n .taken) p) ++ takenOf peers (readCall peers s p n .state) steps
+unfolding takenOf
+taken-cons s p n steps = refl
+
+module _ (law : Lawful peers Good) where
+  -- what the calls came to is what the model's calls come to
+  pub runs : (s : Session) (t : Store) (ms : List Made) → Chain s t ms → sound s t ≡ true → Good (heldBy s t)
+      → cameTo s t ms ≡ runCalls peers (heldBy s t) (stepsOf ms)
+  unfolding Chain stepsOf
+  runs s t [] h f g = unfold cameTo responsesOf repliesOf lastSession lastStore runCalls in refl
+  runs s t (m ∷ ms) h f g =
+      let f′ = made-sound s t m (h .0) f law g in
+      let g′ = made-good s t m (h .0) f law g in
+      came-cons s t m ms
+      ∙ (ap (λ (c : Call State Answer). preceded c (cameTo (m .session) (m .store) ms)) (made-is s t m (h .0) f law g)
+      ∙ (ap (preceded (modelCall s t m)) (runs (m .session) (m .store) ms (h .1) f′ g′ ∙ ap (λ (k : State). runCalls peers k (stepsOf ms)) (made-state s t m (h .0) f law g))
+      ∙ sym (run-cons (heldBy s t) (m .piece) (length (m .room)) (stepsOf ms))))
+
+  -- the bytes that they took are those that the model's calls take
+  pub takes : (s : Session) (t : Store) (ms : List Made) → Chain s t ms → sound s t ≡ true → Good (heldBy s t)
+      → takenOf peers (heldBy s t) (stepsOf ms) ≡ bytes (takenBy ms)
+  unfolding Chain stepsOf
+  takes s t [] h f g = unfold takenOf takenBy in refl
+  takes s t (m ∷ ms) h f g =
+      let f′ = made-sound s t m (h .0) f law g in
+      let g′ = made-good s t m (h .0) f law g in
+      taken-cons (heldBy s t) (m .piece) (length (m .room)) (stepsOf ms)
+      ∙ (ap (λ (k : State). bytes (take (modelCall s t m .taken) (m .piece)) ++ takenOf peers k (stepsOf ms)) (sym (made-state s t m (h .0) f law g))
+      ∙ (ap (λ (l : List (Item Event)). bytes (take (modelCall s t m .taken) (m .piece)) ++ l) (takes (m .session) (m .store) ms (h .1) f′ g′)
+      ∙ (sym (bytes-append (take (modelCall s t m .taken) (m .piece)) (takenBy ms))
+      ∙ ap (λ (n : ℕ). bytes (take n (m .piece) ++ takenBy ms)) (sym (made-taken s t m (h .0) f))
+      ∙ unfold takenBy in refl)))
+
+  -- calls that offer a stream are the model's calls that offer it
+  pub offers : (s : Session) (t : Store) (ms : List Made) (stream : List ℕ) → Chain s t ms → sound s t ≡ true → Good (heldBy s t)
+      → OffersTo s stream ms → Offers peers (heldBy s t) (bytes stream) (stepsOf ms)
+  unfolding Chain stepsOf OffersTo Offers
+  offers s t [] stream h f g o = ⊎-elim (λ e. inl (ap (λ (l : List ℕ). bytes l) e)) (λ c. inr (closed-held s t ∙ c, (stream, refl))) o
+  offers s t (m ∷ ms) stream h f g o =
+      let f′ = made-sound s t m (h .0) f law g in
+      let g′ = made-good s t m (h .0) f law g in
+      let e = made-state s t m (h .0) f law g in
+      let r = offers (m .session) (m .store) ms (drop (m .outcome .taken) stream) (h .1) f′ g′ (o .2) in (
+        (bytes (o .0 .0), sym (bytes-append (m .piece) (o .0 .0)) ∙ ap (λ (l : List ℕ). bytes l) (o .0 .1)),
+        o .1,
+        subst (λ (k : State). Offers peers k (drop (modelCall s t m .taken) (bytes stream)) (stepsOf ms)) e
+            (subst (λ (l : List (Item Event)). Offers peers (heldBy (m .session) (m .store)) l (stepsOf ms))
+            (sym (bytes-drop (m .outcome .taken) stream) ∙ ap (λ (n : ℕ). drop n (bytes stream)) (made-taken s t m (h .0) f)) r),
+      )
+
+  -- record and store stay sound
+  pub ends-sound : (s : Session) (t : Store) (ms : List Made) → Chain s t ms → sound s t ≡ true → Good (heldBy s t)
+      → sound (lastSession s ms) (lastStore t ms) ≡ true
+  unfolding Chain lastSession lastStore
+  ends-sound s t [] h f g = f
+  ends-sound s t (m ∷ ms) h f g =
+      ends-sound (m .session) (m .store) ms (h .1) (made-sound s t m (h .0) f law g) (made-good s t m (h .0) f law g)
+
+  -- ---- each call
+
+  -- what every reading call from a good state has: of the model's own answers, and of the answers that no byte gives
+  module _ (P : Answer → List ℕ → Type 0)
+      (byte-has : (k : State) (b : ℕ) (a : Answer) (r : List ℕ) (k′ : State) → Good k → isByte b ≡ true → feed k b ≡ answered a r k′ → P a r)
+      (more-has : P answer.More [])
+      (one-has : P (answer.Refused 1) [])
+      (two-has : P (answer.Refused 2) []) where
+    scan-has : (s : State) (p : List ℕ) → Good s → every isByte p ≡ true → P (scan peers s p .answer) (scan peers s p .reply)
+    scan-has s [] g q = rw (scan-nil peers s) more-has
+    scan-has s (b ∷ bs) g q =
+        let d = every-cons isByte b bs q in
+        let n = law .good-feed s b g (d .0) in
+        by-fed (feed s b)
+        (λ k h. rw (scan-quiet peers s k b bs h) (scan-has k bs (rw h at n) (d .1)))
+        (λ a r k h. rw (scan-answered peers s k b bs a r h) (byte-has s b a r k g (d .0) h))
+
+    pub call-has : (s : State) (p : List ℕ) (n : ℕ) → Good s → every isByte p ≡ true → P (readCall peers s p n .answer) (readCall peers s p n .reply)
+    call-has s p n g q =
+        by-test (ltb n 12)
+        (λ a. rw (call-short peers s p n (ltb-true n 12 a)) one-has)
+        (λ a.
+        let l = ltb-false n 12 a in
+        by-test (isClosed (s .connection))
+        (λ c. rw (call-closed peers s p n l (g .sound) c) two-has)
+        (λ c. rw (call-reads peers s p n l (g .sound) c) (scan-has s p g q)))
+
+  -- 4 is none of them
+  Not4 : Answer → List ℕ → Type 0
+  Not4 a r = a ≡ answer.Refused 4 → ⊥
+
+  pub not-4 : (s : State) (p : List ℕ) (n : ℕ) → Good s → every isByte p ≡ true → readCall peers s p n .answer ≡ answer.Refused 4 → ⊥
+  unfolding Not4
+  not-4 s p n g q =
+      call-has Not4
+      (λ k b a r k′ g′ q′ h e. true≢false (sym (law .answers-end k b a r k′ h) ∙ (ap ends e ∙ unfold ends in refl)))
+      (λ e. let z : _≡_ {A = ℕ} 0 1 = cc in omega arith)
+      (λ e. let z : _≡_ {A = ℕ} 0 1 = cc in omega arith)
+      (λ e. let z : _≡_ {A = ℕ} 0 1 = cc in omega arith)
+      s p n g q
+
+  -- ---- the record at the end
+
+  -- how many bytes a list of calls took
+  taken-length : (s : Session) (t : Store) (m : Made) (ms : List Made) → ReadPromise s t m → sound s t ≡ true
+      → length (takenBy (m ∷ ms)) ≡ m .outcome .taken + length (takenBy ms)
+  unfolding takenBy
+  taken-length s t m ms p f =
+      let i : m .outcome .taken ≤ length (m .piece) = rw (made-taken s t m p f) (call-inside peers law (heldBy s t) (m .piece) (length (m .room))) in
+      length-append (take (m .outcome .taken) (m .piece)) (takenBy ms)
+      ∙ ap (λ (n : ℕ). n + length (takenBy ms)) (length-take-le (m .outcome .taken) (m .piece) i)
+
+  none-taken : (s : Session) (t : Store) (ms : List Made) → Chain s t ms → sound s t ≡ true → Good (heldBy s t)
+      → length (takenBy ms) ≡ 0 → lastSession s ms ≡ s
+  unfolding Chain lastSession
+  none-taken s t [] h f g e = refl
+  none-taken s t (m ∷ ms) h f g e =
+      let n = sym (taken-length s t m ms (h .0) f) ∙ e in
+      none-taken (m .session) (m .store) ms (h .1) (made-sound s t m (h .0) f law g) (made-good s t m (h .0) f law g) (omega arith)
+      ∙ kept s t m (h .0) f (omega arith) .0
+
+  -- a record that holds its state with zeros behind the unfinished bytes
+  abbrev Held : Session → Type 0
+  Held s = s ≡ holding (s .connection) (unfinished s)
+
+  holding-held : (s : Session) (k : State) → soundState k ≡ true → s ≡ holding (k .connection) (k .unfinished) → Held s
+  holding-held s k f e =
+      let u = ap unfinished e ∙ unfinished-held (k .connection) (k .unfinished) (state-fits k f) in
+      let c : s .connection ≡ k .connection = ap (λ (x : Session). x .connection) e ∙ unfold holding in refl in
+      e ∙ rw (u, c) refl
+
+  some-taken : (s : Session) (t : Store) (ms : List Made) → Chain s t ms → sound s t ≡ true → Good (heldBy s t)
+      → (length (takenBy ms) ≡ 0 → ⊥) → Held (lastSession s ms)
+  unfolding Chain lastSession
+  some-taken s t [] h f g e = absurd (e (unfold takenBy in refl))
+  some-taken s t (m ∷ ms) h f g e =
+      let f′ = made-sound s t m (h .0) f law g in
+      let g′ = made-good s t m (h .0) f law g in
+      by-test (eqb (length (takenBy ms)) 0)
+      (λ z.
+      let y = eqb-true (length (takenBy ms)) 0 z in
+      let n = taken-length s t m ms (h .0) f in
+      let k : eqb (modelCall s t m .taken) 0 ≡ false = ne-eqb (modelCall s t m .taken) 0 (λ w. e (let v = made-taken s t m (h .0) f in omega arith)) in
+      let q = call-good peers law (heldBy s t) (m .piece) (length (m .room)) g (h .0 .bytes) in
+      rw (none-taken (m .session) (m .store) ms (h .1) f′ g′ y)
+      (holding-held (m .session) (modelCall s t m .state) (q .sound) (taken-session s t m (h .0) f k)))
+      (λ z. some-taken (m .session) (m .store) ms (h .1) f′ g′ (eqb-false (length (takenBy ms)) 0 z))
+
+  pub ends-at : (s : Session) (t : Store) (ms : List Made) → Chain s t ms → sound s t ≡ true → Good (heldBy s t)
+      → lastSession s ms ≡ cond (eqb (length (takenBy ms)) 0) s (holding (lastSession s ms .connection) (unfinished (lastSession s ms)))
+  ends-at s t ms h f g =
+      by-test (eqb (length (takenBy ms)) 0)
+      (λ z. none-taken s t ms h f g (eqb-true (length (takenBy ms)) 0 z) ∙ sym (cond-true (eqb (length (takenBy ms)) 0) _ _ z))
+      (λ z. some-taken s t ms h f g (eqb-false (length (takenBy ms)) 0 z) ∙ sym (cond-false (eqb (length (takenBy ms)) 0) _ _ z))

@@ -1,0 +1,182 @@
+-- Demand 3 for a lawful receiver whose replies are short and whose acknowledgements follow the ledger. Assumes nothing.
+use Prim.Native.Nat.{ℕ, zero, suc, _+_, _≤_, _<_}
+use native.Mathlib.Omega.{arith}
+use mathlib.Core.Path.{_≡_, refl, sym, ap, subst, _∙_}
+use mathlib.Core.Logic.{_⊎_, inl, inr, ⊎-elim}
+use mathlib.Core.List.{List, [], _∷_, _++_, flatten}
+use mathlib.Core.Bool.{Bool, true, false, cond, not, true≢false, _||_}
+use lib.ListN.{length, take, drop}
+use lib.Dec.{eqb, ltb}
+use borrow.Author.Tests.{eqb-true, le-ltb}
+use Rattle.lists.specs.Lists.{every, front, padTo}
+use Rattle.lists.proofs.Cases.{by-test}
+use Rattle.lists.proofs.Bytes.{front-length, pad-length}
+use Rattle.store.specs.declared.Store.{Store}
+use Rattle.session.specs.declared.Session.{Session}
+use Rattle.session.specs.declared.Answer.{Answer}
+use Rattle.session.specs.declared.Answer.the-variants as answer
+use Rattle.session.specs.Session.{holding, isClosed, unfinished}
+use Rattle.soundness.specs.Sound.{sound}
+use Rattle.streams.specs.Model.{Fed, quiet, answered, Item, bytes, bytesIn, Ended, Ran, feedAll}
+use Rattle.streams.specs.Calls.{Call, Step, reading, Result, resultOf, readCall, runCalls, takenOf, Offers, ofBytes, current, without, WithinCuts}
+use Rattle.streams.specs.Claim.{Lawful, AsModel, Division}
+use Rattle.streams.specs.Fold.{AllAlong, Folds}
+use Rattle.streams.proofs.OneCall.{as-model}
+use Rattle.streams.proofs.Theorem.{every-division, feedAll-closed}
+use Rattle.streams.proofs.Timeline.{folded, taken-bytes, bytesIn-bytes}
+use Rattle.receiver.specs.Model.{State, Event, heldBy, soundState, ends, feed, isByte, peers, replyRoom}
+use Rattle.receiver.specs.Good.{Good}
+use Rattle.receiver.specs.Promise.{Made, Shaped, ReadPromise, callOf, outcomeOf, sessionOf}
+use Rattle.receiver.specs.Ledger.{Ledger, startLedger, post, Acknowledged}
+use Rattle.receiver.specs.Demand3.{Chain, replyIn, takenBy, lastSession, lastStore, responsesOf, repliesOf, cameTo, modelRan, callMade, CallAsModel, EachCall, OffersTo, WithinCutsOf, RoomsAre, Offering, NeverUnsound, Demand3}
+use Rattle.receiver.proofs.Held.{sound-held}
+use Rattle.receiver.proofs.OneRead.{modelCall, made-taken, made-answer, made-reply, made-state, made-sound, made-good, made-is, kept, room-kept, final-length}
+use Rattle.receiver.proofs.Offered.{every-cutting}
+use Rattle.receiver.proofs.Chained.{stepsOf, good-held, steps-bytes, runs, takes, offers, call-has, not-4, ends-sound, ends-at, closed-held}
+
+-- ---- the answers left out are exactly more wanted, 1, 2 and 4
+
+-- a number that passes no test of three
+three : (n : ℕ) → not (eqb n 1 || (eqb n 2 || eqb n 4)) ≡ false → (n ≡ 1) ⊎ ((n ≡ 2) ⊎ (n ≡ 4))
+three n h =
+    by-test (eqb n 1)
+    (λ a. inl (eqb-true n 1 a))
+    (λ a.
+    by-test (eqb n 2)
+    (λ b. inr (inl (eqb-true n 2 b)))
+    (λ b.
+    by-test (eqb n 4)
+    (λ c. inr (inr (eqb-true n 4 c)))
+    (λ c. absurd (true≢false (rw (a, b, c) at h)))))
+
+pub left-out : (a : Answer) → ends a ≡ false → (a ≡ answer.More) ⊎ ((a ≡ answer.Refused 1) ⊎ ((a ≡ answer.Refused 2) ⊎ (a ≡ answer.Refused 4)))
+unfolding ends
+left-out answer.More h = inl refl
+left-out (answer.Hello p r) h = absurd (true≢false h)
+left-out answer.Status h = absurd (true≢false h)
+left-out answer.Request h = absurd (true≢false h)
+left-out answer.Finished h = absurd (true≢false h)
+left-out answer.Partial h = absurd (true≢false h)
+left-out answer.Confirmed h = absurd (true≢false h)
+left-out answer.Heartbeat h = absurd (true≢false h)
+left-out (answer.Error type) h = absurd (true≢false h)
+left-out (answer.Table place) h = absurd (true≢false h)
+left-out (answer.Switch place) h = absurd (true≢false h)
+left-out (answer.Update table id entry how) h = absurd (true≢false h)
+left-out (answer.Acknowledgement id update) h = absurd (true≢false h)
+left-out (answer.Skipped kind) h = absurd (true≢false h)
+left-out (answer.Refused n) h =
+    ⊎-elim (λ e. inr (inl (ap answer.Refused e))) (λ r. ⊎-elim (λ e. inr (inr (inl (ap answer.Refused e)))) (λ e. inr (inr (inr (ap answer.Refused e)))) r) (three n h)
+
+module _ (law : Lawful peers Good)
+    (short : (k : State) (b : ℕ) (a : Answer) (r : List ℕ) (k′ : State) → Good k → isByte b ≡ true → feed k b ≡ answered a r k′ → length r ≤ 12)
+    {I : State → List ℕ → Ledger → Type 0}
+    (folds : Folds post peers Good Acknowledged I)
+    (starts : (s : Session) (t : Store) → I (heldBy s t) (unfinished s) (startLedger (s .connection))) where
+  -- ---- 1
+
+  Short : Answer → List ℕ → Type 0
+  Short a r = length r ≤ 12
+
+  none-short : (a : Answer) → Short a []
+  unfolding Short
+  none-short a = omega arith
+
+  reply-short : (s : State) (p : List ℕ) (n : ℕ) → Good s → every isByte p ≡ true → length (readCall peers s p n .reply) ≤ 12
+  unfolding Short
+  reply-short = call-has law Short short (none-short answer.More) (none-short (answer.Refused 1)) (none-short (answer.Refused 2))
+
+  as-model-call : (s : Session) (t : Store) (m : Made) → ReadPromise s t m → sound s t ≡ true → Good (heldBy s t) → CallAsModel s t m
+  as-model-call s t m p f g = record {
+    model =
+        subst (AsModel peers (heldBy s t) (m .piece) (length (m .room))) (sym (made-is s t m p f law g))
+        (as-model peers (heldBy s t) (m .piece) (length (m .room)) (g .sound));
+    room = room-kept s t m p f;
+    size = final-length s t m p f (reply-short (heldBy s t) (m .piece) (length (m .room)) g (p .bytes));
+    kept = kept s t m p f;
+  }
+
+  each : (s : Session) (t : Store) (ms : List Made) → Chain s t ms → sound s t ≡ true → Good (heldBy s t) → EachCall s t ms
+  unfolding Chain EachCall
+  each s t [] h f g = tt
+  each s t (m ∷ ms) h f g = (
+    as-model-call s t m (h .0) f g,
+    each (m .session) (m .store) ms (h .1) (made-sound s t m (h .0) f law g) (made-good s t m (h .0) f law g),
+  )
+
+  -- ---- 5
+
+  never : (s : Session) (t : Store) (ms : List Made) → Chain s t ms → sound s t ≡ true → Good (heldBy s t) → NeverUnsound ms
+  unfolding Chain NeverUnsound
+  never s t [] h f g = tt
+  never s t (m ∷ ms) h f g = (
+    (λ e. not-4 law (heldBy s t) (m .piece) (length (m .room)) g (h .0 .bytes) (sym (made-answer s t m (h .0) f) ∙ e)),
+    never (m .session) (m .store) ms (h .1) (made-sound s t m (h .0) f law g) (made-good s t m (h .0) f law g),
+  )
+
+  -- ---- the claim, where the first record and store have their shape
+
+  module _ (s : Session) (t : Store) (ms : List Made) (h : Chain s t ms) (f : sound s t ≡ true) (g : Good (heldBy s t)) where
+    division : Division peers Good (heldBy s t) (unfinished s) (stepsOf ms)
+    division = every-division peers law (heldBy s t) (unfinished s) (stepsOf ms) g (steps-bytes s t ms h)
+
+    taken : cameTo s t ms ≡ resultOf (modelRan s t (takenBy ms))
+    unfolding modelRan
+    taken =
+        runs law s t ms h f g
+        ∙ (division .taken ∙ ap (λ (l : List (Item Event)). resultOf (feedAll peers (heldBy s t) (unfinished s) l)) (takes law s t ms h f g))
+
+    whole : (stream : List ℕ) → OffersTo s stream ms → cameTo s t ms ≡ resultOf (modelRan s t stream)
+    unfolding modelRan
+    whole stream o = runs law s t ms h f g ∙ division .whole (bytes stream) (offers law s t ms stream h f g o)
+
+    end-state : heldBy (lastSession s ms) (lastStore t ms) ≡ modelRan s t (takenBy ms) .state
+    unfolding cameTo
+    end-state = ap (λ (r : Result State Answer). r .state) taken
+
+    record-is : lastSession s ms
+        ≡ (let end = modelRan s t (takenBy ms) .state in cond (eqb (length (takenBy ms)) 0) s (holding (end .connection) (end .unfinished)))
+    record-is =
+        ends-at law s t ms h f g
+        ∙ (unfold heldBy in
+        ap (λ (k : State). cond (eqb (length (takenBy ms)) 0) s (holding (k .connection) (k .unfinished))) end-state)
+
+    bytes-taken : every isByte (bytesIn (bytes {E = Event} (takenBy ms))) ≡ true
+    bytes-taken = rw (← takes law s t ms h f g) (taken-bytes peers law (heldBy s t) (stepsOf ms) (steps-bytes s t ms h))
+
+    acknowledged : AllAlong post Acknowledged (startLedger (s .connection)) (modelRan s t (takenBy ms) .ended)
+    unfolding modelRan
+    acknowledged =
+        folded peers law post folds (heldBy s t) (unfinished s) (startLedger (s .connection)) (bytes (takenBy ms)) g bytes-taken (starts s t)
+
+  -- no call at all
+  none : (s : Session) (t : Store) → sound s t ≡ true → Demand3 s t []
+  unfolding EachCall NeverUnsound cameTo modelRan takenBy lastSession lastStore responsesOf repliesOf feedAll AllAlong OffersTo flatten
+  none s t f = record {
+    each = tt;
+    taken = refl;
+    left-out = left-out;
+    record-is = refl;
+    whole = λ stream o. ⊎-elim (λ e. rw e) (λ c. rw (feedAll-closed peers law (heldBy s t) (unfinished s) stream (closed-held s t ∙ c))) o;
+    exists = every-cutting law s t f;
+    acknowledged = tt;
+    sound = f;
+    never-4 = tt;
+  }
+
+  pub claimed : (s : Session) (t : Store) (ms : List Made) → sound s t ≡ true → Chain s t ms → Demand3 s t ms
+  unfolding Chain
+  claimed s t [] f h = none s t f
+  claimed s t (m ∷ ms) f h =
+      let g = good-held s t (h .0 .shaped) f in
+      record {
+        each = each s t (m ∷ ms) h f g;
+        taken = taken s t (m ∷ ms) h f g;
+        left-out = left-out;
+        record-is = record-is s t (m ∷ ms) h f g;
+        whole = whole s t (m ∷ ms) h f g;
+        exists = every-cutting law s t f;
+        acknowledged = acknowledged s t (m ∷ ms) h f g;
+        sound = ends-sound law s t (m ∷ ms) h f g;
+        never-4 = never s t (m ∷ ms) h f g;
+      }

@@ -1,0 +1,310 @@
+-- The ledger follows the record: after each message it says of every place what the record says, and the reply carries it. Assumes nothing.
+use Prim.Native.Nat.{ℕ, zero, suc, _+_, _-_, _≤_, _<_}
+use native.Mathlib.Omega.{arith}
+use mathlib.Core.Path.{_≡_, refl, sym, ap, subst, _∙_}
+use mathlib.Core.Logic.{_⊎_, inl, inr, ⊎-elim}
+use mathlib.Core.List.{List, [], _∷_, _++_}
+use mathlib.Core.Bool.{Bool, true, false, cond, _&&_}
+use mathlib.Core.Option.{Option, some, none}
+use lib.ListN.{length, getD}
+use lib.Dec.{eqb, ltb, leb}
+use borrow.Author.Tests.{eqb-true, eq-eqb, ne-eqb, eqb-false, lt-ltb}
+use Rattle.lists.proofs.Cases.{by-test, cond-true, cond-false, eq-or-ne, and-first, and-second, and-true}
+use Rattle.lists.specs.declared.Found.{Found}
+use Rattle.lists.specs.declared.Found.the-variants as found
+use Rattle.store.specs.declared.Table.{Table}
+use Rattle.store.specs.declared.Entry.{Entry}
+use Rattle.store.specs.declared.Store.{Store}
+use Rattle.handshake.specs.Bytes as hb
+use Rattle.handshake.specs.Handshake.{refusalLine, statusLine, lf}
+use Rattle.session.specs.declared.Binding.{Binding}
+use Rattle.session.specs.declared.Connection.{Connection}
+use Rattle.session.specs.declared.Commit.{Commit}
+use Rattle.session.specs.declared.Answer.{Answer}
+use Rattle.session.specs.declared.Answer.the-variants as answer
+use Rattle.session.specs.Answers.{refusalReply, isSizeLimit, isProtocolError}
+use Rattle.session.specs.Session.{bindingAt, noBinding, isBound, isUpdated, boundTo, closedWith, establish, makeCurrent, currentMark, withTables, bind, bindTo, unbind, committed, commitTo}
+use Rattle.session.proofs.Changing.{mark-of}
+use Rattle.session.proofs.Bindings.{bound-here, bound-lost, bound-kept, bind-cases, commit-cases, committed-here, committed-other, committed-previous, committed-id}
+use Rattle.message.specs.Effects.{Effect, refuse, note, peerError, control, controlAnswer, controlReply, defineAt, switchTo, commitAt, acknowledge}
+use Rattle.streams.specs.Model.{Ended}
+use Rattle.receiver.specs.Ledger.{Ledger, startLedger, post, defines, switches, commits, without, at, definedId, updateId, isAcknowledgement, Carried, RightReply}
+
+pub record Follows (c : Connection) (l : Ledger) : Type 0 where
+  pub current : l .current ≡ startLedger c .current
+  pub bound : (p : ℕ) → l .bound p ≡ startLedger c .bound p
+  pub last : (p : ℕ) → l .last p ≡ startLedger c .last p
+
+pub starts-following : (c : Connection) → Follows c (startLedger c)
+starts-following c = record { current = refl; bound = λ p. refl; last = λ p. refl }
+
+-- a message that did this
+abbrev pub endedAs : List ℕ → Effect → Ended Answer
+endedAs m e = record { message = m; answer = e .answer; reply = e .reply }
+
+-- what a message does keeps the ledger in step, and its reply is right
+pub record Follow (c : Connection) (m : List ℕ) (e : Effect) : Type 0 where
+  pub follows : (l : Ledger) → Follows c l → Follows (e .connection) (post l (endedAs m e))
+  pub right : (l : Ledger) → Follows c l → RightReply (post l (endedAs m e)) (e .reply) (e .answer)
+
+-- ---- replies that are no acknowledgements
+
+none-not : isAcknowledgement [] ≡ false
+unfolding isAcknowledgement
+none-not = refl
+
+line-not : (n : ℕ) → isAcknowledgement (refusalLine n) ≡ false
+unfolding isAcknowledgement refusalLine statusLine hb.decimal hb.decimalIn lf
+line-not n =
+    by-test (eqb n 10)
+    (λ a. rw a)
+    (λ a.
+    rw a
+    (by-test (eqb n 11)
+    (λ b. rw b)
+    (λ b. rw b (by-test (eqb n 12) (λ d. rw d) (λ d. rw d (by-test (eqb n 13) (λ e. rw e) (λ e. rw e)))))))
+
+pub refusal-not : (n : ℕ) → isAcknowledgement (refusalReply n) ≡ false
+unfolding refusalReply
+refusal-not n =
+    by-test (isSizeLimit n)
+    (λ a. rw a (unfold isAcknowledgement in refl))
+    (λ a. rw a (by-test (isProtocolError n) (λ b. rw b (unfold isAcknowledgement in refl)) (λ b. rw b (line-not n))))
+
+accepted-not : isAcknowledgement (statusLine 200) ≡ false
+unfolding isAcknowledgement statusLine hb.decimal hb.decimalIn lf
+accepted-not = refl
+
+control-not : (type : ℕ) → isAcknowledgement (controlReply type) ≡ false
+unfolding controlReply isAcknowledgement
+control-not type = by-test (leb 1 type && leb type 2) (λ a. rw a) (λ a. rw a)
+
+-- ---- messages that leave bindings and current table as they are
+
+same-ledger : (c d : Connection) → d .current ≡ c .current → d .bindings ≡ c .bindings → (l : Ledger) → Follows c l → Follows d l
+unfolding startLedger bindingAt
+same-ledger c d e b l f = record {
+  current = f .current ∙ ap (λ (n : ℕ). cond (eqb n 0) none (some (n - 1))) (sym e);
+  bound = λ p. f .bound p ∙ ap (λ (bs : List Binding). cond (isBound (getD bs p noBinding)) (some (getD bs p noBinding .id)) none) (sym b);
+  last = λ p. f .last p ∙ ap (λ (bs : List Binding). cond (isUpdated (getD bs p noBinding)) (some (getD bs p noBinding .previous)) none) (sym b);
+}
+
+pub refuse-follow : (c : Connection) (s : Store) (n : ℕ) (m : List ℕ) → Follow c m (refuse c s n)
+unfolding refuse post closedWith
+refuse-follow c s n m = record { follows = same-ledger c (closedWith c n) refl refl; right = λ l f. refusal-not n }
+
+pub hello-follow : (c : Connection) (s : Store) (p r : ℕ) (m : List ℕ) → Follow c m (note (establish c) s (answer.Hello p r) (statusLine 200))
+unfolding note post establish
+hello-follow c s p r m = record { follows = same-ledger c (establish c) refl refl; right = λ l f. accepted-not }
+
+pub status-follow : (c : Connection) (s : Store) (m : List ℕ) → Follow c m (note (establish c) s answer.Status [])
+unfolding note post establish
+status-follow c s m = record { follows = same-ledger c (establish c) refl refl; right = λ l f. none-not }
+
+pub error-follow : (c : Connection) (s : Store) (type : ℕ) (m : List ℕ) → Follow c m (peerError c s type)
+unfolding peerError post closedWith
+error-follow c s type m = record { follows = same-ledger c (closedWith c 0) refl refl; right = λ l f. none-not }
+
+pub skipped-follow : (c : Connection) (s : Store) (kind : ℕ) (m : List ℕ) → Follow c m (note c s (answer.Skipped kind) [])
+unfolding note post
+skipped-follow c s kind m = record { follows = λ l f. f; right = λ l f. none-not }
+
+pub acknowledgement-follow : (c : Connection) (s : Store) (id update : ℕ) (m : List ℕ) → Follow c m (note c s (answer.Acknowledgement id update) [])
+unfolding note post
+acknowledgement-follow c s id update m = record { follows = λ l f. f; right = λ l f. none-not }
+
+pub control-follow : (c : Connection) (s : Store) (type : ℕ) (m : List ℕ) → Follow c m (control c s type)
+unfolding control note post controlAnswer
+control-follow c s type m =
+    by-test (eqb type 0)
+    (λ a. rw a (record { follows = λ l f. f; right = λ l f. control-not type }))
+    (λ a.
+    rw a
+    (by-test (eqb type 1)
+    (λ b. rw b (record { follows = λ l f. f; right = λ l f. control-not type }))
+    (λ b.
+    rw b
+    (by-test (eqb type 2)
+    (λ d. rw d (record { follows = λ l f. f; right = λ l f. control-not type }))
+    (λ d.
+    rw d
+    (by-test (eqb type 3)
+    (λ e. rw e (record { follows = λ l f. f; right = λ l f. control-not type }))
+    (λ e. rw e (record { follows = λ l f. f; right = λ l f. control-not type }))))))))
+
+-- ---- a switch
+
+pub current-some : (c : Connection) (place : ℕ) → c .current ≡ place + 1 → startLedger c .current ≡ some place
+unfolding startLedger
+current-some c place e =
+    cond-false (eqb (c .current) 0) none (some (c .current - 1)) (ne-eqb (c .current) 0 (λ z. let w : ⊥ = omega arith in w))
+    ∙ ap some (let w : c .current - 1 ≡ place = omega arith in w)
+
+made-current : (c : Connection) (place : ℕ) → place < 8 → makeCurrent c place .current ≡ place + 1
+unfolding makeCurrent withTables
+made-current c place h = sym (mark-of place h)
+
+pub switch-follow : (c : Connection) (s : Store) (place : ℕ) (m : List ℕ) → place < 8 → Follow c m (note (makeCurrent c place) s (answer.Switch place) [])
+unfolding note post switches
+switch-follow c s place m h = record {
+  follows = λ l f. record {
+    current = sym (current-some (makeCurrent c place) place (made-current c place h));
+    bound = λ p. f .bound p ∙ unfold startLedger bindingAt makeCurrent withTables in refl;
+    last = λ p. f .last p ∙ unfold startLedger bindingAt makeCurrent withTables in refl;
+  };
+  right = λ l f. none-not;
+}
+
+-- ---- a definition
+
+boundOf : Binding → Option ℕ
+boundOf b = cond (isBound b) (some (b .id)) none
+
+lastOf : Binding → Option ℕ
+lastOf b = cond (isUpdated b) (some (b .previous)) none
+
+start-bound : (c : Connection) (p : ℕ) → startLedger c .bound p ≡ boundOf (bindingAt c p)
+unfolding startLedger boundOf
+start-bound c p = refl
+
+start-last : (c : Connection) (p : ℕ) → startLedger c .last p ≡ lastOf (bindingAt c p)
+unfolding startLedger lastOf
+start-last c p = refl
+
+pub last-some : (c : Connection) (p : ℕ) → isUpdated (bindingAt c p) ≡ true → startLedger c .last p ≡ some (bindingAt c p .previous)
+unfolding startLedger
+last-some c p h = cond-true (isUpdated (bindingAt c p)) (some (bindingAt c p .previous)) none h
+
+bound-of-bound : (id : ℕ) (b : Binding) → boundOf (bindTo id b) ≡ some id
+unfolding boundOf bindTo isBound
+bound-of-bound id b = refl
+
+bound-of-unbound : (b : Binding) → boundOf (unbind b) ≡ none
+unfolding boundOf unbind isBound
+bound-of-unbound b = refl
+
+-- the ID lost elsewhere
+lost : (id : ℕ) (b : Binding) → boundTo id b ≡ true → without id (boundOf b) ≡ none
+unfolding boundOf boundTo without
+lost id b h =
+    let y = and-first (isBound b) (eqb (b .id) id) h in
+    let z = and-second (isBound b) (eqb (b .id) id) h in
+    ap (without id) (cond-true (isBound b) (some (b .id)) none y) ∙ cond-true (eqb (b .id) id) none (some (b .id)) z
+
+kept-id : (id : ℕ) (b : Binding) → boundTo id b ≡ false → without id (boundOf b) ≡ boundOf b
+unfolding boundOf boundTo without
+kept-id id b h =
+    by-test (isBound b)
+    (λ y.
+    let z : eqb (b .id) id ≡ false = sym (and-true (isBound b) (eqb (b .id) id) y) ∙ h in
+    let e = cond-true (isBound b) (some (b .id)) none y in
+    ap (without id) e ∙ (cond-false (eqb (b .id) id) none (some (b .id)) z ∙ sym e))
+    (λ y. let e = cond-false (isBound b) (some (b .id)) none y in ap (without id) e ∙ sym e)
+
+bound-current : (c : Connection) (place id : ℕ) → place < 8 → bind c place id .current ≡ place + 1
+unfolding bind withTables
+bound-current c place id h = sym (mark-of place h)
+
+module _ (c : Connection) (place id : ℕ) (h : place < 8) (long : length (c .bindings) ≡ 8) (l : Ledger) (f : Follows c l) where
+  defines-bound : (p : ℕ) → defines l place id .bound p ≡ startLedger (bind c place id) .bound p
+  unfolding defines
+  defines-bound p =
+      let here : place < length (c .bindings) = omega arith in
+      ⊎-elim
+      (λ e.
+      cond-true (eqb p place) (some id) (without id (l .bound p)) (eq-eqb p place e)
+      ∙ sym (start-bound (bind c place id) p ∙ (ap boundOf (ap (bindingAt (bind c place id)) e ∙ bound-here c place id here) ∙ bound-of-bound id (bindingAt c place))))
+      (λ e.
+      cond-false (eqb p place) (some id) (without id (l .bound p)) (ne-eqb p place e)
+      ∙ (ap (without id) (f .bound p ∙ start-bound c p)
+      ∙ (by-test (boundTo id (bindingAt c p))
+      (λ t. lost id (bindingAt c p) t ∙ sym (ap boundOf (bound-lost c place id p e t) ∙ bound-of-unbound (bindingAt c p)))
+      (λ t. kept-id id (bindingAt c p) t ∙ sym (ap boundOf (bound-kept c place id p e t)))
+      ∙ sym (start-bound (bind c place id) p))))
+      (eq-or-ne p place)
+
+  defines-last : (p : ℕ) → defines l place id .last p ≡ startLedger (bind c place id) .last p
+  unfolding defines
+  defines-last p =
+      f .last p
+      ∙ (start-last c p
+      ∙ (sym (bind-cases c place id (λ (b : Binding). lastOf b ≡ lastOf (bindingAt c p)) p (λ e. omega arith)
+      (λ e. unfold lastOf bindTo isUpdated in ap (λ (k : ℕ). lastOf (bindingAt c k)) (sym e))
+      (λ e. unfold lastOf unbind isUpdated in refl)
+      (λ e. refl))
+      ∙ sym (start-last (bind c place id) p)))
+
+pub define-follow : (c : Connection) (s : Store) (id : ℕ) (t : Table) (place : ℕ) (m : List ℕ) → place < 8
+    → length (c .bindings) ≡ 8 → definedId m ≡ id → Follow c m (defineAt c s id t place)
+unfolding defineAt post
+define-follow c s id t place m h long e = record {
+  follows = λ l f.
+      subst (λ (k : ℕ). Follows (bind c place id) (defines l place k)) (sym e)
+      (record {
+        current = unfold defines in sym (current-some (bind c place id) place (bound-current c place id h));
+        bound = defines-bound c place id h long l f;
+        last = defines-last c place id h long l f;
+      });
+  right = λ l f. none-not;
+}
+
+-- ---- a committed update
+
+module _ (c : Connection) (table id : ℕ) (h : table < 8) (long : length (c .bindings) ≡ 8) (now : c .current ≡ table + 1) (l : Ledger) (f : Follows c l) where
+  here : table < length (c .bindings)
+  here = omega arith
+
+  ledger-current : l .current ≡ some table
+  ledger-current = f .current ∙ current-some c table now
+
+  commits-current : l .current ≡ startLedger (committed c table id) .current
+  commits-current = f .current ∙ unfold startLedger committed withTables in refl
+
+  commits-bound : (p : ℕ) → l .bound p ≡ startLedger (committed c table id) .bound p
+  commits-bound p =
+      f .bound p
+      ∙ (start-bound c p
+      ∙ (sym (commit-cases c table id (λ (b : Binding). boundOf b ≡ boundOf (bindingAt c p)) p (λ e. here)
+      (λ e. unfold boundOf commitTo isBound in ap (λ (k : ℕ). boundOf (bindingAt c k)) (sym e))
+      (λ e. refl))
+      ∙ sym (start-bound (committed c table id) p)))
+
+  commits-last : (p : ℕ) → cond (eqb p table) (some id) (l .last p) ≡ startLedger (committed c table id) .last p
+  commits-last p =
+      ⊎-elim
+      (λ e.
+      cond-true (eqb p table) (some id) (l .last p) (eq-eqb p table e)
+      ∙ sym (start-last (committed c table id) p
+      ∙ (ap lastOf (ap (bindingAt (committed c table id)) e ∙ committed-here c table id here) ∙ unfold lastOf commitTo isUpdated in refl)))
+      (λ e.
+      cond-false (eqb p table) (some id) (l .last p) (ne-eqb p table e)
+      ∙ (f .last p ∙ (start-last c p ∙ (ap lastOf (sym (committed-other c table id p e)) ∙ sym (start-last (committed c table id) p)))))
+      (eq-or-ne p table)
+
+  -- the ledger after the update
+  pub after-commit : Follows (committed c table id) (commits l (l .current) id)
+  after-commit =
+      subst (λ (o : Option ℕ). Follows (committed c table id) (commits l o id)) (sym ledger-current)
+      (unfold commits in record { current = commits-current; bound = commits-bound; last = commits-last })
+
+  pub carried : isBound (bindingAt c table) ≡ true
+      → Carried (commits l (l .current) id) (acknowledge (bindingAt (committed c table id) table .id) (bindingAt (committed c table id) table .previous)) table id
+  carried b = record {
+    id = bindingAt c table .id;
+    current = after-commit .current ∙ (sym commits-current ∙ ledger-current);
+    bound =
+        after-commit .bound table
+        ∙ (sym (commits-bound table) ∙ (f .bound table ∙ (start-bound c table ∙ unfold boundOf in cond-true (isBound (bindingAt c table)) (some (bindingAt c table .id)) none b)));
+    last = after-commit .last table ∙ (sym (commits-last table) ∙ cond-true (eqb table table) (some id) (l .last table) (eq-eqb table table refl));
+    carries = rw (committed-id c table id here, committed-previous c table id here) refl;
+  }
+
+pub commit-follow : (c : Connection) (s : Store) (table id : ℕ) (e : Entry) (place : ℕ) (how : Commit) (m : List ℕ) → table < 8
+    → length (c .bindings) ≡ 8 → c .current ≡ table + 1 → isBound (bindingAt c table) ≡ true
+    → ((l : Ledger) → Follows c l → updateId m (at (l .last) (l .current)) ≡ id)
+    → Follow c m (commitAt c s table id e place how)
+unfolding commitAt post
+commit-follow c s table id e place how m h long now b ids = record {
+  follows = λ l f. rw (ids l f) (after-commit c table id h long now l f);
+  right = λ l f. rw (ids l f) (carried c table id h long now l f b);
+}

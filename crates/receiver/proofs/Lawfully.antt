@@ -1,0 +1,219 @@
+-- The byte model meets the laws that are asked of a receiver. Assumes nothing.
+use Prim.Native.Nat.{ℕ, zero, suc, _+_, _^_, _≤_, _<_}
+use native.Mathlib.Omega.{arith}
+use mathlib.Core.Path.{_≡_, refl, sym, ap, subst, _∙_}
+use mathlib.Core.Logic.{⊎-elim}
+use mathlib.Core.List.{List, [], _∷_, _++_}
+use mathlib.Core.Bool.{Bool, true, false, cond, _&&_, _||_}
+use lib.ListN.{length, getD, length-append}
+use lib.Dec.{eqb, ltb, leb, lit<}
+use borrow.Author.Tests.{ltb-true}
+use Rattle.lists.proofs.Cases.{by-test, cond-true}
+use Rattle.wire.specs.Value.{Bytes}
+use Rattle.store.specs.declared.Table.{Table}
+use Rattle.store.specs.declared.Store.{Store}
+use Rattle.store.proofs.Facts.{SoundStore, sound-facts, facts-sound}
+use Rattle.session.specs.declared.Connection.{Connection}
+use Rattle.session.specs.declared.Session.{Session}
+use Rattle.session.specs.declared.Answer.{Answer}
+use Rattle.session.specs.declared.Answer.the-variants as answer
+use Rattle.session.specs.Session.{isClosed, holding, unfinished}
+use Rattle.soundness.specs.Sound.{waits, sound}
+use Rattle.soundness.proofs.Facts.{SoundConnection}
+use Rattle.soundness.proofs.Records.{sound-store, sound-session, sound-both, holding-sound, empty-sound, open-facts}
+use Rattle.message.specs.Effects.{Effect}
+use Rattle.message.proofs.Kept.{Held, Kept}
+use Rattle.streams.specs.Model.{Fed, quiet, answered, stateOf, endedBy}
+use Rattle.streams.specs.Claim.{Lawful}
+use Rattle.streams.specs.Fold.{Folds}
+use Rattle.receiver.specs.Model.{State, Judged, waiting, settled, judge, joined, feed, ends, soundState, heldBy, isByte, peers}
+use Rattle.receiver.specs.Good.{Good}
+use Rattle.receiver.specs.Ledger.{Ledger, startLedger, post, Acknowledged}
+use Rattle.receiver.proofs.Absorbing.{JudgedAs, judged-as, judged-waiting, judged-settled, feed-open, feed-waits}
+use Rattle.receiver.proofs.Following.{Follows, Follow, starts-following}
+use Rattle.receiver.proofs.Ending.{settled-ends}
+use Rattle.receiver.proofs.Laws.{Right, JudgedRight, judge-right}
+
+-- ---- what a good open state holds
+
+module _ (s : State) (g : Good s) (o : isClosed (s .connection) ≡ false) where
+  abbrev record-of : Session
+  record-of = holding (s .connection) (s .unfinished)
+
+  pub open-held : Held (s .connection) (s .store)
+  unfolding soundState holding
+  open-held = record {
+    store = sound-facts (s .store) (sound-store record-of (s .store) (g .sound));
+    storeShape = g .store;
+    connection = open-facts (s .store .tables) record-of o (sound-session record-of (s .store) (g .sound)) .connection;
+    connectionShape = g .connection;
+  }
+
+-- ---- a state of a sound record and store
+
+-- with unfinished bytes that wait, or with none
+waiting-sound : (c : Connection) (u : List ℕ) (t : Store) → SoundStore t → SoundConnection (t .tables) c → isClosed c ≡ false → waits c u ≡ true
+    → soundState (record { connection = c; unfinished = u; store = t }) ≡ true
+unfolding soundState
+waiting-sound c u t st sc o w = sound-both (holding c u) t (facts-sound t st) (holding-sound sc u o w)
+
+settled-sound : (c : Connection) (t : Store) → SoundStore t → SoundConnection (t .tables) c → soundState (record { connection = c; unfinished = []; store = t }) ≡ true
+unfolding soundState
+settled-sound c t st sc = sound-both (holding c []) t (facts-sound t st) (empty-sound sc)
+
+-- after an answer no byte is unfinished
+settled-good : (e : Effect) → Kept e → Good (record { connection = e .connection; unfinished = []; store = e .store })
+settled-good e k = record {
+  sound = settled-sound (e .connection) (e .store) (k .store) (k .connection);
+  connection = k .connectionShape;
+  unfinished = λ i. lit< tt;
+  store = k .storeShape;
+}
+
+-- ---- one byte
+
+snoc-small : (u : List ℕ) (b : ℕ) → ((i : ℕ) → getD u i 0 < 2 ^ 8) → b < 2 ^ 8 → (i : ℕ) → getD (u ++ (b ∷ [])) i 0 < 2 ^ 8
+snoc-small [] b h l zero = l
+snoc-small [] b h l (suc i) = lit< tt
+snoc-small (x ∷ u) b h l zero = h zero
+snoc-small (x ∷ u) b h l (suc i) = snoc-small u b (λ j. h (suc j)) l i
+
+-- what a byte on a good open state comes to
+pub data Came (s : State) (b : ℕ) : Fed State Answer → Type 0 where
+  waited : waits (s .connection) (s .unfinished ++ (b ∷ [])) ≡ true
+      → Came s b (quiet (record { connection = s .connection; unfinished = s .unfinished ++ (b ∷ []); store = s .store }))
+  answers : (e : Effect) → Right (s .connection) (s .unfinished ++ (b ∷ [])) e
+      → Came s b (answered (e .answer) (e .reply) (record { connection = e .connection; unfinished = []; store = e .store }))
+
+module _ (s : State) (b : ℕ) (g : Good s) (o : isClosed (s .connection) ≡ false) (l : isByte b ≡ true) where
+  abbrev now : List ℕ
+  now = s .unfinished ++ (b ∷ [])
+
+  byte-small : b < 2 ^ 8
+  byte-small = ltb-true b 256 l
+
+  now-bytes : Bytes now
+  now-bytes = record { byte = snoc-small (s .unfinished) b (g .unfinished) byte-small }
+
+  pub came : Came s b (feed s b)
+  came =
+      by-test (waits (s .connection) now)
+      (λ w. subst (Came s b) (sym (feed-waits (s .connection) (s .unfinished) (s .store) b o w)) (waited w))
+      (λ w.
+      let j = judged-settled (waits (s .connection) now) (judge (s .connection) (s .store) now) (judged-as (s .connection) (s .store) now) w in
+      let r : Right (s .connection) now (j .0) = subst (JudgedRight (s .connection) now) (j .1) (judge-right (s .connection) (s .store) (open-held s g o) now now-bytes) in
+      subst (Came s b)
+      (sym (feed-open (s .connection) (s .unfinished) (s .store) b o ∙ (ap (joined (s .connection) (s .store) now) (j .1) ∙ settled-fed (s .connection) (s .store) now (j .0))))
+      (answers (j .0) r))
+    where
+      settled-fed : (c : Connection) (t : Store) (u : List ℕ) (e : Effect)
+          → joined c t u (settled e) ≡ answered (e .answer) (e .reply) (record { connection = e .connection; unfinished = []; store = e .store })
+      settled-fed c t u e = unfold joined in refl
+
+  came-good : (f : Fed State Answer) → Came s b f → Good (stateOf f)
+  came-good f (waited w) =
+      let h = open-held s g o in
+      record {
+        sound = waiting-sound (s .connection) now (s .store) (h .store) (h .connection) o w;
+        connection = g .connection;
+        unfinished = now-bytes .byte;
+        store = g .store;
+      }
+  came-good f (answers e r) = settled-good e (r .kept)
+
+  pub open-good : Good (stateOf (feed s b))
+  open-good = came-good (feed s b) came
+
+feed-closed : (s : State) (b : ℕ) → isClosed (s .connection) ≡ true → feed s b ≡ quiet s
+unfolding feed
+feed-closed s b h = cond-true (isClosed (s .connection)) _ _ h
+
+good-feed : (s : State) (b : ℕ) → Good s → isByte b ≡ true → Good (stateOf (feed s b))
+good-feed s b g l =
+    by-test (isClosed (s .connection))
+    (λ k. rw (feed-closed s b k) g)
+    (λ k. open-good s b g k l)
+
+-- ---- every answer ends
+
+abbrev AnswerEnds : Fed State Answer → Type 0
+AnswerEnds (quiet t) = Unit {0}
+AnswerEnds (answered a r t) = ends a ≡ true
+
+joined-ends : (c : Connection) (t : Store) (u : List ℕ) (j : Judged) → judge c t u ≡ j → AnswerEnds (joined c t u j)
+unfolding joined
+joined-ends c t u waiting e = tt
+joined-ends c t u (settled x) e = settled-ends c t u x e
+
+feed-ends : (s : State) (b : ℕ) → AnswerEnds (feed s b)
+feed-ends s b =
+    by-test (isClosed (s .connection))
+    (λ k. rw (feed-closed s b k) tt)
+    (λ k.
+    let u = s .unfinished ++ (b ∷ []) in
+    rw (feed-open (s .connection) (s .unfinished) (s .store) b k)
+    (joined-ends (s .connection) (s .store) u (judge (s .connection) (s .store) u) refl))
+
+pub lawful : Lawful peers Good
+lawful = record {
+  more-not-end = unfold ends in refl;
+  refusals-not-end = refusals;
+  answers-end = λ s b a r t e. subst AnswerEnds e (feed-ends s b);
+  closed-ignores = feed-closed;
+  act-closed = λ e s. refl;
+  good-sound = λ s g. g .sound;
+  good-feed = good-feed;
+  good-act = λ e s g. g;
+}
+  where
+    refusals : (ends (answer.Refused 1) ≡ false) × (ends (answer.Refused 2) ≡ false) × (ends (answer.Refused 4) ≡ false)
+    refusals = (unfold ends in refl, unfold ends in refl, unfold ends in refl)
+
+-- ---- every reply is short
+
+came-short : (s : State) (b : ℕ) (f : Fed State Answer) → Came s b f → (a : Answer) (r : List ℕ) (t : State) → f ≡ answered a r t → length r ≤ 12
+came-short s b f (waited w) a r t e = absurd (let z : _≡_ {A = ℕ} 0 1 = cc in omega arith)
+came-short s b f (answers x y) a r t e = let q : x .reply ≡ r = cc in rw (← q) (y .short)
+
+pub replies-short : (s : State) (b : ℕ) (a : Answer) (r : List ℕ) (t : State) → Good s → isByte b ≡ true → feed s b ≡ answered a r t → length r ≤ 12
+replies-short s b a r t g l e =
+    by-test (isClosed (s .connection))
+    (λ k. absurd (let q = sym (feed-closed s b k) ∙ e in let z : _≡_ {A = ℕ} 0 1 = cc in omega arith))
+    (λ k. came-short s b (feed s b) (came s b g k l) a r t e)
+
+-- ---- the ledger follows
+
+-- on an open session the bytes since the last answer are the unfinished ones
+pub record Along (s : State) (u : List ℕ) (l : Ledger) : Type 0 where
+  pub follows : Follows (s .connection) l
+  pub bytes : isClosed (s .connection) ≡ false → u ≡ s .unfinished
+
+quiet-along : (s : State) (b : ℕ) (f : Fed State Answer) → Came s b f → (t : State) (u : List ℕ) (l : Ledger) → isClosed (s .connection) ≡ false
+    → f ≡ quiet t → Along s u l → Along t (u ++ (b ∷ [])) l
+quiet-along s b f (waited w) t u l k e i =
+    let q : record { connection = s .connection; unfinished = s .unfinished ++ (b ∷ []); store = s .store } ≡ t = cc in
+    rw (← q) (record { follows = i .follows; bytes = λ z. ap (λ (v : List ℕ). v ++ (b ∷ [])) (i .bytes k) })
+quiet-along s b f (answers x y) t u l k e i = absurd (let z : _≡_ {A = ℕ} 0 1 = cc in omega arith)
+
+answer-along : (s : State) (b : ℕ) (f : Fed State Answer) → Came s b f → (t : State) (u : List ℕ) (l : Ledger) (a : Answer) (r : List ℕ)
+    → isClosed (s .connection) ≡ false → f ≡ answered a r t → Along s u l
+    → Acknowledged l (post l (endedBy u b a r)) (endedBy u b a r) × Along t [] (post l (endedBy u b a r))
+answer-along s b f (waited w) t u l a r k e i = absurd (let z : _≡_ {A = ℕ} 0 1 = cc in omega arith)
+answer-along s b f (answers x y) t u l a r k e i =
+    let qa : x .answer ≡ a = cc in
+    let qr : x .reply ≡ r = cc in
+    let qt : record { connection = x .connection; unfinished = []; store = x .store } ≡ t = cc in
+    let qu = i .bytes k in
+    rw (← qa, ← qr, ← qt, qu)
+    (y .follow .right l (i .follows), record { follows = y .follow .follows l (i .follows); bytes = λ z. refl })
+
+pub folds : Folds post peers Good Acknowledged Along
+folds = record {
+  at-quiet = λ s t u l b g k y e i. quiet-along s b (feed s b) (came s b g k y) t u l k e i;
+  at-answer = λ s t u l b a r g k y e i. answer-along s b (feed s b) (came s b g k y) t u l a r k e i;
+  at-event = λ s u l e g k i. i;
+}
+
+pub along-start : (s : Session) (t : Store) → Along (heldBy s t) (unfinished s) (startLedger (s .connection))
+unfolding heldBy
+along-start s t = record { follows = starts-following (s .connection); bytes = λ z. refl }

@@ -1,0 +1,401 @@
+-- What every answer of the byte model has from a sound record and store: its reply is short, record and store stay sound, and the ledger
+-- follows. Assumes nothing.
+use Prim.Native.Nat.{ℕ, zero, suc, _+_, _-_, _^_, _≤_, _<_}
+use native.Mathlib.Omega.{arith}
+use mathlib.Core.Path.{_≡_, refl, sym, ap, subst, _∙_}
+use mathlib.Core.List.{List, [], _∷_, _++_}
+use mathlib.Core.Bool.{Bool, true, false, cond, not, _&&_, _||_}
+use mathlib.Core.Option.{Option, some}
+use lib.ListN.{length, take, drop, getD}
+use lib.Dec.{eqb, ltb, leb, lit<}
+use borrow.Author.Tests.{eq-eqb, ne-eqb, eqb-true, eqb-false, le-leb, lt-leb}
+use Rattle.lists.specs.declared.Found.{Found}
+use Rattle.lists.specs.declared.Found.the-variants as found
+use Rattle.lists.proofs.Places.{First, first-at}
+use Rattle.wire.specs.Value.{Bytes}
+use Rattle.wire.proofs.Sizes.{drop-bytes}
+use Rattle.store.specs.declared.Table.{Table}
+use Rattle.store.specs.declared.Entry.{Entry}
+use Rattle.store.specs.Store.{tableFree, tableNamed, findTable, findEntry, freeTable, freeEntry, noTable}
+use Rattle.lists.proofs.Cases.{by-test, and-intro, cond-true, cond-false}
+use Rattle.store.specs.declared.Store.{Store}
+use Rattle.handshake.specs.declared.Hello.{Hello}
+use Rattle.handshake.specs.declared.Hello.the-variants as hello
+use Rattle.handshake.specs.declared.Status.{Status}
+use Rattle.handshake.specs.declared.Status.the-variants as status
+use Rattle.handshake.specs.Bytes as hb
+use Rattle.handshake.specs.Handshake.{judgeHello, judgeStatus, helloReply, refusalLine, statusLine, lf}
+use Rattle.handshake.proofs.HelloLaws.{hello-refusal, status-refusal}
+use Rattle.frame.specs.declared.Frame.{Frame}
+use Rattle.frame.specs.declared.Frame.the-variants as frame
+use Rattle.frame.specs.Frame.{judgeFrame}
+use Rattle.frame.proofs.Limits.{refused-number, whole-facts}
+use Rattle.session.specs.declared.Connection.{Connection}
+use Rattle.session.specs.declared.Commit.{Commit}
+use Rattle.session.specs.declared.Commit.the-variants as commit
+use Rattle.session.specs.declared.Answer.{Answer}
+use Rattle.session.specs.declared.Answer.the-variants as answer
+use Rattle.session.specs.Answers.{refusalReply, isSizeLimit, isProtocolError}
+use Rattle.session.specs.Session.{isClosed, localName, remoteName, establish, findBound, bindingAt, isBound, isUpdated, committed}
+use Rattle.soundness.specs.Sound.{isClosing, refusesOpening}
+use Rattle.session.proofs.Bindings.{found-bound}
+use Rattle.soundness.proofs.Keeping.{establish-keeps}
+use Rattle.session.proofs.Shapes.{establish-shape}
+use Rattle.body.specs.Fields.{Read, got, short, outside, spanIn}
+use Rattle.body.specs.Bodies.{Definition, definitionFields, switchFields, acknowledgementFields, Update, updateFields, incrementalFields}
+use Rattle.body.proofs.Within.{UpdateWithin, update-within, update-id, incremental-within}
+use Rattle.message.specs.Effects.{Effect, refuse, note, fieldsThen, control, controlAnswer, controlReply, peerError, defineAt, defineNew, defineNamed, agrees, definition, switchTo, switch, acknowledgement, skipped, commitAt, commitNew, commitUpdate, withFields, followingId, incrementalOf, update, incremental, definedTable, updatedEntry, stickTable}
+use Rattle.message.proofs.Acknowledging.{acknowledge-short}
+use Rattle.message.proofs.Kept.{Held, Kept, refuse-kept, error-kept, note-kept, switch-kept, definition-kept, update-kept}
+use Rattle.receiver.specs.Ledger.{Ledger, definedId, updateId, at, kindOf, nextId, explicitId, startLedger}
+use Rattle.receiver.specs.Model.{Judged, waiting, settled, helloJudged, statusJudged, frameJudged, judge, ends}
+use Rattle.receiver.proofs.Following.{Follows, Follow, current-some, last-some, refuse-follow, hello-follow, status-follow, error-follow, control-follow, skipped-follow, acknowledgement-follow, switch-follow, define-follow, commit-follow}
+use Rattle.receiver.proofs.FirstFields.{body-starts, definition-id, update-explicit}
+
+pub record Right (c : Connection) (m : List ℕ) (e : Effect) : Type 0 where
+  pub short : length (e .reply) ≤ 12
+  pub kept : Kept e
+  pub follow : Follow c m e
+
+-- ---- refusals
+
+line-short : (n : ℕ) → length (refusalLine n) ≤ 12
+unfolding refusalLine statusLine hb.decimal hb.decimalIn lf
+line-short n =
+    by-test (eqb n 10)
+    (λ a. rw a (omega arith))
+    (λ a.
+    rw a
+    (by-test (eqb n 11)
+    (λ b. rw b (omega arith))
+    (λ b. rw b (by-test (eqb n 12) (λ d. rw d (omega arith)) (λ d. rw d (by-test (eqb n 13) (λ e. rw e (omega arith)) (λ e. rw e (omega arith))))))))
+
+refusal-short : (n : ℕ) → length (refusalReply n) ≤ 12
+unfolding refusalReply
+refusal-short n =
+    by-test (isSizeLimit n) (λ a. rw a (omega arith)) (λ a. rw a (by-test (isProtocolError n) (λ b. rw b (omega arith)) (λ b. rw b (line-short n))))
+
+closing-from : (n low high : ℕ) → low ≤ n → n ≤ high → (leb low n && leb n high) ≡ true
+closing-from n low high a b = and-intro (leb low n) (leb n high) (le-leb low n a) (le-leb n high b)
+
+closing-hello : (n : ℕ) → 10 ≤ n → n ≤ 15 → isClosing n ≡ true
+unfolding isClosing refusesOpening
+closing-hello n a b =
+    rw (ne-eqb n 0 (λ e. let z : ⊥ = omega arith in z), ne-eqb n 1 (λ e. let z : ⊥ = omega arith in z), ne-eqb n 3 (λ e. let z : ⊥ = omega arith in z), closing-from n 10 15 a b) refl
+
+closing-message : (n : ℕ) → 20 ≤ n → n ≤ 29 → isClosing n ≡ true
+unfolding isClosing refusesOpening
+closing-message n a b =
+    rw (ne-eqb n 0 (λ e. let z : ⊥ = omega arith in z), ne-eqb n 1 (λ e. let z : ⊥ = omega arith in z), ne-eqb n 3 (λ e. let z : ⊥ = omega arith in z), lt-leb n 15 (let z : 15 < n = omega arith in z), closing-from n 20 29 a b, le-leb 10 n (let z : 10 ≤ n = omega arith in z)) refl
+
+-- ---- control messages
+
+control-short : (type : ℕ) → length (controlReply type) ≤ 12
+unfolding controlReply
+control-short type = by-test (leb 1 type && leb type 2) (λ a. rw a (omega arith)) (λ a. rw a (omega arith))
+
+accepted-short : length (statusLine 200) ≤ 12
+unfolding statusLine hb.decimal hb.decimalIn lf
+accepted-short = omega arith
+
+module _ (c : Connection) (s : Store) (h : Held c s) (m : List ℕ) where
+  pub refuse-right : (n : ℕ) → 10 ≤ n → n < 2 ^ 8 → isClosing n ≡ true → Right c m (refuse c s n)
+  refuse-right n l b k = record {
+    short = unfold refuse in refusal-short n;
+    kept = refuse-kept c s h n k b;
+    follow = refuse-follow c s n m;
+  }
+
+  established : (a : Answer) (r : List ℕ) → Kept (note (establish c) s a r)
+  unfolding note
+  established a r = record {
+    store = h .store;
+    storeShape = h .storeShape;
+    connection = establish-keeps (h .connection);
+    connectionShape = establish-shape (h .connectionShape);
+  }
+
+  control-right : (type : ℕ) → Right c m (control c s type)
+  control-right type = record {
+    short = unfold control note in control-short type;
+    kept = unfold control in note-kept c s h (controlAnswer type) (controlReply type);
+    follow = control-follow c s type m;
+  }
+
+  error-right : (type : ℕ) → Right c m (peerError c s type)
+  error-right type = record {
+    short = unfold peerError in omega arith;
+    kept = error-kept c s h type;
+    follow = error-follow c s type m;
+  }
+
+-- ---- what unfinished bytes come to
+
+abbrev pub JudgedRight : Connection → List ℕ → Judged → Type 0
+JudgedRight c m waiting = Unit {0}
+JudgedRight c m (settled e) = Right c m e
+
+module _ (c : Connection) (s : Store) (h : Held c s) (m : List ℕ) where
+  hello-right : (j : Hello) → judgeHello (localName c) (remoteName c) m ≡ j → JudgedRight c m (helloJudged c s j)
+  unfolding helloJudged helloReply
+  hello-right hello.Waiting e = tt
+  hello-right (hello.Accepted p r) e = record {
+    short = unfold note in accepted-short;
+    kept = established c s h m (answer.Hello p r) (statusLine 200);
+    follow = hello-follow c s p r m;
+  }
+  hello-right (hello.Refused n) e =
+      let k = hello-refusal (localName c) (remoteName c) m n e in
+      refuse-right c s h m n (k .0) (omega (arith, k .1)) (closing-hello n (k .0) (omega (arith, k .1)))
+
+  status-right : (j : Status) → judgeStatus m ≡ j → JudgedRight c m (statusJudged c s j)
+  unfolding statusJudged
+  status-right status.Waiting e = tt
+  status-right status.Accepted e = record {
+    short = unfold note in omega arith;
+    kept = established c s h m answer.Status [];
+    follow = status-follow c s m;
+  }
+  status-right (status.Refused n) e =
+      let k = status-refusal m n e in
+      refuse-right c s h m n (omega (arith, k .0)) (omega (arith, k .1)) (closing-hello n (omega (arith, k .0)) (k .1))
+
+-- ---- messages of class 10
+
+module _ (c : Connection) (s : Store) (h : Held c s) (m : List ℕ) where
+  message-refused : (n : ℕ) → 20 ≤ n → n ≤ 29 → Right c m (refuse c s n)
+  message-refused n a b = refuse-right c s h m n (omega arith) (omega arith) (closing-message n a b)
+
+  noted : (a : Answer) → Follow c m (note c s a []) → Right c m (note c s a [])
+  noted a f = record { short = unfold note in omega arith; kept = note-kept c s h a []; follow = f }
+
+  -- fields, then what the message does
+  fields-right : {A : Type 0} (r : Read A) (f : A → Effect) → ((a : A) (n : ℕ) → r ≡ got a n → Right c m (f a)) → Right c m (fieldsThen c s r f)
+  unfolding fieldsThen
+  fields-right (got a n) f g = g a n refl
+  fields-right short f g = message-refused 23 (omega arith) (omega arith)
+  fields-right outside f g = message-refused 24 (omega arith) (omega arith)
+
+  acknowledgement-right : (body : List ℕ) → Right c m (acknowledgement c s body)
+  unfolding acknowledgement
+  acknowledgement-right body =
+      fields-right (acknowledgementFields body) _
+      (λ a n e. noted (answer.Acknowledgement (a .id) (a .update)) (acknowledgement-follow c s (a .id) (a .update) m))
+
+  skipped-right : (kind : ℕ) → Right c m (skipped c s kind)
+  unfolding skipped
+  skipped-right kind = noted (answer.Skipped kind) (skipped-follow c s kind m)
+
+  switch-right : (body : List ℕ) → Right c m (switch c s body)
+  unfolding switch
+  switch-right body = fields-right (switchFields body) _ (λ id n e. to id (findBound c id) refl)
+    where
+      to : (id : ℕ) (f : Found) → findBound c id ≡ f → Right c m (switchTo c s f)
+      to id (found.At p) e =
+          let l : p < 8 = omega (arith, found-bound c id p e .0, h .connectionShape .places) in
+          record {
+            short = unfold switchTo note in omega arith;
+            kept = switch-kept c s h id (found.At p) e;
+            follow = unfold switchTo in switch-follow c s p m l;
+          }
+      to id found.Nothing e = unfold switchTo in message-refused 27 (omega arith) (omega arith)
+
+  -- a definition, whose ID is the ledger's
+  define-at-right : (id : ℕ) (t : Table) (p : ℕ) → definedId m ≡ id → p < length (s .tables) → Kept (defineAt c s id t p) → Right c m (defineAt c s id t p)
+  define-at-right id t p e l k = record {
+    short = unfold defineAt in omega arith;
+    kept = k;
+    follow = define-follow c s id t p m (omega (arith, h .storeShape .tables)) (h .connectionShape .places) e;
+  }
+
+  define-new-right : (id : ℕ) (t : Table) → definedId m ≡ id → (f : Found) → freeTable s ≡ f → Kept (defineNew c s id t f) → Right c m (defineNew c s id t f)
+  unfolding defineNew freeTable
+  define-new-right id t e (found.At p) q k = define-at-right id t p e (first-at tableFree (s .tables) p q .inside) k
+  define-new-right id t e found.Nothing q k = message-refused 26 (omega arith) (omega arith)
+
+  define-right : (id : ℕ) (t : Table) (name : List ℕ) → definedId m ≡ id → (f : Found) → findTable s name ≡ f
+      → Kept (defineNamed c s id t f) → Right c m (defineNamed c s id t f)
+  unfolding defineNamed findTable
+  define-right id t name e (found.At p) q k =
+      let x = agrees (getD (s .tables) p noTable) t in
+      by-test x
+      (λ a.
+      let w = cond-true x (defineAt c s id t p) (refuse c s 25) a in
+      rw w (define-at-right id t p e (first-at (tableNamed name) (s .tables) p q .inside) (subst Kept w k)))
+      (λ a. rw (cond-false x (defineAt c s id t p) (refuse c s 25) a) (message-refused 25 (omega arith) (omega arith)))
+  define-right id t name e found.Nothing q k = define-new-right id t e (freeTable s) refl k
+
+  -- ---- updates
+
+  module _ (table : ℕ) (now : c .current ≡ table + 1) (id : ℕ) (ids : (l : Ledger) → Follows c l → updateId m (at (l .last) (l .current)) ≡ id) (e : Entry) where
+    small : table < 8
+    small = let l = h .connection .currentLimit in omega arith
+
+    commit-at-right : (p : ℕ) (how : Commit) → Kept (commitAt c s table id e p how) → Right c m (commitAt c s table id e p how)
+    commit-at-right p how k = record {
+      short = reply-short p how k;
+      kept = k;
+      follow = commit-follow c s table id e p how m small (h .connectionShape .places) now (h .connection .currentBound table now) ids;
+    }
+      where
+        reply-short : (p : ℕ) (how : Commit) → Kept (commitAt c s table id e p how) → length (commitAt c s table id e p how .reply) ≤ 12
+        reply-short p how k =
+            unfold commitAt in
+            acknowledge-short (bindingAt (committed c table id) table .id) (bindingAt (committed c table id) table .previous) (k .connectionShape .binding table small .id)
+
+    commit-new-right : (f : Found) → Kept (commitNew c s table id e f) → Right c m (commitNew c s table id e f)
+    unfolding commitNew
+    commit-new-right (found.At p) k = commit-at-right p commit.New k
+    commit-new-right found.Nothing k = message-refused 29 (omega arith) (omega arith)
+
+    commit-right : (f : Found) → Kept (commitUpdate c s table id e f) → Right c m (commitUpdate c s table id e f)
+    unfolding commitUpdate
+    commit-right (found.At p) k = commit-at-right p commit.Replaced k
+    commit-right found.Nothing k = commit-new-right (freeEntry s) k
+
+-- ---- a whole message of class 10
+
+take-bytes : (n : ℕ) (xs : List ℕ) → Bytes xs → Bytes (take n xs)
+take-bytes n xs b = record { byte = go n xs (b .byte) }
+  where
+    go : (n : ℕ) (xs : List ℕ) → ((i : ℕ) → getD xs i 0 < 256) → (i : ℕ) → getD (take n xs) i 0 < 256
+    go zero xs h i = lit< tt
+    go (suc n) [] h i = h i
+    go (suc n) (x ∷ xs) h zero = h zero
+    go (suc n) (x ∷ xs) h (suc i) = go n xs (λ j. h (suc j)) i
+
+module _ (c : Connection) (s : Store) (h : Held c s) (m : List ℕ) (mb : Bytes m) (kind start end : ℕ) (e : judgeFrame m ≡ frame.Body kind start end) where
+  abbrev body : List ℕ
+  body = take (end - start) (drop start m)
+
+  body-bytes : Bytes body
+  body-bytes = take-bytes (end - start) (drop start m) (drop-bytes start mb)
+
+  start-inside : start ≤ length m
+  start-inside = let w = whole-facts m kind start end e in omega (arith, w .ordered, w .inside)
+
+  kind-is : kindOf m ≡ kind
+  unfolding kindOf
+  kind-is = sym (whole-facts m kind start end e .type)
+
+  definition-right : Right c m (definition c s body)
+  unfolding definition
+  definition-right =
+      fields-right c s h m (definitionFields body) _
+      (λ d n q.
+      define-right c s h m (d .id) (definedTable body d) (spanIn body (d .name)) (definition-id m kind start end d n e start-inside q)
+      (findTable s (spanIn body (d .name))) refl (definition-kept c s h body d n body-bytes q))
+
+  -- the fields of an update of the current table, and its ID
+  with-right : (table : ℕ) (r : Read Update) → c .current ≡ table + 1
+      → ((u : Update) (n : ℕ) → r ≡ got u n → (u .id < 2 ^ 32) × UpdateWithin (getD (s .tables) table noTable) body u
+      × ((l : Ledger) → Follows c l → updateId m (at (l .last) (l .current)) ≡ u .id))
+      → Right c m (withFields c s body table r)
+  unfolding withFields
+  with-right table r now facts =
+      fields-right c s h m r _
+      (λ u n q.
+      let w = facts u n q in
+      commit-right c s h m table now (u .id) (w .2) (updatedEntry body table u) (findEntry s table (spanIn body (u .key)))
+      (update-kept c s h body table u body-bytes now (w .0) (w .1)))
+
+  current-is : eqb (c .current) 0 ≡ false → c .current ≡ c .current - 1 + 1
+  current-is z = let q = eqb-false (c .current) 0 z in current-positive (c .current) q
+    where
+      current-positive : (n : ℕ) → (n ≡ 0 → ⊥) → n ≡ n - 1 + 1
+      current-positive zero q = absurd (q refl)
+      current-positive (suc n) q = omega arith
+
+  update-right : kind ≡ 128 → Right c m (update c s body)
+  unfolding update
+  update-right k =
+      by-test (eqb (c .current) 0)
+      (λ z. rw z (message-refused c s h m 27 (omega arith) (omega arith)))
+      (λ z.
+      let table = c .current - 1 in
+      let t = getD (s .tables) table noTable in
+      rw z
+      (with-right table (updateFields t body) (current-is z)
+      (λ u n q. (
+        update-id t body u n body-bytes q,
+        update-within t body u n q .0,
+        (λ l f. explicit-is (at (l .last) (l .current)) ∙ update-explicit m kind start end t u n e start-inside q),
+      ))))
+    where
+      explicit-is : (x : Option ℕ) → updateId m x ≡ explicitId m
+      explicit-is x = unfold updateId in cond-false (eqb (kindOf m) 129) (nextId x) (explicitId m) (ne-eqb (kindOf m) 129 (λ w. let z : ⊥ = omega (arith, kind-is) in z))
+
+  -- the ledger's next ID
+  next-is : kind ≡ 129 → (table : ℕ) → c .current ≡ table + 1 → isUpdated (bindingAt c table) ≡ true → (l : Ledger) → Follows c l
+      → updateId m (at (l .last) (l .current)) ≡ followingId (bindingAt c table .previous)
+  unfolding updateId at nextId followingId
+  next-is k table now y l f =
+      let a : l .current ≡ some table = f .current ∙ current-some c table now in
+      let b : at (l .last) (l .current) ≡ some (bindingAt c table .previous) = ap (at (l .last)) a ∙ (f .last table ∙ last-some c table y) in
+      cond-true (eqb (kindOf m) 129) (nextId (at (l .last) (l .current))) (explicitId m) (eq-eqb (kindOf m) 129 (kind-is ∙ k)) ∙ ap nextId b
+
+  following-small : (x : ℕ) → followingId x < 2 ^ 32
+  unfolding followingId
+  following-small x = omega arith
+
+  incremental-right : kind ≡ 129 → Right c m (incremental c s body)
+  unfolding incremental incrementalOf
+  incremental-right k =
+      by-test (eqb (c .current) 0)
+      (λ z. rw z (message-refused c s h m 27 (omega arith) (omega arith)))
+      (λ z.
+      let table = c .current - 1 in
+      let t = getD (s .tables) table noTable in
+      let now = current-is z in
+      rw z
+      (by-test (isUpdated (bindingAt c table))
+      (λ y.
+      rw y
+      (with-right table (incrementalFields t (followingId (bindingAt c table .previous)) body) now
+      (λ u n q.
+      let w = incremental-within t (followingId (bindingAt c table .previous)) body u n q in
+      (rw (w .0) (following-small (bindingAt c table .previous)), w .1, (λ l f. next-is k table now y l f ∙ sym (w .0))))))
+      (λ y. rw y (message-refused c s h m 28 (omega arith) (omega arith)))))
+
+  stick-right : Right c m (stickTable c s kind body)
+  unfolding stickTable
+  stick-right =
+      by-test (eqb kind 128)
+      (λ a. rw a (update-right (eqb-true kind 128 a)))
+      (λ a.
+      rw a
+      (by-test (eqb kind 129)
+      (λ b. rw b (incremental-right (eqb-true kind 129 b)))
+      (λ b.
+      rw b
+      (by-test (eqb kind 130)
+      (λ d. rw d definition-right)
+      (λ d.
+      rw d
+      (by-test (eqb kind 131)
+      (λ f. rw f (switch-right c s h m body))
+      (λ f.
+      rw f
+      (by-test (eqb kind 133) (λ g. rw g (acknowledgement-right c s h m body)) (λ g. rw g (skipped-right c s h m kind))))))))))
+
+module _ (c : Connection) (s : Store) (h : Held c s) (m : List ℕ) (mb : Bytes m) where
+  frame-right : (f : Frame) → judgeFrame m ≡ f → JudgedRight c m (frameJudged c s m f)
+  unfolding frameJudged
+  frame-right frame.Waiting e = tt
+  frame-right (frame.Control type) e = control-right c s h m type
+  frame-right (frame.Error type) e = error-right c s h m type
+  frame-right (frame.Body kind start end) e = stick-right c s h m mb kind start end e
+  frame-right (frame.Refused n) e =
+      let k = refused-number m n e in
+      refuse-right c s h m n (omega (arith, k .0)) (omega (arith, k .1)) (closing-message n (k .0) (omega (arith, k .1)))
+
+  pub judge-right : JudgedRight c m (judge c s m)
+  unfolding judge
+  judge-right =
+      by-test (eqb (c .phase) 0)
+      (λ a. rw a (hello-right c s h m (judgeHello (localName c) (remoteName c) m) refl))
+      (λ a.
+      rw a
+      (by-test (eqb (c .phase) 1)
+      (λ b. rw b (status-right c s h m (judgeStatus m) refl))
+      (λ b. rw b (frame-right (judgeFrame m) refl))))

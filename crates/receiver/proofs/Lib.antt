@@ -1,0 +1,14 @@
+pub mod Held
+pub mod OneRead
+pub mod Chained
+pub mod Claimed
+pub mod Offered
+pub mod Following
+pub mod Absorbing
+pub mod Laws
+pub mod FirstFields
+pub mod Lawfully
+pub mod Ending
+pub mod Demand3
+pub mod CasesHold
+pub mod ListingHolds

@@ -1,0 +1,164 @@
+-- The ledger of update IDs: "A table's last committed update ID is that of its latest accepted update of any kind, the one acknowledged
+-- included; before any, the start record's previous ID, if it has one." It is folded over the messages that ended, from the start record,
+-- and looks at no later record.
+use Prim.Native.Nat.{ℕ, suc, _+_, _-_, _%_, _^_}
+use mathlib.Core.Path.{_≡_}
+use mathlib.Core.List.{List, [], _∷_, _++_}
+use mathlib.Core.Bool.{Bool, true, false, cond, _&&_}
+use mathlib.Core.Option.{Option, some, none}
+use lib.ListN.{length, take, drop, getD}
+use lib.Dec.{ltb, eqb}
+use Rattle.wire.specs.declared.Int.{Int}
+use Rattle.wire.specs.declared.Int.the-variants as int
+use Rattle.wire.specs.declared.Number.{Number}
+use Rattle.wire.specs.declared.Number.the-variants as number
+use Rattle.wire.specs.Integer.{readInt}
+use Rattle.wire.specs.Number.{readNumber}
+use Rattle.session.specs.declared.Binding.{Binding}
+use Rattle.session.specs.declared.Connection.{Connection}
+use Rattle.session.specs.declared.Answer.{Answer}
+use Rattle.session.specs.declared.Answer.the-variants as answer
+use Rattle.session.specs.Session.{bindingAt, isBound, isUpdated}
+use Rattle.message.specs.Effects.{acknowledge}
+use Rattle.streams.specs.Model.{Ended}
+
+-- the current table's place, and of each place its bound ID and its last committed update ID
+pub record Ledger : Type 0 where
+  pub current : Option ℕ
+  pub bound : ℕ → Option ℕ
+  pub last : ℕ → Option ℕ
+
+-- ---- at the start
+
+unfoldable pub startLedger : Connection → Ledger
+startLedger c = record {
+  current = cond (eqb (c .current) 0) none (some (c .current - 1));
+  bound = λ place. cond (isBound (bindingAt c place)) (some (bindingAt c place .id)) none;
+  last = λ place. cond (isUpdated (bindingAt c place)) (some (bindingAt c place .previous)) none;
+}
+
+-- ---- what a message of class 10 says: its type, and the position of its body, after the encoded length
+
+unfoldable pub kindOf : List ℕ → ℕ
+kindOf message = getD message 1 0
+
+unfoldable pub afterInt : Int → ℕ
+afterInt (int.Value v next) = next
+afterInt int.Short = 0
+afterInt int.Overflow = 0
+
+unfoldable pub bodyStart : List ℕ → ℕ
+bodyStart message = afterInt (readInt message 2)
+
+unfoldable pub valueOf : Int → ℕ
+valueOf (int.Value v next) = v
+valueOf int.Short = 0
+valueOf int.Overflow = 0
+
+-- the sender's table ID of a definition
+unfoldable pub definedId : List ℕ → ℕ
+definedId message = valueOf (readInt message (bodyStart message))
+
+unfoldable pub numberValue : Number → ℕ
+numberValue (number.Value v next) = v
+numberValue number.Short = 0
+
+-- the 4-byte update ID of an update
+unfoldable pub explicitId : List ℕ → ℕ
+explicitId message = numberValue (readNumber message (bodyStart message))
+
+-- "Incremental has no ID: it is the table's previous ID plus one, and 4294967295 is followed by 0."
+unfoldable pub nextId : Option ℕ → ℕ
+nextId (some id) = (id + 1) % 2 ^ 32
+nextId none = 0
+
+unfoldable pub updateId : List ℕ → Option ℕ → ℕ
+updateId message previous = cond (eqb (kindOf message) 129) (nextId previous) (explicitId message)
+
+-- ---- a message
+
+unfoldable pub at : (ℕ → Option ℕ) → Option ℕ → Option ℕ
+at f (some place) = f place
+at f none = none
+
+-- "another table that had it loses it"
+unfoldable pub without : ℕ → Option ℕ → Option ℕ
+without id (some held) = cond (eqb held id) none (some held)
+without id none = none
+
+-- the table named by the answer becomes current, with the message's ID as its only one
+unfoldable pub defines : Ledger → ℕ → ℕ → Ledger
+defines l place id = record {
+  current = some place;
+  bound = λ p. cond (eqb p place) (some id) (without id (l .bound p));
+  last = l .last;
+}
+
+unfoldable pub switches : Ledger → ℕ → Ledger
+switches l place = record { current = some place; bound = l .bound; last = l .last }
+
+-- the current table has a new last committed update ID
+unfoldable pub commits : Ledger → Option ℕ → ℕ → Ledger
+commits l (some place) id = record {
+  current = l .current;
+  bound = l .bound;
+  last = λ p. cond (eqb p place) (some id) (l .last p);
+}
+commits l none id = l
+
+unfoldable pub post : Ledger → Ended Answer → Ledger
+post l e =
+    elim (e .answer) [
+      | answer.More ↦ l
+      | answer.Hello process relative ↦ l
+      | answer.Status ↦ l
+      | answer.Request ↦ l
+      | answer.Finished ↦ l
+      | answer.Partial ↦ l
+      | answer.Confirmed ↦ l
+      | answer.Heartbeat ↦ l
+      | answer.Error type ↦ l
+      | answer.Table place ↦ defines l place (definedId (e .message))
+      | answer.Switch place ↦ switches l place
+      | answer.Update table id entry how ↦ commits l (l .current) (updateId (e .message) (at (l .last) (l .current)))
+      | answer.Acknowledgement id update ↦ l
+      | answer.Skipped kind ↦ l
+      | answer.Refused n ↦ l
+    ]
+
+-- ---- acknowledgements
+
+-- class 10, type 133
+unfoldable pub isAcknowledgement : List ℕ → Bool
+isAcknowledgement reply = eqb (getD reply 0 0) 0x0A && eqb (getD reply 1 0) 0x85
+
+-- "every acknowledgement carries its table's last committed update ID", and its bound ID: the reply to an update of this table with this
+-- ID, after which the ledger is l
+pub record Carried (l : Ledger) (reply : List ℕ) (table update : ℕ) : Type 0 where
+  pub id : ℕ
+  pub current : l .current ≡ some table
+  pub bound : l .bound table ≡ some id
+  pub last : l .last table ≡ some update
+  pub carries : reply ≡ acknowledge id update
+
+-- "a committed update gives one acknowledgement"; no other message's reply is one
+abbrev pub RightReply : Ledger → List ℕ → Answer → Type 0
+RightReply l reply answer.More = isAcknowledgement reply ≡ false
+RightReply l reply (answer.Hello process relative) = isAcknowledgement reply ≡ false
+RightReply l reply answer.Status = isAcknowledgement reply ≡ false
+RightReply l reply answer.Request = isAcknowledgement reply ≡ false
+RightReply l reply answer.Finished = isAcknowledgement reply ≡ false
+RightReply l reply answer.Partial = isAcknowledgement reply ≡ false
+RightReply l reply answer.Confirmed = isAcknowledgement reply ≡ false
+RightReply l reply answer.Heartbeat = isAcknowledgement reply ≡ false
+RightReply l reply (answer.Error type) = isAcknowledgement reply ≡ false
+RightReply l reply (answer.Table place) = isAcknowledgement reply ≡ false
+RightReply l reply (answer.Switch place) = isAcknowledgement reply ≡ false
+RightReply l reply (answer.Update table id entry how) = Carried l reply table id
+RightReply l reply (answer.Acknowledgement id update) = isAcknowledgement reply ≡ false
+RightReply l reply (answer.Skipped kind) = isAcknowledgement reply ≡ false
+RightReply l reply (answer.Refused n) = isAcknowledgement reply ≡ false
+
+-- a message that ended, between the ledger before it and the ledger after it
+abbrev pub Acknowledged : Ledger → Ledger → Ended Answer → Type 0
+Acknowledged before after e = RightReply after (e .reply) (e .answer)
