@@ -1,0 +1,73 @@
+//! The seeded generator of scripts and captures.
+
+pub mod builder;
+pub mod calls;
+pub mod faults;
+pub mod greetings;
+pub mod profile;
+pub mod random;
+pub mod values;
+pub mod wire;
+
+use crate::record::Role;
+use crate::replay::session;
+use crate::store::Store;
+use calls::Script;
+use profile::Profile;
+use random::Random;
+
+/// The largest number of sessions of a stream.
+const SESSIONS: usize = 4;
+
+/// A script of `count` streams; stream n is the one of seed `seed + n` alone.
+pub fn script(seed: u64, count: u64) -> Vec<u8> {
+    let seeds = (0..count).map(|n| seed.wrapping_add(n));
+    seeds.flat_map(stream).collect()
+}
+
+/// The stream of one seed: one or more sessions on one store, and a dump.
+pub fn stream(seed: u64) -> Vec<u8> {
+    let mut random = Random::new(seed);
+    let profile = Profile::choose(&mut random);
+    let mut script = Script::new(role(&mut random));
+    one_session(&mut random, &profile, &mut script);
+    for _ in 1..SESSIONS {
+        if !random.chance(profile.reconnections) {
+            break;
+        }
+        reconnect(&mut random, &mut script);
+        one_session(&mut random, &profile, &mut script);
+    }
+    script.dump();
+    script.bytes
+}
+
+/// Adds one session to a script.
+fn one_session(random: &mut Random, profile: &Profile, script: &mut Script) {
+    let bytes = builder::session(random, profile, &script.record, &script.store);
+    script.send(random, profile, &bytes);
+}
+
+/// Adds a reconnection, sometimes after a dump.
+fn reconnect(random: &mut Random, script: &mut Script) {
+    if random.chance(200) && !script.is_full() {
+        script.dump();
+    }
+    script.reconnect(role(random));
+}
+
+/// A role; most sessions are an answerer's.
+fn role(random: &mut Random) -> Role {
+    match random.chance(650) {
+        true => Role::Answerer,
+        false => Role::Caller,
+    }
+}
+
+/// The bytes of one answerer's session, for the listing.
+pub fn capture(seed: u64) -> Vec<u8> {
+    let mut random = Random::new(seed ^ 0x5555_5555_5555_5555);
+    let profile = Profile::choose(&mut random);
+    let (record, _) = session(Role::Answerer);
+    builder::session(&mut random, &profile, &record, &Store::new())
+}

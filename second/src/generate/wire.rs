@@ -1,0 +1,233 @@
+//! Messages as lists of fields, so that each field can be cut or spoiled.
+
+use super::random::Random;
+use super::values::Shape;
+use crate::datatype;
+use crate::frame::TABLE_CLASS;
+use crate::integer::encode;
+use crate::message::{ACKNOWLEDGEMENT, DEFINITION, INCREMENTAL, SWITCH, UPDATE};
+use crate::store::{Times, STRING};
+
+/// A field of a body.
+#[derive(Clone, Debug)]
+pub struct Field {
+    /// Its bytes.
+    pub good: Vec<u8>,
+    /// Bytes in its place that are out of range, next to a limit.
+    pub near: Vec<Vec<u8>>,
+    /// Bytes in its place that are out of range, far from the limits.
+    pub far: Vec<Vec<u8>>,
+}
+
+impl Field {
+    /// A field whose bytes are all within range.
+    fn raw(bytes: &[u8]) -> Field {
+        Field {
+            good: bytes.to_vec(),
+            near: Vec::new(),
+            far: Vec::new(),
+        }
+    }
+
+    /// An encoded integer with values that are out of range.
+    fn integer(value: u64, near: &[u64], far: &[u64]) -> Field {
+        let far = far.iter().map(|&value| encode(value));
+        Field {
+            good: encode(value),
+            near: near.iter().map(|&value| encode(value)).collect(),
+            far: far.chain(overflows()).collect(),
+        }
+    }
+
+    /// An encoded integer of at most 32 bits.
+    fn integer_32(value: u64) -> Field {
+        Field::integer(value, &[1 << 32], &[(1 << 32) + 1, 4328786160, u64::MAX])
+    }
+
+    /// Whether there are bytes that are out of range.
+    fn can_be_bad(&self) -> bool {
+        !self.far.is_empty()
+    }
+
+    /// Bytes that are out of range.
+    fn bad(&self, random: &mut Random) -> Vec<u8> {
+        let list = match self.near.is_empty() || random.chance(300) {
+            true => &self.far,
+            false => &self.near,
+        };
+        list[random.below(list.len())].clone()
+    }
+}
+
+/// Encoded integers that overflow.
+pub fn overflows() -> Vec<Vec<u8>> {
+    let with = |first: u8, later: u8, last: u8| {
+        let mut bytes = vec![later; 10];
+        bytes[0] = first;
+        bytes[9] = last;
+        bytes
+    };
+    vec![
+        vec![0xF0, 0xF1, 0xFE, 0xFE, 0xFE, 0xFE, 0xFE, 0xFE, 0xFE, 0x0E],
+        with(0xFF, 0xFF, 0xFF),
+        with(0xF0, 0x80, 0x80),
+        with(0xF0, 0x80, 0x7F),
+        with(0xF0, 0x80, 0x0F),
+        with(0xFF, 0xFF, 0x0E),
+    ]
+}
+
+/// A table message.
+#[derive(Clone, Debug)]
+pub struct Message {
+    /// Its type.
+    pub kind: u8,
+    /// Its known fields.
+    pub fields: Vec<Field>,
+}
+
+impl Message {
+    /// The bytes of the known fields.
+    pub fn body(&self) -> Vec<u8> {
+        let parts = self.fields.iter().map(|field| &field.good[..]);
+        parts.collect::<Vec<_>>().concat()
+    }
+
+    /// The whole message.
+    pub fn bytes(&self) -> Vec<u8> {
+        table_message(self.kind, &self.body())
+    }
+
+    /// The message with ignored bytes after its known fields.
+    pub fn with_ignored(&self, ignored: &[u8]) -> Vec<u8> {
+        table_message(self.kind, &[&self.body()[..], ignored].concat())
+    }
+
+    /// The message with a body that ends inside its known fields.
+    pub fn cut(&self, random: &mut Random) -> Vec<u8> {
+        let body = self.body();
+        let length = random.below(body.len().max(1));
+        table_message(self.kind, &body[..length.min(body.len())])
+    }
+
+    /// The message with a field out of range; all of it or up to there.
+    pub fn out_of_range(&self, random: &mut Random) -> Option<Vec<u8>> {
+        let places = (0..self.fields.len()).filter(|&n| self.fields[n].can_be_bad());
+        let place = random.pick_any(&places.collect::<Vec<_>>())?;
+        let bad = self.fields[place].bad(random);
+        let whole = !random.chance(300);
+        Some(self.with_field(place, bad, whole))
+    }
+
+    /// The message with other bytes in place of a field; whole or up to it.
+    pub fn with_field(&self, place: usize, bytes: Vec<u8>, whole: bool) -> Vec<u8> {
+        let mut other = self.clone();
+        other.fields[place].good = bytes;
+        if !whole {
+            other.fields.truncate(place + 1);
+        }
+        other.bytes()
+    }
+}
+
+/// A table message with this type and body.
+pub fn table_message(kind: u8, body: &[u8]) -> Vec<u8> {
+    let mut bytes = vec![TABLE_CLASS, kind];
+    bytes.extend(encode(body.len() as u64));
+    bytes.extend_from_slice(body);
+    bytes
+}
+
+/// A definition.
+pub fn definition(id: u64, name: &[u8], shape: Shape, times: Option<&Times>) -> Message {
+    let (near, far) = bad_key_lengths(shape.key_type);
+    let mut fields = vec![
+        Field::integer_32(id),
+        Field::integer(name.len() as u64, &[0, 33], &[34, 239, 240, u64::MAX]),
+        Field::raw(name),
+        Field::integer(shape.key_type, &[5], &[6, 239, 240, u64::MAX]),
+        Field::integer(shape.key_length, near, far),
+        Field::integer(shape.data_types, &[1 << 19], &[1 << 20, 1 << 32, u64::MAX]),
+    ];
+    if let Some(times) = times {
+        fields.push(Field::integer_32(times.expiry));
+        let rates = datatype::rates(shape.data_types);
+        for (&rate, &period) in rates.iter().zip(&times.periods) {
+            fields.push(pair_number(rate));
+            fields.push(Field::integer_32(period));
+        }
+    }
+    Message {
+        kind: DEFINITION,
+        fields,
+    }
+}
+
+/// Key lengths that a key type doesn't allow, near and far.
+fn bad_key_lengths(key_type: u64) -> (&'static [u64], &'static [u64]) {
+    match key_type {
+        0 | 1 => (&[3, 5], &[0, 16, u64::MAX]),
+        2 => (&[15, 17], &[0, 4, 64, u64::MAX]),
+        _ => (&[0, 65], &[66, 240, u64::MAX]),
+    }
+}
+
+/// The number of a pair; all other data types are out of range.
+fn pair_number(rate: u32) -> Field {
+    let others: Vec<u64> = (0..20).filter(|&n| n != rate).map(u64::from).collect();
+    let number = u64::from(rate);
+    Field::integer(number, &others, &[number + 256, u64::MAX])
+}
+
+/// An update, or an incremental one where there is no ID.
+pub fn update(id: Option<u32>, key: &[u8], shape: Shape, values: &[u64]) -> Message {
+    let mut fields = Vec::new();
+    if let Some(id) = id {
+        fields.push(Field::raw(&id.to_be_bytes()));
+    }
+    if shape.key_type == STRING {
+        let near = [shape.key_length + 1];
+        let far = [65, 239, 240, u64::MAX];
+        fields.push(Field::integer(key.len() as u64, &near, &far));
+    }
+    fields.push(Field::raw(key));
+    let types = datatype::values(shape.data_types);
+    fields.extend(
+        types
+            .iter()
+            .zip(values)
+            .map(|(&number, &value)| value_field(number, value)),
+    );
+    Message {
+        kind: if id.is_some() { UPDATE } else { INCREMENTAL },
+        fields,
+    }
+}
+
+/// A value of an update.
+fn value_field(data_type: u32, value: u64) -> Field {
+    match data_type {
+        datatype::SERVER => {
+            let near = [1 << 31, u64::MAX - (1 << 31)];
+            Field::integer(value, &near, &[(1 << 32) - 1, 1 << 32, 1 << 63])
+        }
+        _ if datatype::is_wide(data_type) => Field::integer(value, &[], &[]),
+        _ => Field::integer_32(value),
+    }
+}
+
+/// A switch.
+pub fn switch(id: u64) -> Message {
+    Message {
+        kind: SWITCH,
+        fields: vec![Field::integer_32(id)],
+    }
+}
+
+/// An acknowledgement.
+pub fn acknowledgement(id: u64, update: u32) -> Message {
+    Message {
+        kind: ACKNOWLEDGEMENT,
+        fields: vec![Field::integer_32(id), Field::raw(&update.to_be_bytes())],
+    }
+}

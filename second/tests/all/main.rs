@@ -1,0 +1,15 @@
+//! The tests, in one program.
+
+mod calls;
+mod common;
+mod data;
+mod generator;
+mod handshake;
+mod integer;
+mod listing;
+mod long;
+mod messages;
+mod replay;
+mod sound;
+mod tables;
+mod updates;

@@ -1,0 +1,216 @@
+//! The replay script.
+
+use crate::common::{definition, message, timed, update, EXAMPLE, HELLO};
+use second::record::Role;
+use second::replay::{command, replay, Command};
+
+fn text(script: &[u8]) -> String {
+    String::from_utf8(replay(script)).unwrap()
+}
+
+/// A reading call.
+fn call(room: u8, piece: &[u8]) -> Vec<u8> {
+    let mut script = Vec::new();
+    Command::Call { room, piece }.write(&mut script);
+    script
+}
+
+/// A script of an open session.
+fn open() -> Vec<u8> {
+    [&b"O\0"[..], &call(12, HELLO)].concat()
+}
+
+const OPENED: &str = "open\ntook 27\nhello west 7 0\nreply 3230300A\n";
+
+#[test]
+fn commands_as_bytes() {
+    assert_eq!(call(200, b"abc"), b"C\xC8\0\x03abc");
+    let long = vec![9; 300];
+    assert_eq!(call(0, &long)[..4], *b"C\0\x01\x2C");
+    let commands = [
+        Command::Open(Role::Caller),
+        Command::Reconnect(Role::Answerer),
+        Command::Call {
+            room: 12,
+            piece: &long,
+        },
+        Command::Dump,
+    ];
+    for original in commands {
+        let mut script = Vec::new();
+        original.write(&mut script);
+        let (found, rest) = command(&script).unwrap();
+        assert_eq!((found, rest), (original, &[][..]));
+        for length in 0..script.len() {
+            assert_eq!(command(&script[..length]), None);
+        }
+    }
+}
+
+#[test]
+fn opening() {
+    assert_eq!(text(b"O\0"), "open\nend\n");
+    let hello = "48415072" // HAPr
+        .to_owned()
+        + "6F78795320322E310A776573740A656173742037"
+        + "20300A";
+    assert_eq!(text(b"O\x01"), format!("open\nreply {hello}\nend\n"));
+    assert_eq!(
+        text(b"O\0N\x01"),
+        format!("open\nopen\nreply {hello}\nend\n")
+    );
+}
+
+#[test]
+fn scripts_that_end() {
+    for script in [
+        &b""[..],
+        b"O",
+        b"X",
+        b"N\0",
+        b"D",
+        b"C\x0C\0\0",
+        b"\0",
+        b"o\0",
+    ] {
+        assert_eq!(text(script), "end\n");
+    }
+    let cut: [&[u8]; 8] = [
+        b"",
+        b"C",
+        b"C\x0C",
+        b"C\x0C\0",
+        b"C\x0C\0\x02A",
+        b"N",
+        b"O",
+        b"d",
+    ];
+    for end in cut {
+        let script = [b"O\0", end].concat();
+        assert_eq!(text(&script), "open\nend\n");
+    }
+    assert_eq!(text(b"O\0XO\0"), "open\nend\n");
+    assert_eq!(text(b"O\x02D"), "end\n");
+    assert_eq!(text(b"O\0N\xFFD"), "open\nend\n");
+}
+
+#[test]
+fn calls() {
+    let script = [
+        &open()[..],
+        &call(12, &[]),
+        &call(11, &[0, 1]),
+        &call(0, &[]),
+        &call(40, &[0]),
+        &call(12, &[1, 0, 4]),
+        &call(255, &[0, 5]),
+        &call(12, &[0, 5]),
+        &call(5, &[0, 5]),
+    ];
+    let expected = "took 0\nmore\n\
+        took 0\nrefused 1\n\
+        took 0\nrefused 1\n\
+        took 1\nmore\n\
+        took 1\nfinished\nreply 0003\n\
+        took 2\nrefused 20\nreply 0100\n\
+        took 0\nrefused 2\n\
+        took 0\nrefused 1\n\
+        end\n";
+    assert_eq!(text(&script.concat()), format!("{OPENED}{expected}"));
+}
+
+#[test]
+fn dumps_of_empty_sessions() {
+    assert_eq!(
+        text(b"O\0D"),
+        "open\nsession handshake\nunfinished -\ncurrent -\nend\n"
+    );
+    let script = [&open()[..], b"D"].concat();
+    let expected = "session open\nunfinished -\ncurrent -\nend\n";
+    assert_eq!(text(&script), format!("{OPENED}{expected}"));
+    let script = [&open()[..], &call(12, &[1, 0]), b"D"].concat();
+    let expected = "took 2\nerror 0\nsession closed 0\nunfinished -\ncurrent -\nend\n";
+    assert_eq!(text(&script), format!("{OPENED}{expected}"));
+}
+
+/// The output of the last dump of a script.
+fn last_dump(script: &[u8]) -> String {
+    let output = text(script);
+    let start = output.rfind("session ").unwrap();
+    output[start..].to_owned()
+}
+
+#[test]
+fn a_dump_with_all_lines() {
+    let rates = 1 << 3 | 1 << 5;
+    let messages = [
+        message(130, &timed(300, b"a", [0, 4, 1 | 1 << 13], &[60000])),
+        message(128, &update(5, &[0, 0, 0, 42], &[u64::MAX, u64::MAX])),
+        message(130, &timed(1, b"b", [3, 8, rates], &[7, 3, 8, 5, 9])),
+        message(128, &[0, 0, 0, 9, 0, 1, 2, 3, 4, 5, 6]),
+        message(129, &[2, b'A', b'B', 1, 2, 3, 4, 5, 6]),
+        message(130, &definition(4, b"c", [4, 2, 0])),
+        vec![10, 128, 5, 0xAB],
+    ];
+    let mut script = open();
+    for message in &messages {
+        script.extend(call(12, message));
+    }
+    script.push(b'D');
+    let expected = "session open
+unfinished 0A8005AB
+current 2
+bound 0 300
+previous 0 5
+bound 1 1
+previous 1 10
+bound 2 4
+table 0 61 0 4 8193 60000
+table 1 62 3 8 40 7 8 9
+table 2 63 4 2 0 -
+entry 0 0 0000002A -1 18446744073709551615
+entry 1 1 - 1 2 3 4 5 6
+entry 2 1 4142 1 2 3 4 5 6
+end
+";
+    assert_eq!(last_dump(&script), expected);
+}
+
+#[test]
+fn a_closed_session_keeps_its_tables_and_ids() {
+    let mut script = open();
+    for piece in [&EXAMPLE[27..40], &EXAMPLE[40..54], &[0, 5]] {
+        script.extend(call(12, piece));
+    }
+    script.push(b'D');
+    let expected = "session closed 20
+unfinished -
+current 0
+bound 0 1
+previous 0 4294967295
+table 0 7431 0 4 4 60000
+entry 0 0 0000002A 4660
+end
+";
+    assert_eq!(last_dump(&script), expected);
+}
+
+#[test]
+fn a_reconnection_keeps_the_store() {
+    let mut script = open();
+    for piece in [&EXAMPLE[27..40], &EXAMPLE[40..54]] {
+        script.extend(call(12, piece));
+    }
+    script.extend(b"N\x01D");
+    let expected = "session handshake
+unfinished -
+current -
+table 0 7431 0 4 4 60000
+entry 0 0 0000002A 4660
+end
+";
+    assert_eq!(last_dump(&script), expected);
+    script.extend(b"O\0D");
+    let expected = "session handshake\nunfinished -\ncurrent -\nend\n";
+    assert_eq!(last_dump(&script), expected);
+}

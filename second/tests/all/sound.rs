@@ -1,0 +1,412 @@
+//! Soundness, row by row and in both directions.
+
+use crate::common::{definition, table, timed, update, Session};
+use second::record::{Phase, Record, Role};
+use second::sound::*;
+use second::store::{Entry, Store};
+
+const MAX: u64 = 4294967295;
+const RATES: u64 = 1 << 3 | 1 << 18;
+
+/// A session with three tables and entries of each.
+fn base() -> Session {
+    let mut session = Session::with_tables(&[
+        &timed(1, b"a", [0, 4, 1 | 1 << 2 | 1 << 13], &[5]),
+        &timed(2, b"b", [3, 10, RATES], &[5, 3, 6, 18, 7]),
+        &definition(3, b"c", [4, 64, 0]),
+    ]);
+    session.one(128, &update(9, &[7; 64], &[]));
+    session.one(131, &[2]);
+    let string = [&[0, 0, 0, 1, 3], &b"key"[..], &[1, 2, 3, 4, 5, 6]].concat();
+    session.one(128, &string);
+    session.one(131, &[1]);
+    session.one(128, &update(3, &[1, 2, 3, 4], &[5, MAX, u64::MAX]));
+    assert!(is_sound(&session.record, &session.store));
+    session
+}
+
+type StoreRow = fn(&Store) -> bool;
+
+const STORE_ROWS: [(&str, StoreRow); 14] = [
+    ("name length", names_are_within_limits),
+    ("key type", key_types_are_known),
+    ("key length", key_lengths_match_types),
+    ("data types", data_types_are_known),
+    ("expiry", expiries_are_32_bit),
+    ("period count", period_counts_match),
+    ("period", periods_are_32_bit),
+    ("distinct names", names_are_distinct),
+    ("entry table", entry_tables_are_held),
+    ("entry key length", entry_key_lengths_match),
+    ("entry padding", entry_keys_are_padded),
+    ("value count", value_counts_match),
+    ("value", values_are_within_range),
+    ("distinct entries", entries_are_distinct),
+];
+
+/// Changes the store; exactly the named rows must fail, or none.
+fn store_case(rows: &[&str], change: impl Fn(&mut Store)) {
+    let mut session = base();
+    change(&mut session.store);
+    for (name, row) in STORE_ROWS {
+        assert_eq!(row(&session.store), !rows.contains(&name), "{name}");
+    }
+    assert_eq!(store_is_sound(&session.store), rows.is_empty());
+    if !rows.is_empty() {
+        assert!(!is_sound(&session.record, &session.store));
+    }
+}
+
+/// Changes the table at place 0 and frees its entry.
+fn table_case(rows: &[&str], change: impl Fn(&mut second::store::Table)) {
+    store_case(rows, |store| {
+        store.entries[2] = None;
+        change(store.tables[0].as_mut().unwrap());
+    });
+}
+
+/// Changes the entry at a place.
+fn entry_case(rows: &[&str], place: usize, change: impl Fn(&mut Entry)) {
+    store_case(rows, |store| change(store.entries[place].as_mut().unwrap()));
+}
+
+#[test]
+fn a_sound_store() {
+    store_case(&[], |_| {});
+    assert!(store_is_sound(&Store::new()));
+}
+
+#[test]
+fn table_names() {
+    table_case(&["name length"], |table| table.name = vec![]);
+    table_case(&["name length"], |table| table.name = vec![b'n'; 33]);
+    table_case(&[], |table| table.name = vec![0; 32]);
+    table_case(&[], |table| table.name = vec![255]);
+    table_case(&["distinct names"], |table| table.name = b"b".to_vec());
+    table_case(&[], |table| table.name = b"b\0".to_vec());
+}
+
+#[test]
+fn table_shapes() {
+    table_case(&["key type"], |table| table.key_type = 5);
+    table_case(&["key type"], |table| table.key_type = u64::MAX);
+    table_case(&[], |table| table.key_type = 1);
+    table_case(&["key length"], |table| table.key_type = 2);
+    for (key_type, length, good) in [
+        (0, 3, false),
+        (1, 5, false),
+        (2, 16, true),
+        (2, 15, false),
+        (3, 0, false),
+        (3, 1, true),
+        (3, 64, true),
+        (3, 65, false),
+        (4, 0, false),
+        (4, 64, true),
+        (4, 65, false),
+    ] {
+        let rows: &[&str] = if good { &[] } else { &["key length"] };
+        table_case(rows, |table| {
+            table.key_type = key_type;
+            table.key_length = length;
+        });
+    }
+    table_case(&["data types"], |table| table.data_types |= 1 << 19);
+    table_case(&["data types"], |table| table.data_types |= 1 << 63);
+    table_case(&[], |table| table.data_types |= 1 << 17);
+}
+
+#[test]
+fn table_times() {
+    table_case(&[], |table| table.times.as_mut().unwrap().expiry = MAX);
+    table_case(&["expiry"], |table| {
+        table.times.as_mut().unwrap().expiry = MAX + 1
+    });
+    table_case(&["period count"], |table| {
+        table.times.as_mut().unwrap().periods = vec![1]
+    });
+    table_case(&["period count"], |table| table.data_types |= 1 << 3);
+    table_case(&[], |table| table.times = None);
+    let period = |value: u64| {
+        move |store: &mut Store| {
+            let table = store.tables[1].as_mut().unwrap();
+            table.times.as_mut().unwrap().periods[1] = value;
+        }
+    };
+    store_case(&[], period(MAX));
+    store_case(&["period"], period(MAX + 1));
+    let without = |store: &mut Store| store.tables[1].as_mut().unwrap().times = None;
+    store_case(&[], without);
+}
+
+#[test]
+fn entry_tables() {
+    entry_case(&["entry table"], 2, |entry| entry.table = 3);
+    entry_case(&["entry table"], 2, |entry| entry.table = 7);
+    entry_case(&["entry table"], 2, |entry| entry.table = 8);
+    entry_case(&["entry table"], 2, |entry| entry.table = usize::MAX);
+    store_case(&["entry table"], |store| store.tables[2] = None);
+}
+
+#[test]
+fn entry_keys() {
+    entry_case(&["entry key length", "entry padding"], 2, |entry| {
+        entry.key_length = 3
+    });
+    entry_case(&["entry key length"], 2, |entry| entry.key_length = 5);
+    entry_case(&["entry key length"], 2, |entry| {
+        entry.key_length = usize::MAX
+    });
+    entry_case(&["entry padding"], 2, |entry| entry.key[4] = 1);
+    entry_case(&["entry padding"], 2, |entry| entry.key[63] = 1);
+    entry_case(&[], 2, |entry| entry.key[3] = 0);
+    entry_case(&["entry padding"], 1, |entry| entry.key_length = 2);
+    entry_case(&[], 1, |entry| entry.key_length = 10);
+    entry_case(&["entry key length"], 1, |entry| entry.key_length = 11);
+    entry_case(&[], 1, |entry| {
+        entry.key = [0; 64];
+        entry.key_length = 0;
+    });
+    entry_case(&["entry key length"], 0, |entry| entry.key_length = 65);
+}
+
+#[test]
+fn entry_values() {
+    entry_case(&[], 2, |entry| entry.values[0] = (1 << 31) - 1);
+    entry_case(&["value"], 2, |entry| entry.values[0] = 1 << 31);
+    entry_case(&[], 2, |entry| entry.values[0] = u64::MAX - (1 << 31) + 1);
+    entry_case(&["value"], 2, |entry| {
+        entry.values[0] = u64::MAX - (1 << 31)
+    });
+    entry_case(&["value"], 2, |entry| entry.values[1] = MAX + 1);
+    entry_case(&[], 2, |entry| entry.values[2] = 0);
+    for place in 0..6 {
+        entry_case(&[], 1, |entry| entry.values[place] = MAX);
+        entry_case(&["value"], 1, |entry| entry.values[place] = MAX + 1);
+    }
+    entry_case(&["value count"], 2, |entry| entry.values.truncate(2));
+    entry_case(&["value count"], 2, |entry| entry.values.push(0));
+}
+
+#[test]
+fn distinct_entries() {
+    let copy = |store: &mut Store| store.entries[127] = store.entries[2].clone();
+    store_case(&["distinct entries"], copy);
+    store_case(&["distinct entries"], |store| {
+        copy(store);
+        store.entries[127].as_mut().unwrap().values = vec![0; 3];
+    });
+    store_case(&[], |store| {
+        copy(store);
+        store.entries[127].as_mut().unwrap().key[0] ^= 1;
+    });
+    store_case(&[], |store| {
+        store.entries[90] = Some(Entry::new(1, b"key\0", vec![0; 6]));
+    });
+    store_case(&[], |store| {
+        store.tables[5] = Some(table(b"f", [0, 4, 0], None));
+        store.entries[127] = Some(Entry::new(5, &[1, 2, 3, 4], vec![]));
+    });
+}
+
+type RecordRow = fn(&Record, &Store) -> bool;
+
+const RECORD_ROWS: [(&str, RecordRow); 11] = [
+    ("number", |record, _| closing_number_is_known(record)),
+    ("names", |record, _| both_names_are_names(record)),
+    ("bound range", |record, _| bound_ids_are_32_bit(record)),
+    ("previous range", |record, _| {
+        previous_ids_are_32_bit(record)
+    }),
+    ("bound held", bound_tables_are_held),
+    ("previous held", previous_tables_are_held),
+    ("current held", current_table_is_held),
+    ("current bound", |record, _| current_table_is_bound(record)),
+    ("bound twice", |record, _| bound_ids_are_distinct(record)),
+    ("closed", |record, _| closed_has_no_unfinished(record)),
+    ("unfinished", |record, _| unfinished_shows_nothing(record)),
+];
+
+/// Changes the record; exactly the named rows must fail, or none.
+fn record_case(rows: &[&str], change: impl Fn(&mut Record)) {
+    let mut session = base();
+    change(&mut session.record);
+    for (name, row) in RECORD_ROWS {
+        let holds = row(&session.record, &session.store);
+        assert_eq!(holds, !rows.contains(&name), "{name}");
+    }
+    let sound = is_sound(&session.record, &session.store);
+    assert_eq!(sound, rows.is_empty());
+}
+
+#[test]
+fn a_sound_record() {
+    record_case(&[], |_| {});
+    for role in [Role::Answerer, Role::Caller] {
+        assert!(is_sound(&crate::common::record(role), &Store::new()));
+        assert!(is_sound(&crate::common::record(role), &base().store));
+    }
+}
+
+#[test]
+fn closing_numbers() {
+    for number in 0..=255 {
+        let good = matches!(number, 0 | 1 | 3 | 10..=15 | 20..=29);
+        let rows: &[&str] = if good { &[] } else { &["number"] };
+        record_case(rows, |record| record.phase = Phase::Closed(number));
+    }
+}
+
+#[test]
+fn record_names() {
+    let names: [(&[u8], bool); 6] = [
+        (b"", false),
+        (&[b'n'; 32], true),
+        (&[b'n'; 33], false),
+        (b"a b", false),
+        (b"a\x7F", false),
+        (b"!~", true),
+    ];
+    for (name, good) in names {
+        let rows: &[&str] = if good { &[] } else { &["names"] };
+        record_case(rows, |record| record.our_name = name.to_vec());
+        record_case(rows, |record| record.peer_name = name.to_vec());
+    }
+}
+
+#[test]
+fn ids_of_tables() {
+    record_case(&[], |record| record.bound[0] = Some(MAX));
+    record_case(&["bound range"], |record| record.bound[0] = Some(MAX + 1));
+    record_case(&[], |record| record.previous[0] = Some(MAX));
+    record_case(&["previous range"], |record| {
+        record.previous[0] = Some(MAX + 1)
+    });
+    record_case(&["bound held"], |record| record.bound[3] = Some(50));
+    record_case(&["previous held"], |record| record.previous[7] = Some(50));
+    record_case(&["bound twice"], |record| record.bound[0] = Some(2));
+    record_case(&[], |record| record.bound[1] = None);
+    record_case(&[], |record| record.previous = [None; 8]);
+    record_case(&[], |record| record.previous[1] = record.previous[0]);
+}
+
+#[test]
+fn current_marks() {
+    record_case(&[], |record| record.current = None);
+    record_case(&[], |record| record.current = Some(1));
+    record_case(&["current held", "current bound"], |record| {
+        record.current = Some(3)
+    });
+    record_case(&["current held", "current bound"], |record| {
+        record.current = Some(8)
+    });
+    record_case(&["current bound"], |record| record.bound[0] = None);
+}
+
+#[test]
+fn well_formed_ids_in_the_handshake() {
+    record_case(&[], |record| record.phase = Phase::Handshake);
+}
+
+#[test]
+fn unfinished_bytes_of_messages() {
+    let with = |bytes: &[u8]| {
+        let bytes = bytes.to_vec();
+        move |record: &mut Record| record.unfinished = bytes.clone()
+    };
+    let good: [&[u8]; 6] = [
+        &[0],
+        &[255],
+        &[10, 128],
+        &[10, 128, 0xF0],
+        &[10, 128, 2, 0],
+        &[
+            10, 255, 0xFF, 0xFF, 0xFF, 0xFF, 0xFF, 0xFF, 0xFF, 0xFF, 0xFF,
+        ],
+    ];
+    for bytes in good {
+        record_case(&[], with(bytes));
+    }
+    let bad: [&[u8]; 8] = [
+        &[0, 0],
+        &[0, 1, 10],
+        &[2, 0],
+        &[10, 127, 5],
+        &[10, 128, 0],
+        &[10, 132, 1, 7, 0],
+        &[10, 128, 0xF1, 0x31],
+        &[
+            10, 128, 0xFF, 0xFF, 0xFF, 0xFF, 0xFF, 0xFF, 0xFF, 0xFF, 0xFF, 0xFF,
+        ],
+    ];
+    for bytes in bad {
+        record_case(&["unfinished"], with(bytes));
+    }
+    let mut longest = vec![10, 255, 0xF0, 0x31];
+    longest.resize(1027, 1);
+    record_case(&[], with(&longest));
+    longest.push(1);
+    record_case(&["unfinished"], with(&longest));
+    longest.push(1);
+    record_case(&["unfinished"], with(&longest));
+}
+
+#[test]
+fn unfinished_bytes_of_handshakes() {
+    let with = |role: Role, bytes: &[u8]| {
+        let bytes = bytes.to_vec();
+        move |record: &mut Record| {
+            record.phase = Phase::Handshake;
+            record.role = role;
+            record.unfinished = bytes.clone();
+        }
+    };
+    record_case(&[], with(Role::Caller, b"xyz"));
+    record_case(&["unfinished"], with(Role::Caller, b"200\n"));
+    record_case(&["unfinished"], with(Role::Caller, b"xyz1"));
+    record_case(&["unfinished"], with(Role::Caller, b"xyz12"));
+    record_case(&[], with(Role::Answerer, b"xyz12\n\n"));
+    record_case(&["unfinished"], with(Role::Answerer, b"xyz12\n\n\n"));
+    record_case(&["unfinished"], with(Role::Answerer, b"xyz12\n\n\nw"));
+    record_case(&[], with(Role::Answerer, &[b'x'; 64]));
+    record_case(&["unfinished"], with(Role::Answerer, &[b'x'; 65]));
+    let line = [b'x'; 64];
+    let longest = [&line[..], b"\n", &line, b"\n", &line].concat();
+    record_case(&[], with(Role::Answerer, &longest));
+    let longer = [&longest[..], b"x"].concat();
+    record_case(&["unfinished"], with(Role::Answerer, &longer));
+}
+
+#[test]
+fn unfinished_bytes_of_a_closed_record() {
+    record_case(&["closed"], |record| {
+        record.phase = Phase::Closed(0);
+        record.unfinished = vec![0];
+    });
+}
+
+#[test]
+fn refused_openings() {
+    let store = base().store;
+    for number in [1, 3] {
+        let record = Record::refused(number);
+        assert!(is_refused_opening(&record));
+        assert!(is_sound(&record, &store));
+        assert!(is_sound(&record, &Store::new()));
+        let changes: [fn(&mut Record); 5] = [
+            |record| record.our_name = b"east".to_vec(),
+            |record| record.role = Role::Caller,
+            |record| record.unfinished = vec![0],
+            |record| record.current = Some(0),
+            |record| record.bound[0] = Some(0),
+        ];
+        for change in changes {
+            let mut changed = record.clone();
+            change(&mut changed);
+            assert!(!is_sound(&changed, &store));
+        }
+    }
+    for number in [0, 2, 4, 10, 20] {
+        assert!(!is_sound(&Record::refused(number), &store));
+    }
+}
