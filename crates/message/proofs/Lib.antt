@@ -5,3 +5,5 @@ pub mod Acknowledging
 pub mod Committing
 pub mod Updating
 pub mod Kept
+pub mod Ignored
+pub mod Refused

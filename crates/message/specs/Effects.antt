@@ -32,7 +32,7 @@ pub record Effect : Type 0 where
 unfoldable pub refuse : Connection → Store → ℕ → Effect
 refuse c s n = record { answer = answer.Refused n; reply = refusalReply n; connection = closedWith c n; store = s }
 
--- an accepted message that changes nothing
+-- an accepted message that leaves the store as it is
 unfoldable pub note : Connection → Store → Answer → List ℕ → Effect
 note c s a reply = record { answer = a; reply = reply; connection = c; store = s }
 
