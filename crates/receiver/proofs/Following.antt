@@ -282,13 +282,13 @@ module _ (c : Connection) (table id : ℕ) (h : table < 8) (long : length (c .bi
       (eq-or-ne p table)
 
   -- the ledger after the update
-  pub after-commit : Follows (committed c table id) (commits l (l .current) id)
+  pub after-commit : Follows (committed c table id) (commits l (l .current) (some id))
   after-commit =
-      subst (λ (o : Option ℕ). Follows (committed c table id) (commits l o id)) (sym ledger-current)
+      subst (λ (o : Option ℕ). Follows (committed c table id) (commits l o (some id))) (sym ledger-current)
       (unfold commits in record { current = commits-current; bound = commits-bound; last = commits-last })
 
   pub carried : isBound (bindingAt c table) ≡ true
-      → Carried (commits l (l .current) id) (acknowledge (bindingAt (committed c table id) table .id) (bindingAt (committed c table id) table .previous)) table id
+      → Carried (commits l (l .current) (some id)) (acknowledge (bindingAt (committed c table id) table .id) (bindingAt (committed c table id) table .previous)) table id
   carried b = record {
     id = bindingAt c table .id;
     current = after-commit .current ∙ (sym commits-current ∙ ledger-current);
@@ -301,7 +301,7 @@ module _ (c : Connection) (table id : ℕ) (h : table < 8) (long : length (c .bi
 
 pub commit-follow : (c : Connection) (s : Store) (table id : ℕ) (e : Entry) (place : ℕ) (how : Commit) (m : List ℕ) → table < 8
     → length (c .bindings) ≡ 8 → c .current ≡ table + 1 → isBound (bindingAt c table) ≡ true
-    → ((l : Ledger) → Follows c l → updateId m (at (l .last) (l .current)) ≡ id)
+    → ((l : Ledger) → Follows c l → updateId m (at (l .last) (l .current)) ≡ some id)
     → Follow c m (commitAt c s table id e place how)
 unfolding commitAt post
 commit-follow c s table id e place how m h long now b ids = record {

@@ -5,7 +5,7 @@ use native.Mathlib.Omega.{arith}
 use mathlib.Core.Path.{_≡_, refl, sym, ap, subst, _∙_}
 use mathlib.Core.List.{List, [], _∷_, _++_}
 use mathlib.Core.Bool.{Bool, true, false, cond, not, _&&_, _||_}
-use mathlib.Core.Option.{Option, some}
+use mathlib.Core.Option.{Option, some, none}
 use lib.ListN.{length, take, drop, getD}
 use lib.Dec.{eqb, ltb, leb, lit<}
 use borrow.Author.Tests.{eq-eqb, ne-eqb, eqb-true, eqb-false, le-leb, lt-leb}
@@ -227,7 +227,7 @@ module _ (c : Connection) (s : Store) (h : Held c s) (m : List ℕ) where
 
   -- ---- updates
 
-  module _ (table : ℕ) (now : c .current ≡ table + 1) (id : ℕ) (ids : (l : Ledger) → Follows c l → updateId m (at (l .last) (l .current)) ≡ id) (e : Entry) where
+  module _ (table : ℕ) (now : c .current ≡ table + 1) (id : ℕ) (ids : (l : Ledger) → Follows c l → updateId m (at (l .last) (l .current)) ≡ some id) (e : Entry) where
     small : table < 8
     small = let l = h .connection .currentLimit in omega arith
 
@@ -289,7 +289,7 @@ module _ (c : Connection) (s : Store) (h : Held c s) (m : List ℕ) (mb : Bytes 
   -- the fields of an update of the current table, and its ID
   with-right : (table : ℕ) (r : Read Update) → c .current ≡ table + 1
       → ((u : Update) (n : ℕ) → r ≡ got u n → (u .id < 2 ^ 32) × UpdateWithin (getD (s .tables) table noTable) body u
-      × ((l : Ledger) → Follows c l → updateId m (at (l .last) (l .current)) ≡ u .id))
+      × ((l : Ledger) → Follows c l → updateId m (at (l .last) (l .current)) ≡ some (u .id)))
       → Right c m (withFields c s body table r)
   unfolding withFields
   with-right table r now facts =
@@ -306,6 +306,12 @@ module _ (c : Connection) (s : Store) (h : Held c s) (m : List ℕ) (mb : Bytes 
       current-positive zero q = absurd (q refl)
       current-positive (suc n) q = omega arith
 
+  explicit-is : kind ≡ 128 → (x : Option ℕ) → updateId m x ≡ some (explicitId m)
+  unfolding updateId
+  explicit-is k x =
+      cond-false (eqb (kindOf m) 129) (nextId x) _ (ne-eqb (kindOf m) 129 (λ w. let z : ⊥ = omega (arith, kind-is) in z))
+      ∙ cond-true (eqb (kindOf m) 128) (some (explicitId m)) none (eq-eqb (kindOf m) 128 (kind-is ∙ k))
+
   update-right : kind ≡ 128 → Right c m (update c s body)
   unfolding update
   update-right k =
@@ -319,20 +325,17 @@ module _ (c : Connection) (s : Store) (h : Held c s) (m : List ℕ) (mb : Bytes 
       (λ u n q. (
         update-id t body u n body-bytes q,
         update-within t body u n q .0,
-        (λ l f. explicit-is (at (l .last) (l .current)) ∙ update-explicit m kind start end t u n e start-inside q),
+        (λ l f. explicit-is k (at (l .last) (l .current)) ∙ ap some (update-explicit m kind start end t u n e start-inside q)),
       ))))
-    where
-      explicit-is : (x : Option ℕ) → updateId m x ≡ explicitId m
-      explicit-is x = unfold updateId in cond-false (eqb (kindOf m) 129) (nextId x) (explicitId m) (ne-eqb (kindOf m) 129 (λ w. let z : ⊥ = omega (arith, kind-is) in z))
 
   -- the ledger's next ID
   next-is : kind ≡ 129 → (table : ℕ) → c .current ≡ table + 1 → isUpdated (bindingAt c table) ≡ true → (l : Ledger) → Follows c l
-      → updateId m (at (l .last) (l .current)) ≡ followingId (bindingAt c table .previous)
+      → updateId m (at (l .last) (l .current)) ≡ some (followingId (bindingAt c table .previous))
   unfolding updateId at nextId followingId
   next-is k table now y l f =
       let a : l .current ≡ some table = f .current ∙ current-some c table now in
       let b : at (l .last) (l .current) ≡ some (bindingAt c table .previous) = ap (at (l .last)) a ∙ (f .last table ∙ last-some c table y) in
-      cond-true (eqb (kindOf m) 129) (nextId (at (l .last) (l .current))) (explicitId m) (eq-eqb (kindOf m) 129 (kind-is ∙ k)) ∙ ap nextId b
+      cond-true (eqb (kindOf m) 129) (nextId (at (l .last) (l .current))) _ (eq-eqb (kindOf m) 129 (kind-is ∙ k)) ∙ ap nextId b
 
   following-small : (x : ℕ) → followingId x < 2 ^ 32
   unfolding followingId
@@ -354,7 +357,7 @@ module _ (c : Connection) (s : Store) (h : Held c s) (m : List ℕ) (mb : Bytes 
       (with-right table (incrementalFields t (followingId (bindingAt c table .previous)) body) now
       (λ u n q.
       let w = incremental-within t (followingId (bindingAt c table .previous)) body u n q in
-      (rw (w .0) (following-small (bindingAt c table .previous)), w .1, (λ l f. next-is k table now y l f ∙ sym (w .0))))))
+      (rw (w .0) (following-small (bindingAt c table .previous)), w .1, (λ l f. next-is k table now y l f ∙ ap some (sym (w .0)))))))
       (λ y. rw y (message-refused c s h m 28 (omega arith) (omega arith)))))
 
   stick-right : Right c m (stickTable c s kind body)

@@ -10,5 +10,6 @@ pub mod FirstFields
 pub mod Lawfully
 pub mod Ending
 pub mod Demand3
+pub mod Corollaries
 pub mod CasesHold
 pub mod ListingHolds

@@ -3,9 +3,9 @@ use Prim.Native.Nat.{ℕ, _^_, _-_}
 use mathlib.Core.Path.{_≡_, refl}
 use mathlib.Core.List.{List, [], _∷_, _++_, map}
 use mathlib.Core.Bool.{Bool, true, false, _&&_}
-use lib.ListN.{length, drop}
+use lib.ListN.{length, replicate}
 use lib.Dec.{eqb}
-use lib.IntN.{ℤ, negsuc}
+use lib.IntN.{ℤ, pos, negsuc}
 use Rattle.lists.specs.Lists.{every, eqBytes}
 use Rattle.wire.specs.declared.Int.{Int}
 use Rattle.wire.specs.declared.Int.the-variants as int
@@ -55,10 +55,16 @@ isOverflow (int.Value w n) = false
 isOverflow int.Short = false
 isOverflow int.Overflow = true
 
-unfoldable pub isServer : ℤ → ServerId → Bool
-isServer id (server.Id k n) = eqb (serverWord id) (serverWord k)
-isServer id server.Short = false
-isServer id server.OutOfRange = false
+abbrev sameInteger : ℤ → ℤ → Bool
+sameInteger (pos m) (pos n) = eqb m n
+sameInteger (pos m) (negsuc n) = false
+sameInteger (negsuc m) (pos n) = false
+sameInteger (negsuc m) (negsuc n) = eqb m n
+
+unfoldable pub isServer : ℤ → ℕ → ServerId → Bool
+isServer id next (server.Id k n) = sameInteger id k && eqb next n
+isServer id next server.Short = false
+isServer id next server.OutOfRange = false
 
 unfoldable pub lastReply : List (Ended Answer) → List ℕ
 lastReply [] = []
@@ -68,7 +74,7 @@ lastReply (e ∷ f ∷ es) = lastReply (f ∷ es)
 unfoldable pub holds : Case → Bool
 holds (integer v bytes) = eqBytes (encodeInt v) bytes && isValue v (length bytes) (readInt bytes 0)
 holds (overflow bytes) = isOverflow (readInt bytes 0)
-holds (serverId id bytes) = eqBytes (encodeInt (serverWord id)) bytes && isServer id (readServerId bytes 0)
+holds (serverId id bytes) = eqBytes (encodeInt (serverWord id)) bytes && isServer id (length bytes) (readServerId bytes 0)
 holds (stream bytes numbers reply) =
     eqBytes (map (λ (e : Ended Answer). answerNumber (e .answer)) (afterHello bytes)) numbers
     && eqBytes (lastReply (afterHello bytes)) reply
@@ -94,7 +100,8 @@ cases =
     ∷ integer (2 ^ 64 - 1) (0xFF ∷ 0xF0 ∷ 0xFE ∷ 0xFE ∷ 0xFE ∷ 0xFE ∷ 0xFE ∷ 0xFE ∷ 0xFE ∷ 0x0E ∷ [])
     ∷ serverId (negsuc 0) (0xFF ∷ 0xF0 ∷ 0xFE ∷ 0xFE ∷ 0xFE ∷ 0xFE ∷ 0xFE ∷ 0xFE ∷ 0xFE ∷ 0x0E ∷ [])
     ∷ overflow (0xF0 ∷ 0xF1 ∷ 0xFE ∷ 0xFE ∷ 0xFE ∷ 0xFE ∷ 0xFE ∷ 0xFE ∷ 0xFE ∷ 0x0E ∷ [])
-    ∷ stream (0x0A ∷ 0x80 ∷ 0xF0 ∷ 0x31 ∷ []) (101 ∷ []) accepted
+    ∷ stream (0x0A ∷ 0x80 ∷ 0xF0 ∷ 0x31 ∷ replicate 1023 0) (101 ∷ []) accepted
+    ∷ stream (0x0A ∷ 0x80 ∷ 0xF0 ∷ 0x31 ∷ replicate 1024 0) (101 ∷ 27 ∷ []) protocolError
     ∷ stream (0x0A ∷ 0x80 ∷ 0xF1 ∷ 0x31 ∷ []) (101 ∷ 22 ∷ []) sizeLimit
     ∷ stream (0x00 ∷ 0x05 ∷ []) (101 ∷ 20 ∷ []) protocolError
     ∷ stream (0x0A ∷ 0x80 ∷ 0x00 ∷ []) (101 ∷ 27 ∷ []) protocolError

@@ -102,11 +102,10 @@ OffersTo s rest (m ∷ ms) =
     × (replyRoom ≤ length (m .room))
     × OffersTo (m .session) (drop (m .outcome .taken) rest) ms
 
--- no piece crosses a cut: each is a first part of what is left of the current cut
+-- each piece is all that is left of the current cut: no piece crosses a cut, and none is cut further
 unfoldable pub WithinCutsOf : List (List ℕ) → List Made → Type 0
 WithinCutsOf cuts [] = Unit {0}
-WithinCutsOf cuts (m ∷ ms) =
-    ((later : List ℕ) × (m .piece ++ later ≡ current cuts)) × WithinCutsOf (without (m .outcome .taken) cuts) ms
+WithinCutsOf cuts (m ∷ ms) = (m .piece ≡ current cuts) × WithinCutsOf (without (m .outcome .taken) cuts) ms
 
 unfoldable pub RoomsAre : List ℕ → List Made → Type 0
 RoomsAre room [] = Unit {0}
@@ -133,7 +132,7 @@ pub record Demand3 (s : Session) (t : Store) (ms : List Made) : Type 0 where
   pub each : EachCall s t ms
   -- 2. answers, replies, store and end record are the byte model's for the bytes taken
   pub taken : cameTo s t ms ≡ resultOf (modelRan s t (takenBy ms))
-  -- the answers left out are exactly more wanted, 1, 2 and 4
+  -- the answers left out of `taken` are more wanted, 1, 2 and 4 alone; the model's list has every answer that it gave
   pub left-out : (a : Answer) → ends a ≡ false → (a ≡ answer.More) ⊎ ((a ≡ answer.Refused 1) ⊎ ((a ≡ answer.Refused 2) ⊎ (a ≡ answer.Refused 4)))
   -- the end record itself: the start record where no byte was taken, else the record that holds the model's state
   pub record-is : lastSession s ms

@@ -68,12 +68,14 @@ unfoldable pub explicitId : List ℕ → ℕ
 explicitId message = numberValue (readNumber message (bodyStart message))
 
 -- "Incremental has no ID: it is the table's previous ID plus one, and 4294967295 is followed by 0."
-unfoldable pub nextId : Option ℕ → ℕ
-nextId (some id) = (id + 1) % 2 ^ 32
-nextId none = 0
+unfoldable pub nextId : Option ℕ → Option ℕ
+nextId (some id) = some ((id + 1) % 2 ^ 32)
+nextId none = none
 
-unfoldable pub updateId : List ℕ → Option ℕ → ℕ
-updateId message previous = cond (eqb (kindOf message) 129) (nextId previous) (explicitId message)
+-- of type 128 the ID it says, of 129 the one after the previous; no other type has one
+unfoldable pub updateId : List ℕ → Option ℕ → Option ℕ
+updateId message previous =
+    cond (eqb (kindOf message) 129) (nextId previous) (cond (eqb (kindOf message) 128) (some (explicitId message)) none)
 
 -- ---- a message
 
@@ -98,11 +100,11 @@ unfoldable pub switches : Ledger → ℕ → Ledger
 switches l place = record { current = some place; bound = l .bound; last = l .last }
 
 -- the current table has a new last committed update ID
-unfoldable pub commits : Ledger → Option ℕ → ℕ → Ledger
+unfoldable pub commits : Ledger → Option ℕ → Option ℕ → Ledger
 commits l (some place) id = record {
   current = l .current;
   bound = l .bound;
-  last = λ p. cond (eqb p place) (some id) (l .last p);
+  last = λ p. cond (eqb p place) id (l .last p);
 }
 commits l none id = l
 
@@ -132,8 +134,8 @@ post l e =
 unfoldable pub isAcknowledgement : List ℕ → Bool
 isAcknowledgement reply = eqb (getD reply 0 0) 0x0A && eqb (getD reply 1 0) 0x85
 
--- "every acknowledgement carries its table's last committed update ID", and its bound ID: the reply to an update of this table with this
--- ID, after which the ledger is l
+-- an acknowledgement with its table's bound ID and last committed update ID: the reply to an update of this table with this ID, after which
+-- the ledger is l
 pub record Carried (l : Ledger) (reply : List ℕ) (table update : ℕ) : Type 0 where
   pub id : ℕ
   pub current : l .current ≡ some table

@@ -4,5 +4,6 @@ pub mod Good
 pub mod Promise
 pub mod Ledger
 pub mod Demand3
+pub mod Corollaries
 pub mod Cases
 pub mod Listing

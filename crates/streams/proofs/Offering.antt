@@ -3,7 +3,7 @@ use mathlib.Core.Path.{_≡_, refl, sym}
 use Prim.Native.Nat.{ℕ, zero, suc, _+_, _≤_}
 use native.Mathlib.Omega.{arith}
 use mathlib.Core.Logic.{inl, inr}
-use mathlib.Core.List.{List, [], _∷_, _++_, flatten, map-append, append-nil}
+use mathlib.Core.List.{List, [], _∷_, _++_, flatten, map-append}
 use mathlib.Core.Bool.{Bool, true}
 use lib.ListN.{length, drop, length-append, length-drop}
 use borrow.Author.Tests.{eq-eqb}
@@ -46,17 +46,17 @@ module _ {S A E : Type 0} (R : Receiver S A E) where
   within-skip s cuts (happening e ∷ steps) w = within-skip (R .act e s) cuts steps w
 
   -- What every part of the cut pieces has, every call's piece has
-  pub within-pieces : (p : List ℕ → Bool) → p [] ≡ true → ((xs ys : List ℕ) → p (xs ++ ys) ≡ true → p xs ≡ true)
+  pub within-pieces : (p : List ℕ → Bool) → p [] ≡ true
       → ((n : ℕ) (xs : List ℕ) → p xs ≡ true → p (drop n xs) ≡ true) → (s : S) (cuts : List (List ℕ)) (steps : List (Step E))
       → every p cuts ≡ true → WithinCuts R s cuts steps → every (onPiece p) steps ≡ true
   unfolding WithinCuts
-  within-pieces p none front rest s cuts [] q w = every-nil (onPiece p)
-  within-pieces p none front rest s cuts (reading piece room ∷ steps) q w =
+  within-pieces p none rest s cuts [] q w = every-nil (onPiece p)
+  within-pieces p none rest s cuts (reading piece room ∷ steps) q w =
       let c = readCall R s piece room in
-      every-both (onPiece p) (reading piece room) steps (front piece (w .0 .0) (rw (w .0 .1) (current-has p none cuts q)))
-      (within-pieces p none front rest (c .state) (without (c .taken) cuts) steps (without-has p rest (c .taken) cuts q) (w .1))
-  within-pieces p none front rest s cuts (happening e ∷ steps) q w =
-      every-both (onPiece p) (happening e) steps refl (within-pieces p none front rest (R .act e s) cuts steps q w)
+      every-both (onPiece p) (reading piece room) steps (rw (w .0) (current-has p none cuts q))
+      (within-pieces p none rest (c .state) (without (c .taken) cuts) steps (without-has p rest (c .taken) cuts q) (w .1))
+  within-pieces p none rest s cuts (happening e ∷ steps) q w =
+      every-both (onPiece p) (happening e) steps refl (within-pieces p none rest (R .act e s) cuts steps q w)
 
   module _ {Good : S → Type 0} (law : Lawful R Good) (room : ℕ) (enough : R .least ≤ room) where
     -- n is at least the number of bytes and of cuts that are left
@@ -93,7 +93,7 @@ module _ {S A E : Type 0} (R : Receiver S A E) where
         record {
           steps = reading p room ∷ o .steps;
           offers = ((bytes (flatten cuts), sym (map-append byte p (flatten cuts))), enough, rw (bytes-drop (c .taken) p (flatten cuts) i) at (o .offers));
-          within = (([], append-nil p), o .within);
+          within = (refl, o .within);
           calls = every-both (readsIn room) (reading p room) (o .steps) (eq-eqb room room refl) (o .calls);
           on-bytes = every-both (ofBytes R) (reading p room) (o .steps) (d .0) (o .on-bytes);
         })

@@ -121,10 +121,10 @@ without n ([] ∷ cuts) = without n cuts
 without n ((b ∷ bs) ∷ cuts) = drop n (b ∷ bs) ∷ cuts
 
 module _ {S A E : Type 0} (R : Receiver S A E) where
-  -- No call's piece crosses a cut: each is a front of what is left between two cuts
+  -- Each call's piece is all that is left between two cuts: no piece crosses a cut, and none is cut further
   unfoldable pub WithinCuts : S → List (List ℕ) → List (Step E) → Type 0
   WithinCuts s cuts [] = Unit {0}
   WithinCuts s cuts (reading piece room ∷ steps) =
       let c = readCall R s piece room in
-      ((later : List ℕ) × (piece ++ later ≡ current cuts)) × WithinCuts (c .state) (without (c .taken) cuts) steps
+      (piece ≡ current cuts) × WithinCuts (c .state) (without (c .taken) cuts) steps
   WithinCuts s cuts (happening e ∷ steps) = WithinCuts (R .act e s) cuts steps
