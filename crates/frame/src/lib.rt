@@ -84,7 +84,7 @@ pub fn judge_frame(s: &[u8]) -> Frame
     }
 }
 
-// How many bytes a waiting message still wants, as far as they show it.
+// A number of bytes that a waiting message wants at the least: with fewer added it still waits.
 pub fn wanted(s: &[u8]) -> usize
     ensures { λ r. ⌜ r ≡ wantedOf (now (s .entry)) ⌝ }
 {

@@ -73,7 +73,7 @@ sameId a b = isBound a && boundTo (a .id) b
 abbrev pub otherId : Binding → Binding → Bool
 otherId a b = not (sameId a b)
 
--- the current table is none, or its place is held, "or a current table without an ID"
+-- there is no current table, or it is held and has an ID: "or current mark whose table isn't held, or a current table without an ID"
 unfoldable pub currentOk : List Table → Connection → Bool
 currentOk tables c =
     eqb (c .current) 0
@@ -81,7 +81,7 @@ currentOk tables c =
 
 -- ---- "unfinished bytes of which any first part, or all, already ends a message or shows a refusal, or in a closed record"
 
--- the bytes end nothing and show no refusal: they are a hello's, a status's or a message's by the phase
+-- what was judged ends nothing and shows no refusal
 abbrev pub helloWaits : Hello → Bool
 helloWaits hello.Waiting = true
 helloWaits (hello.Accepted process relative) = false
@@ -99,6 +99,7 @@ frameWaits (frame.Error type) = false
 frameWaits (frame.Body kind start end) = false
 frameWaits (frame.Refused n) = false
 
+-- the bytes end nothing and show no refusal: they are a hello's, a status's or a message's by the phase
 unfoldable pub waits : Connection → List ℕ → Bool
 waits c u =
     cond (eqb (c .phase) awaitingHello) (helloWaits (judgeHello (localName c) (remoteName c) u))

@@ -152,7 +152,7 @@ fn is_unmarked(b: Binding) -> bool
     b.updated != 1
 }
 
-// Whether a place may have these marks, with this table at it.
+// Whether a place may have these marks, where its table has this `held` mark.
 fn place_ok(held: u8, b: Binding) -> bool
     ensures { λ r. ⌜ r ≡ (eqb held 1 || unmarked b) ⌝ }
 {

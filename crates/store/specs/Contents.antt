@@ -31,7 +31,7 @@ wireValues types e =
 unfoldable pub periodsOf : Table → List ℕ
 periodsOf t = presentAmong (t .«data_types») rateTypes (t .periods)
 
--- a table's definition: all that it says but its place
+-- a table's definition: all that it says besides its name
 pub record Description : Type 0 where
   pub keyType : ℕ
   pub keyLength : ℕ

@@ -79,7 +79,7 @@ dataTypesOk types = ltb types (2 ^ dataTypeCount)
 unfoldable pub present : ℕ → ℕ → Bool
 present types t = eqb ((types / 2 ^ t) % 2) 1
 
--- "Rate types 3, 5, 8, 10, 12, 14, 16, 18": period i of a table is that of rate type i
+-- "Rate types 3, 5, 8, 10, 12, 14, 16, 18": period i of a table is that of the i-th of these, from 0
 unfoldable pub rateTypes : List ℕ
 rateTypes = 3 ∷ 5 ∷ 8 ∷ 10 ∷ 12 ∷ 14 ∷ 16 ∷ 18 ∷ []
 

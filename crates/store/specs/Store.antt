@@ -48,10 +48,11 @@ entryOf table n e = entryHeld e && (eqb (e .table) table && eqb (e .«key_len»)
 unfoldable pub entryKeyed : ℕ → List ℕ → Entry → Bool
 entryKeyed table key e = entryOf table (length key) e && eqBytes (keyOf e) key
 
--- "Lookup goes over the held entries and over key bytes, and leaves both at the first equal key"
+-- the first held table of this name
 unfoldable pub findTable : Store → List ℕ → Found
 findTable s name = firstPlace (tableNamed name) (s .tables)
 
+-- "Lookup goes over the held entries and over key bytes, and leaves both at the first equal key"
 unfoldable pub findEntry : Store → ℕ → List ℕ → Found
 findEntry s table key = firstPlace (entryKeyed table key) (s .entries)
 
@@ -75,7 +76,7 @@ makeEntry table key server values = record {
   values = values;
 }
 
--- where a definition has no times, expiry and periods are zero
+-- a held table of this name, with what its definition says
 unfoldable pub makeTable : List ℕ → Definition → Table
 makeTable name d = record {
   held = 1;
@@ -95,7 +96,7 @@ putTable s place t = record { tables = set (s .tables) place t; entries = s .ent
 unfoldable pub putEntry : Store → ℕ → Entry → Store
 putEntry s place e = record { tables = s .tables; entries = set (s .entries) place e }
 
--- ---- what a free place and a store without tables and entries hold
+-- ---- the empty store, and what its places hold
 
 unfoldable pub noTable : Table
 noTable = record {

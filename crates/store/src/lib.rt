@@ -22,11 +22,11 @@ pub const ENTRIES: usize = 128;
 pub const NAME_MAX: usize = 32;
 
 pub const KEY_MAX: usize = 64;
-// Data types are bits 0 to 18; of these eight are rates.
+// Data types are bits 0 to 18.
 const DATA_TYPES_END: u32 = 524288;
 // A value of a 32-bit data type is below this.
 const VALUE_END: u64 = 4294967296;
-
+// Eight data types are rates.
 pub const RATES: usize = 8;
 // Integers of an entry's data types other than the server ID: 10 single ones and 8 times 3.
 pub const VALUES: usize = 34;
@@ -458,7 +458,7 @@ pub fn put_entry(store: Store, place: usize, entry: Entry) -> Store
     Store { tables, entries }
 }
 
-// What a free table place holds.
+// What a table place of the empty store holds.
 pub fn no_table() -> Table
     ensures { λ r. ⌜ r ≡ noTable ⌝ }
 {
@@ -475,7 +475,7 @@ pub fn no_table() -> Table
     }
 }
 
-// What a free entry place holds.
+// What an entry place of the empty store holds.
 pub fn no_entry() -> Entry
     ensures { λ r. ⌜ r ≡ noEntry ⌝ }
 {
@@ -503,7 +503,7 @@ pub fn empty_store() -> Store
 
 // ---- soundness
 
-// The rows of a held table.
+// The tests of a held table.
 fn held_table_ok(t: Table) -> bool
     ensures { λ r. ⌜ r ≡ allOf (tableTests t) ⌝ }
 {
@@ -628,7 +628,7 @@ fn slots_ok(types: u32, values: [u64; VALUES]) -> bool
     true
 }
 
-// The rows of a held entry of the table.
+// The tests of a held entry of the table.
 fn held_entry_ok(owner: Table, e: Entry) -> bool
     ensures { λ r. ⌜ r ≡ (tableHeld owner && allOf (entryKeyLengthOk owner e ∷ keyRestZero e ∷ valuesOk owner e ∷ [])) ⌝ }
 {
