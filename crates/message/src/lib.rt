@@ -33,7 +33,8 @@ pub struct Settled {
 
 // ---- refusals
 
-fn no_reply() -> Reply
+// The reply of a message that is not answered.
+pub fn no_reply() -> Reply
     ensures { λ r. ⌜ r ≡ replyOf [] ⌝ }
 {
     Reply {

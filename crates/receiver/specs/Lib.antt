@@ -2,6 +2,7 @@ pub mod Model
 pub mod Absorb
 pub mod Good
 pub mod Promise
+pub mod Steps
 pub mod Ledger
 pub mod Demand3
 pub mod Corollaries

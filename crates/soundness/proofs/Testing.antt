@@ -3,28 +3,30 @@ use Prim.Native.Nat.{ℕ, _+_, _-_, _≤_, _<_}
 use native.Mathlib.Omega.{arith}
 use native.Mathlib.Numerals.{add-one}
 use mathlib.Core.Path.{_≡_, refl, sym, ap, _∙_, subst}
+use mathlib.Core.Logic.{⊎-elim}
 use mathlib.Core.Bool.{Bool, true, false, cond, not, _&&_, _||_}
 use mathlib.Core.List.{List, [], _∷_, _++_}
 use lib.ListN.{length, take, drop, getD, drop-of-length-le}
-use lib.Seq.{drop-cons, length-take-le}
-use lib.Dec.{eqb, leb}
+use lib.Seq.{drop-cons, length-take-le, take-all}
+use lib.Dec.{eqb, leb, ltb}
 use borrow.Author.Needs.{needs}
-use borrow.Author.Tests.{eq-eqb, ne-eqb, le-leb, lt-leb}
+use borrow.Author.Tests.{eq-eqb, ne-eqb, le-leb, lt-leb, lt-ltb, le-ltb}
 use Rattle.lists.specs.Lists.{allOf, every, distinct}
-use Rattle.lists.proofs.Cases.{and-true, and-false, or-true, or-false, cond-true, cond-false, all-none, all-true, all-false}
+use Rattle.lists.proofs.Cases.{lt-or-le, and-true, and-false, or-true, or-false, cond-true, cond-false, all-none, all-true, all-false}
 use Rattle.lists.proofs.Every.{getD-any, drop-step, every-stop, every-next, every-end}
 use Rattle.lists.proofs.Distinct.{distinct-stop, distinct-next, distinct-end}
 use Rattle.store.specs.declared.Table.{Table}
 use Rattle.store.specs.declared.Store.{Store}
 use Rattle.store.specs.Store.{tableHeld, noTable}
 use Rattle.store.specs.Sound.{soundStore}
+use Rattle.handshake.specs.declared.Hello.{Hello}
 use Rattle.handshake.specs.Handshake.{nameOk, judgeHello, judgeStatus}
 use Rattle.frame.specs.Frame.{judgeFrame}
 use Rattle.session.specs.declared.Binding.{Binding}
 use Rattle.session.specs.declared.Connection.{Connection}
 use Rattle.session.specs.declared.Session.{Session}
 use Rattle.session.specs.Session.{unfinished, localName, remoteName, isClosed, isBound, isUpdated, boundTo, noBinding, bindingAt}
-use Rattle.soundness.specs.Sound.{refusesOpening, isClosing, numberOk, nameWithin, namesOk, marksOk, unmarked, placesOk, sameId, otherId, currentOk, fieldTests, bindingTests, soundConnection, helloWaits, statusWaits, frameWaits, waits, unfinishedOk, noMarks, blankTests, isRefusedOpening, soundSession, sound}
+use Rattle.soundness.specs.Sound.{refusesOpening, isClosing, numberOk, nameWithin, namesOk, marksOk, unmarked, placesOk, sameId, otherId, currentOk, fieldTests, bindingTests, soundConnection, nameLength, helloWaits, statusWaits, frameWaits, waits, unfinishedOk, noMarks, blankTests, isRefusedOpening, soundSession, sound}
 use Rattle.soundness.proofs.Waiting.{waits-hello, waits-status, waits-frame, waits-whole}
 use Rattle.session.proofs.Basics.{length-mapped, blank, told}
 
@@ -332,6 +334,30 @@ module _ (c : Connection) (u : List ℕ) (r : Bool) where
 
   pub frame-decides : (c .phase ≡ 0 → ⊥) → (c .phase ≡ 1 → ⊥) → r ≡ frameWaits (judgeFrame u) → r ≡ waits c u
   frame-decides e g f = f ∙ sym (waits-frame c u e g)
+
+pub name-whole : (n : ℕ) → 32 < n → 32 ≡ nameLength n
+unfolding nameLength
+name-whole n l = sym (cond-true (ltb 32 n) _ _ (lt-ltb 32 n l))
+
+pub name-part : (n : ℕ) → n ≤ 32 → n ≡ nameLength n
+unfolding nameLength
+name-part n l = sym (cond-false (ltb 32 n) _ _ (le-ltb 32 n l))
+
+name-taken : (n r : ℕ) (bytes : List ℕ) → length bytes ≡ 32 → r ≡ nameLength n → take r bytes ≡ take n bytes
+name-taken n r bytes l e =
+    ⊎-elim
+    (λ h. take-all r bytes (omega (arith, l, e ∙ sym (name-whole n h))) ∙ sym (take-all n bytes (omega arith)))
+    (λ h. ap (λ (k : ℕ). take k bytes) (e ∙ sym (name-part n h)))
+    (lt-or-le 32 n)
+
+pub hello-judged : (c : Connection) (u : List ℕ) (h : Hello) (n m : ℕ) → length (c .local) ≡ 32 → length (c .remote) ≡ 32
+    → n ≡ nameLength (c .«local_len») → m ≡ nameLength (c .«remote_len») → h ≡ judgeHello (take n (c .local)) (take m (c .remote)) u
+    → h ≡ judgeHello (localName c) (remoteName c) u
+unfolding localName remoteName
+hello-judged c u h n m p q i j e =
+    e ∙ rw (name-taken (c .«local_len») n (c .local) p i, name-taken (c .«remote_len») m (c .remote) q j)
+
+pub ruleset hellos = (needs, part-fits, part-long, name-whole, name-part, hello-judged)
 
 pub ruleset waiting = (needs, hello-decides, status-decides, frame-decides)
 

@@ -81,6 +81,10 @@ currentOk tables c =
 
 -- ---- "unfinished bytes of which any first part, or all, already ends a message or shows a refusal, or in a closed record"
 
+-- how many bytes of a name's array are the name: all, where the length is past it
+unfoldable pub nameLength : ℕ → ℕ
+nameLength n = cond (ltb 32 n) 32 n
+
 -- what was judged ends nothing and shows no refusal
 abbrev pub helloWaits : Hello → Bool
 helloWaits hello.Waiting = true

@@ -27,7 +27,7 @@ ghost use Rattle.lists.specs.Lists.{allOf, every, distinct};
 ghost use Rattle.handshake.specs.Handshake.{judgeHello, judgeStatus};
 ghost use Rattle.frame.specs.Frame.{judgeFrame};
 ghost use Rattle.session.specs.Session.{localName, remoteName};
-ghost use Rattle.soundness.specs.Sound.{phaseOk, closedOk, refusesOpening, isClosing, numberOk, nameWithin, namesOk, marksOk, unmarked, placesOk, sameId, otherId, currentOk, fieldTests, bindingTests, soundConnection, helloWaits, statusWaits, frameWaits, waits, unfinishedOk, noMarks, blankTests, isRefusedOpening, soundSession, sound};
+ghost use Rattle.soundness.specs.Sound.{phaseOk, closedOk, refusesOpening, isClosing, numberOk, nameWithin, namesOk, marksOk, unmarked, placesOk, sameId, otherId, currentOk, fieldTests, bindingTests, soundConnection, nameLength, helloWaits, statusWaits, frameWaits, waits, unfinishedOk, noMarks, blankTests, isRefusedOpening, soundSession, sound};
 
 // ---- soundness of a connection
 
@@ -264,15 +264,31 @@ fn connection_ok(tables: [Table; TABLES], c: Connection) -> bool
 
 // ---- unfinished bytes
 
-fn hello_waits(c: Connection, u: &[u8]) -> bool
-    requires { ⌜ (c .«local_len» ≤ 32) × (c .«remote_len» ≤ 32) ⌝ }
-    ensures { λ r. ⌜ r ≡ helloWaits (judgeHello (localName c) (remoteName c) (now (u .entry))) ⌝ }
+// How many bytes of a name's array are the name.
+fn name_len(n: usize) -> usize
+    ensures { λ r. ⌜ (r ≡ nameLength n) × (r ≤ 32) ⌝ }
+{
+    if 32 < n {
+        return 32;
+    }
+    n
+}
+
+// A hello's bytes judged with the names of a connection.
+pub fn hello_of(c: Connection, u: &[u8]) -> Hello
+    ensures { λ r. ⌜ r ≡ judgeHello (localName c) (remoteName c) (now (u .entry)) ⌝ }
 {
     let local = c.local;
     let remote = c.remote;
-    let n = c.local_len;
-    let m = c.remote_len;
-    match judge_hello(u, &local[..n], &remote[..m]) {
+    let n = name_len(c.local_len);
+    let m = name_len(c.remote_len);
+    judge_hello(u, &local[..n], &remote[..m])
+}
+
+fn hello_waits(c: Connection, u: &[u8]) -> bool
+    ensures { λ r. ⌜ r ≡ helloWaits (judgeHello (localName c) (remoteName c) (now (u .entry))) ⌝ }
+{
+    match hello_of(c, u) {
         Hello::Waiting => true,
         Hello::Accepted {
             process: _,
@@ -309,8 +325,7 @@ fn frame_waits(u: &[u8]) -> bool
 }
 
 // Whether bytes end nothing and show no refusal.
-fn bytes_wait(c: Connection, u: &[u8]) -> bool
-    requires { ⌜ (c .«local_len» ≤ 32) × (c .«remote_len» ≤ 32) ⌝ }
+pub fn bytes_wait(c: Connection, u: &[u8]) -> bool
     ensures { λ r. ⌜ r ≡ waits c (now (u .entry)) ⌝ }
 {
     if c.phase == AWAITING_HELLO {
@@ -324,7 +339,6 @@ fn bytes_wait(c: Connection, u: &[u8]) -> bool
 
 // Tests the whole only: where it waits, each first part of it does.
 fn unfinished_ok(s: Session) -> bool
-    requires { ⌜ (s .connection .«local_len» ≤ 32) × (s .connection .«remote_len» ≤ 32) ⌝ }
     ensures { λ r. ⌜ r ≡ unfinishedOk s ⌝ }
 {
     let len = s.len;

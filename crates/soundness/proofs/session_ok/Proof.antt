@@ -1,7 +1,4 @@
 use Rattle.soundness.proofs.Testing.{sounding}
-use mathlib.Core.Path.{sym}
-use Rattle.soundness.proofs.Facts.{connection-facts}
-use Rattle.session.proofs.Basics.{told-not-false}
 use borrow.Author.Needs.{needs}
 use Rattle.soundness.proofs.session_ok.Statement.{statement}
 use Rattle.soundness.proofs.session_ok.Tie as tie
@@ -19,9 +16,7 @@ returns-2 : tie.Need-returns-2
 returns-2 c = search sounding
 
 unfinished-ok-requires : tie.Need-unfinished-ok-requires
-unfinished-ok-requires c κs =
-    let f = connection-facts _ _ (sym (told-not-false (c .before .connection-ok .ensures) (c .if2 .left))) in
-    (f .localLength, f .remoteLength)
+unfinished-ok-requires c κs = search sounding
 
 returns-3 : tie.Need-returns-3
 returns-3 c = search sounding

@@ -1,0 +1,200 @@
+-- The loop that takes a piece: what stands taken, and what is left gives the answer.
+use Prim.Native.Nat.{ℕ, zero, suc, _+_, _-_, _≤_, _<_}
+use native.Mathlib.Omega.{arith}
+use native.Mathlib.Numerals.{add-one}
+use mathlib.Core.Path.{_≡_, refl, sym, ap, _∙_, subst}
+use mathlib.Core.Logic.{⊎-elim}
+use mathlib.Core.Bool.{Bool, true, false, cond}
+use mathlib.Core.List.{List, [], _∷_, _++_}
+use lib.ListN.{length, take, drop, getD, set, length-append, drop-of-length-le}
+use lib.Seq.{drop-cons, length-take-le, take-all}
+use mir.Val.{Fits}
+use mir.Syntax.{w64}
+use borrow.Author.Needs.{needs}
+use Rattle.lists.specs.Lists.{padTo}
+use Rattle.lists.proofs.Cases.{cond-true, cond-false, lt-or-le}
+use Rattle.lists.proofs.Bytes.{pad-length, pad-take}
+use Rattle.session.specs.declared.Connection.{Connection}
+use Rattle.session.specs.declared.Session.{Session}
+use Rattle.session.specs.Session.{unfinished}
+use Rattle.session.proofs.Basics.{told}
+use Rattle.soundness.specs.Sound.{waits}
+use Rattle.soundness.proofs.Waiting.{waits-few}
+use Rattle.reassembly.specs.declared.Taken.{Taken}
+use Rattle.reassembly.specs.Pieces.{Part, oneMore, takePiece, takenOf}
+
+-- ---- the unfinished bytes of a record
+
+pub all-unfinished : (s : Session) → length (s .buffer) ≡ 1027 → 1027 < s .len → 1027 ≡ length (unfinished s)
+unfolding unfinished
+all-unfinished s e l = sym (ap length (take-all (s .len) (s .buffer) (omega arith)) ∙ e)
+
+pub some-unfinished : (s : Session) → length (s .buffer) ≡ 1027 → s .len ≤ 1027 → s .len ≡ length (unfinished s)
+unfolding unfinished
+some-unfinished s e l = sym (length-take-le (s .len) (s .buffer) (omega arith))
+
+pub buffer-room : (s : Session) (n : ℕ) → length (s .buffer) ≡ 1027 → n ≤ 1027 → n ≤ length (s .buffer)
+buffer-room s n e l = omega arith
+
+pub buffer-part : (s : Session) (n : ℕ) → length (s .buffer) ≡ 1027 → n ≤ 1027 → length (take n (s .buffer)) ≡ n
+buffer-part s n e l = length-take-le n (s .buffer) (omega arith)
+
+buffer-unfinished : (s : Session) (n : ℕ) → length (s .buffer) ≡ 1027 → n ≡ length (unfinished s) → take n (s .buffer) ≡ unfinished s
+unfolding unfinished
+buffer-unfinished s n e p =
+    ⊎-elim
+    (λ h.
+    let q = all-unfinished s e h in
+    take-all n (s .buffer) (omega (arith, p, e, q)) ∙ sym (take-all (s .len) (s .buffer) (omega arith)))
+    (λ h. ap (λ (k : ℕ). take k (s .buffer)) (p ∙ sym (some-unfinished s e h)))
+    (lt-or-le 1027 (s .len))
+
+pub buffer-padded : (s : Session) (n m : ℕ) (bytes : List ℕ) → length (s .buffer) ≡ 1027 → n ≡ length (unfinished s) → bytes ≡ padTo m (take n (s .buffer))
+    → bytes ≡ padTo m (unfinished s)
+buffer-padded s n m bytes e p q = q ∙ ap (padTo m) (buffer-unfinished s n e p)
+
+pub ruleset unfinished-rules = (needs, all-unfinished, some-unfinished, buffer-room, buffer-part, buffer-padded)
+
+-- ---- one byte behind the others
+
+pad-set : (n : ℕ) (u : List ℕ) (b : ℕ) → length u < n → set (padTo n u) (length u) b ≡ padTo n (u ++ (b ∷ []))
+unfolding padTo
+pad-set zero u b h = absurd (omega arith)
+pad-set (suc n) [] b h = refl
+pad-set (suc n) (x ∷ u) b h = ap (λ (l : List ℕ). x ∷ l) (pad-set n u b (omega arith))
+
+one-behind : (u : List ℕ) (b : ℕ) → length (u ++ (b ∷ [])) ≡ length u + 1
+one-behind u b = length-append u (b ∷ [])
+
+-- ---- the cases of taking
+
+take-none : (c : Connection) (u : List ℕ) → takePiece c u [] ≡ record { bytes = u; taken = 0; ended = false }
+unfolding takePiece
+take-none c u = refl
+
+take-on : (c : Connection) (u : List ℕ) (b : ℕ) (bs : List ℕ) → waits c (u ++ (b ∷ [])) ≡ true
+    → takePiece c u (b ∷ bs) ≡ oneMore (takePiece c (u ++ (b ∷ [])) bs)
+unfolding takePiece
+take-on c u b bs w = cond-true (waits c (u ++ (b ∷ []))) _ _ w
+
+take-ends : (c : Connection) (u : List ℕ) (b : ℕ) (bs : List ℕ) → waits c (u ++ (b ∷ [])) ≡ false
+    → takePiece c u (b ∷ bs) ≡ record { bytes = u ++ (b ∷ []); taken = 1; ended = true }
+unfolding takePiece
+take-ends c u b bs w = cond-false (waits c (u ++ (b ∷ []))) _ _ w
+
+-- ---- the loop
+
+-- so many bytes more
+abbrev later : ℕ → Part → Part
+later i a = record { bytes = a .bytes; taken = i + a .taken; ended = a .ended }
+
+later-one : (i : ℕ) (a : Part) → later i (oneMore a) ≡ later (i + 1) a
+later-one i a = let e : i + suc (a .taken) ≡ i + 1 + a .taken = omega arith in ap (λ (n : ℕ). record { bytes = a .bytes; taken = n; ended = a .ended }) e
+
+pub record Taking (piece : List ℕ) (c : Connection) (bytes₀ : List ℕ) (len₀ : ℕ) (bytes : List ℕ) (len i : ℕ) : Type 0 where
+  pub taken : List ℕ
+  pub filled : bytes ≡ padTo 1028 taken
+  pub long : len ≡ length taken
+  pub few : len ≤ 1027
+  pub inside : i ≤ length piece
+  pub rest : (u : List ℕ) → bytes₀ ≡ padTo 1028 u → len₀ ≡ length u → takePiece c u piece ≡ later i (takePiece c taken (drop i piece))
+
+pub start : (piece : List ℕ) (c : Connection) (s : Session) (bytes : List ℕ) (len : ℕ) → bytes ≡ padTo 1028 (unfinished s) → len ≡ length (unfinished s)
+    → len ≤ 1027 → Taking piece c bytes len bytes len 0
+start piece c s bytes len e p l =
+    record {
+      taken = unfinished s;
+      filled = e;
+      long = p;
+      few = l;
+      inside = omega arith;
+      rest = λ u f q. same-part u f q;
+    }
+  where
+    same-bytes : (u : List ℕ) → bytes ≡ padTo 1028 u → len ≡ length u → u ≡ unfinished s
+    same-bytes u f q =
+        let h : length u ≡ length (unfinished s) = sym q ∙ p in
+        sym (pad-take 1028 u (omega arith))
+        ∙ (ap (λ (n : ℕ). take n (padTo 1028 u)) h ∙ (ap (take (length (unfinished s))) (sym f ∙ e) ∙ pad-take 1028 (unfinished s) (omega arith)))
+
+    same-part : (u : List ℕ) → bytes ≡ padTo 1028 u → len ≡ length u → takePiece c u piece ≡ later 0 (takePiece c (unfinished s) piece)
+    same-part u f q = ap (λ (v : List ℕ). takePiece c v piece) (same-bytes u f q) ∙ zero-later (takePiece c (unfinished s) piece)
+      where
+        zero-later : (a : Part) → a ≡ later 0 a
+        zero-later a = let e : a .taken ≡ 0 + a .taken = omega arith in ap (λ (n : ℕ). record { bytes = a .bytes; taken = n; ended = a .ended }) e
+
+module _ {piece : List ℕ} {c : Connection} {bytes₀ : List ℕ} {len₀ : ℕ} {bytes : List ℕ} {len i : ℕ} (t : Taking piece c bytes₀ len₀ bytes len i) where
+  pub room-left : len < 1028
+  room-left = omega (arith, t .few)
+
+  pub len-fits : Fits w64 (len + 1)
+  len-fits = record { fits = omega (arith, t .few) }
+
+  module _ (b : ℕ) (e : b ≡ getD piece i 0) (l : i < length piece) where
+    unfoldable pub behind : List ℕ
+    behind = t .taken ++ (b ∷ [])
+
+    filled-on : set bytes len b ≡ padTo 1028 behind
+    unfolding behind
+    filled-on =
+        ap (λ (x : List ℕ). set x len b) (t .filled)
+        ∙ (ap (λ (n : ℕ). set (padTo 1028 (t .taken)) n b) (t .long) ∙ pad-set 1028 (t .taken) b (omega (arith, t .few, t .long)))
+
+    long-on : len + 1 ≡ length behind
+    unfolding behind
+    long-on = ap (λ (n : ℕ). n + 1) (t .long) ∙ sym (one-behind (t .taken) b)
+
+    prefix-is : take (len + 1) (set bytes len b) ≡ behind
+    prefix-is =
+        ap (take (len + 1)) filled-on
+        ∙ (ap (λ (n : ℕ). take n (padTo 1028 behind)) long-on ∙ pad-take 1028 behind (omega (arith, t .few, long-on)))
+
+    rest-is : drop i piece ≡ b ∷ drop (i + 1) piece
+    rest-is = rw (drop-cons piece i 0 l, ← e, add-one)
+
+    pub prefix-room : len + 1 ≤ length (set bytes len b)
+    prefix-room = omega (arith, t .few, ap length filled-on ∙ pad-length 1028 behind)
+
+    pub prefix-long : length (take (len + 1) (set bytes len b)) ≡ len + 1
+    prefix-long = length-take-le (len + 1) (set bytes len b) prefix-room
+
+    pub goes-on : (w : Bool) → w ≡ waits c (take (len + 1) (set bytes len b)) → true ≡ w → Taking piece c bytes₀ len₀ (set bytes len b) (len + 1) (i + 1)
+    unfolding behind
+    goes-on w p q =
+        let h : waits c behind ≡ true = ap (waits c) (sym prefix-is) ∙ (sym p ∙ sym q) in
+        record {
+          taken = behind;
+          filled = filled-on;
+          long = long-on;
+          few = omega (arith, waits-few c behind h, long-on);
+          inside = omega arith;
+          rest =
+              λ u f g.
+              t .rest u f g
+              ∙ (ap (λ (r : List ℕ). later i (takePiece c (t .taken) r)) rest-is
+              ∙ (ap (later i) (take-on c (t .taken) b (drop (i + 1) piece) h) ∙ later-one i (takePiece c behind (drop (i + 1) piece))));
+        }
+
+    pub ends : (s : Session) → bytes₀ ≡ padTo 1028 (unfinished s) → len₀ ≡ length (unfinished s) → (w : Bool)
+        → w ≡ waits c (take (len + 1) (set bytes len b)) → false ≡ w
+        → _≡_ {A = Taken} (record { bytes = set bytes len b; len = len + 1; count = i + 1; ended = true }) (takenOf (takePiece c (unfinished s) piece))
+    unfolding takenOf behind
+    ends s f g w p q =
+        let h : waits c behind ≡ false = ap (waits c) (sym prefix-is) ∙ (sym p ∙ sym q) in
+        let r : takePiece c (unfinished s) piece ≡ record { bytes = behind; taken = i + 1; ended = true } =
+        t .rest (unfinished s) f g
+        ∙ (ap (λ (r : List ℕ). later i (takePiece c (t .taken) r)) rest-is ∙ ap (later i) (take-ends c (t .taken) b (drop (i + 1) piece) h)) in
+        rw (filled-on, long-on) (sym (ap takenOf r))
+
+  pub all-taken : (s : Session) → bytes₀ ≡ padTo 1028 (unfinished s) → len₀ ≡ length (unfinished s) → length piece ≤ i
+      → _≡_ {A = Taken} (record { bytes = bytes; len = len; count = i; ended = false }) (takenOf (takePiece c (unfinished s) piece))
+  unfolding takenOf
+  all-taken s f g l =
+      let z : i + 0 ≡ i = omega arith in
+      let r : takePiece c (unfinished s) piece ≡ record { bytes = t .taken; taken = i; ended = false } =
+      t .rest (unfinished s) f g
+      ∙ (ap (λ (r : List ℕ). later i (takePiece c (t .taken) r)) (drop-of-length-le piece l)
+      ∙ (ap (later i) (take-none c (t .taken)) ∙ ap (λ (n : ℕ). record { bytes = t .taken; taken = n; ended = false }) z)) in
+      rw (t .filled, t .long) (sym (ap takenOf r))
+
+pub ruleset taking = (needs, told, start, room-left, len-fits, prefix-room, prefix-long, goes-on, ends, all-taken)
