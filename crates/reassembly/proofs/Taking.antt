@@ -12,7 +12,7 @@ use mir.Val.{Fits}
 use mir.Syntax.{w64}
 use borrow.Author.Needs.{needs}
 use Rattle.lists.specs.Lists.{padTo}
-use Rattle.lists.proofs.Cases.{cond-true, cond-false, lt-or-le}
+use Rattle.lists.proofs.Cases.{by-test, cond-true, cond-false, lt-or-le}
 use Rattle.lists.proofs.Bytes.{pad-length, pad-take}
 use Rattle.session.specs.declared.Connection.{Connection}
 use Rattle.session.specs.declared.Session.{Session}
@@ -198,3 +198,49 @@ module _ {piece : List ℕ} {c : Connection} {bytes₀ : List ℕ} {len₀ : ℕ
       rw (t .filled, t .long) (sym (ap takenOf r))
 
 pub ruleset taking = (needs, told, start, room-left, len-fits, prefix-room, prefix-long, goes-on, ends, all-taken)
+
+-- ---- what was taken
+
+data PartFacts (c : Connection) (u : List ℕ) : Part → Type 0 where
+  none : PartFacts c u (record { bytes = u; taken = 0; ended = false })
+  some : (a : Part) → length (a .bytes) ≤ 1028 → (a .taken ≡ 0 → ⊥) → (a .ended ≡ true → waits c (a .bytes) ≡ false) → PartFacts c u a
+
+facts-on : (c : Connection) (u v : List ℕ) (a : Part) → length v ≤ 1027 → PartFacts c v a → PartFacts c u (oneMore a)
+facts-on c u v a l none =
+    some (record { bytes = v; taken = 1; ended = false }) (omega (arith, l)) (λ z. omega (arith, z)) (λ z. absurd (let y : _≡_ {A = ℕ} 0 1 = cc in omega arith))
+facts-on c u v a l (some x h n w) = some (oneMore x) h (λ z. omega (arith, z)) w
+
+facts : (c : Connection) (u p : List ℕ) → length u ≤ 1027 → PartFacts c u (takePiece c u p)
+facts c u [] l = rw (take-none c u) none
+facts c u (b ∷ bs) l =
+    let v = u ++ (b ∷ []) in
+    by-test (waits c v)
+    (λ w. rw (take-on c u b bs w) (facts-on c u v (takePiece c v bs) (waits-few c v w) (facts c v bs (waits-few c v w))))
+    (λ w.
+    let h : length v ≤ 1028 = omega (arith, one-behind u b) in
+    rw (take-ends c u b bs w) (some (record { bytes = v; taken = 1; ended = true }) h (λ z. omega (arith, z)) (λ z. w)))
+
+facts-short : (c : Connection) (u : List ℕ) (a : Part) → length u ≤ 1027 → PartFacts c u a → length (a .bytes) ≤ 1028
+facts-short c u a l none = omega arith
+facts-short c u a l (some x h n w) = h
+
+facts-none : (c : Connection) (u : List ℕ) (a : Part) → PartFacts c u a → a .taken ≡ 0 → a ≡ record { bytes = u; taken = 0; ended = false }
+facts-none c u a none z = refl
+facts-none c u a (some x h n w) z = absurd (n z)
+
+facts-ended : (c : Connection) (u : List ℕ) (a : Part) → PartFacts c u a → a .ended ≡ true → waits c (a .bytes) ≡ false
+facts-ended c u a none z = absurd (let y : _≡_ {A = ℕ} 0 1 = cc in omega arith)
+facts-ended c u a (some x h n w) z = w z
+
+module _ (c : Connection) (u p : List ℕ) (l : length u ≤ 1027) where
+  -- no more bytes than the longest message has
+  pub part-short : length (takePiece c u p .bytes) ≤ 1028
+  part-short = facts-short c u (takePiece c u p) l (facts c u p l)
+
+  -- where nothing is taken, the bytes are those that came
+  pub part-none : takePiece c u p .taken ≡ 0 → takePiece c u p ≡ record { bytes = u; taken = 0; ended = false }
+  part-none = facts-none c u (takePiece c u p) (facts c u p l)
+
+  -- bytes that end a message or show a refusal don't wait
+  pub part-ended : takePiece c u p .ended ≡ true → waits c (takePiece c u p .bytes) ≡ false
+  part-ended = facts-ended c u (takePiece c u p) (facts c u p l)

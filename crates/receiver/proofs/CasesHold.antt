@@ -13,7 +13,8 @@ use Rattle.session.specs.Session.{unfinished, isClosed, localName, remoteName, 
 use Rattle.opening.specs.Opening.{opened, newConnection}
 use Rattle.message.specs.Effects.{refuse, note, control, controlAnswer, controlReply, peerError, stickTable, update}
 use Rattle.streams.specs.Model.{feedAll}
-use Rattle.receiver.specs.Model.{heldBy, helloJudged, statusJudged, frameJudged, judge, joined, feed}
+use Rattle.reassembly.specs.Judge.{helloJudged, statusJudged, frameJudged, judge}
+use Rattle.receiver.specs.Model.{heldBy, joined, feed}
 use Rattle.receiver.specs.Demand3.{modelRan}
 use Rattle.receiver.specs.Cases.{cases, holds, hello, east, west, afterHello, isValue, isOverflow, isServer, lastReply}
 

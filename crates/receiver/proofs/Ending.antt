@@ -31,7 +31,8 @@ use Rattle.session.specs.Session.{localName, remoteName, findBound, bindingAt, 
 use Rattle.body.specs.Fields.{Read, got, short, outside, spanIn}
 use Rattle.body.specs.Bodies.{Update, updateFields, incrementalFields}
 use Rattle.message.specs.Effects.{Effect, refuse, note, fieldsThen, control, controlAnswer, peerError, defineAt, defineNew, defineNamed, agrees, definition, switchTo, switch, acknowledgement, skipped, commitAt, commitNew, commitUpdate, withFields, incrementalOf, update, incremental, stickTable}
-use Rattle.receiver.specs.Model.{Judged, waiting, settled, helloJudged, statusJudged, frameJudged, judge, ends}
+use Rattle.reassembly.specs.Judge.{Judged, waiting, settled, helloJudged, statusJudged, frameJudged, judge}
+use Rattle.receiver.specs.Model.{ends}
 
 abbrev Ends : Effect → Type 0
 Ends e = ends (e .answer) ≡ true

@@ -26,10 +26,11 @@ use Rattle.message.proofs.Kept.{Held, Kept}
 use Rattle.streams.specs.Model.{Fed, quiet, answered, stateOf, endedBy}
 use Rattle.streams.specs.Claim.{Lawful}
 use Rattle.streams.specs.Fold.{Folds}
-use Rattle.receiver.specs.Model.{State, Judged, waiting, settled, judge, joined, feed, ends, soundState, heldBy, isByte, peers}
+use Rattle.reassembly.specs.Judge.{Judged, waiting, settled, judge}
+use Rattle.receiver.specs.Model.{State, joined, feed, ends, soundState, heldBy, isByte, peers}
 use Rattle.receiver.specs.Good.{Good}
 use Rattle.receiver.specs.Ledger.{Ledger, startLedger, post, Acknowledged}
-use Rattle.receiver.proofs.Absorbing.{JudgedAs, judged-as, judged-waiting, judged-settled, feed-open, feed-waits}
+use Rattle.receiver.proofs.Piece.{JudgedAs, judged-as, judged-waiting, judged-settled, feed-open, feed-waits}
 use Rattle.receiver.proofs.Following.{Follows, Follow, starts-following}
 use Rattle.receiver.proofs.Ending.{settled-ends}
 use Rattle.receiver.proofs.Laws.{Right, JudgedRight, judge-right}

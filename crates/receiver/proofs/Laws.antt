@@ -48,7 +48,8 @@ use Rattle.message.specs.Effects.{Effect, refuse, note, fieldsThen, control, co
 use Rattle.message.proofs.Acknowledging.{acknowledge-short}
 use Rattle.message.proofs.Kept.{Held, Kept, refuse-kept, error-kept, note-kept, switch-kept, definition-kept, update-kept}
 use Rattle.receiver.specs.Ledger.{Ledger, definedId, updateId, at, kindOf, nextId, explicitId, startLedger}
-use Rattle.receiver.specs.Model.{Judged, waiting, settled, helloJudged, statusJudged, frameJudged, judge, ends}
+use Rattle.reassembly.specs.Judge.{Judged, waiting, settled, helloJudged, statusJudged, frameJudged, judge}
+use Rattle.receiver.specs.Model.{ends}
 use Rattle.receiver.proofs.Following.{Follows, Follow, current-some, last-some, refuse-follow, hello-follow, status-follow, error-follow, control-follow, skipped-follow, acknowledgement-follow, switch-follow, define-follow, commit-follow}
 use Rattle.receiver.proofs.FirstFields.{body-starts, definition-id, update-explicit}
 

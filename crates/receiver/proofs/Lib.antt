@@ -4,10 +4,13 @@ pub mod Chained
 pub mod Claimed
 pub mod Offered
 pub mod Following
-pub mod Absorbing
+pub mod Piece
+pub mod Reading
 pub mod Laws
 pub mod FirstFields
 pub mod Lawfully
+pub mod Receiving
+pub mod Promising
 pub mod Ending
 pub mod Demand3
 pub mod Corollaries

@@ -17,7 +17,8 @@ use Rattle.body.specs.Bodies as bo
 use Rattle.message.specs.Effects as ef
 use Rattle.streams.specs.Model.{feedAll}
 use Rattle.streams.specs.Calls.{resultOf}
-use Rattle.receiver.specs.Model.{heldBy, helloJudged, statusJudged, frameJudged, judge, joined, feed}
+use Rattle.reassembly.specs.Judge.{helloJudged, statusJudged, frameJudged, judge}
+use Rattle.receiver.specs.Model.{heldBy, joined, feed}
 use Rattle.receiver.specs.Demand3.{modelRan}
 use Rattle.receiver.specs.Cases.{hello, east, west}
 use Rattle.receiver.specs.Listing.{listing, listed, listedRules, listedStore, listedConnection, listedState, listedResult}

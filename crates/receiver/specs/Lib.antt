@@ -1,5 +1,4 @@
 pub mod Model
-pub mod Absorb
 pub mod Good
 pub mod Promise
 pub mod Steps

@@ -98,16 +98,19 @@ fn answer(
     let n = written.len;
     let text = written.bytes;
     wire::put_bytes(reply, 0, &text[..n]);
-    let session = record_with(settled.connection, b"");
+    let next = settled.connection;
+    let session = record_with(next, b"");
+    let given = settled.answer;
     let outcome = Outcome {
         taken: count,
         reply_len: n,
-        answer: settled.answer,
+        answer: given,
     };
+    let kept = settled.store;
     Step {
         outcome,
         session,
-        store: settled.store,
+        store: kept,
     }
 }
 

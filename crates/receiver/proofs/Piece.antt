@@ -25,8 +25,10 @@ use Rattle.message.specs.Effects.{Effect}
 use Rattle.streams.specs.Model.{Fed, quiet, answered}
 use Rattle.streams.specs.Calls.{Call, scan, onward}
 use Rattle.streams.proofs.OneCall.{scan-nil, scan-quiet, scan-answered}
-use Rattle.receiver.specs.Model.{State, Judged, waiting, settled, judge, helloJudged, statusJudged, frameJudged, joined, feed, peers}
-use Rattle.receiver.specs.Absorb.{Absorbed, oneMore, absorb, judgedCall, absorbedCall}
+use Rattle.reassembly.specs.Judge.{Judged, waiting, settled, judge, helloJudged, statusJudged, frameJudged}
+use Rattle.receiver.specs.Model.{State, joined, feed, peers}
+use Rattle.reassembly.specs.Pieces.{Part, oneMore, takePiece}
+use Rattle.receiver.specs.Steps.{judgedCall, partCall}
 
 -- bytes that wait come to nothing, and others to something
 pub data JudgedAs : Bool → Judged → Type 0 where
@@ -87,14 +89,14 @@ feed-waits c u s b h w =
 
 -- ---- a piece
 
-pub scan-absorbs : (c : Connection) (u : List ℕ) (s : Store) (piece : List ℕ) → isClosed c ≡ false
-    → scan peers (stateAt c u s) piece ≡ absorbedCall c s (absorb c u piece)
-unfolding absorb
-scan-absorbs c u s [] h = scan-nil peers (stateAt c u s) ∙ unfold absorbedCall judgedCall in refl
-scan-absorbs c u s (b ∷ bs) h =
+pub scan-takes : (c : Connection) (u : List ℕ) (s : Store) (piece : List ℕ) → isClosed c ≡ false
+    → scan peers (stateAt c u s) piece ≡ partCall c s (takePiece c u piece)
+unfolding takePiece
+scan-takes c u s [] h = scan-nil peers (stateAt c u s) ∙ unfold partCall judgedCall in refl
+scan-takes c u s (b ∷ bs) h =
     let v = u ++ (b ∷ []) in
     by-test (waits c v)
-    (λ w. rw w (scan-quiet peers (stateAt c u s) (stateAt c v s) b bs (feed-waits c u s b h w) ∙ (ap onward (scan-absorbs c v s bs h) ∙ more-call c s (absorb c v bs))))
+    (λ w. rw w (scan-quiet peers (stateAt c u s) (stateAt c v s) b bs (feed-waits c u s b h w) ∙ (ap onward (scan-takes c v s bs h) ∙ more-call c s (takePiece c v bs))))
     (λ w.
     let j = judged-settled (waits c v) (judge c s v) (judged-as c s v) w in
     let e = j .0 in
@@ -102,11 +104,11 @@ scan-absorbs c u s (b ∷ bs) h =
     feed-open c u s b h ∙ (ap (joined c s v) (j .1) ∙ unfold joined in refl) in
     rw w
     (scan-answered peers (stateAt c u s) (stateAt (e .connection) [] (e .store)) b bs (e .answer) (e .reply) f
-    ∙ sym (ap (judgedCall c s v 1) (j .1) ∙ unfold judgedCall in refl) ∙ unfold absorbedCall in refl))
+    ∙ sym (ap (judgedCall c s v 1) (j .1) ∙ unfold judgedCall in refl) ∙ unfold partCall in refl))
   where
     more-judged : (c : Connection) (s : Store) (u : List ℕ) (n : ℕ) (j : Judged) → onward (judgedCall c s u n j) ≡ judgedCall c s u (suc n) j
     more-judged c s u n waiting = unfold judgedCall in refl
     more-judged c s u n (settled e) = unfold judgedCall in refl
 
-    more-call : (c : Connection) (s : Store) (a : Absorbed) → onward (absorbedCall c s a) ≡ absorbedCall c s (oneMore a)
-    more-call c s a = unfold absorbedCall in more-judged c s (a .bytes) (a .taken) (cond (a .ended) (judge c s (a .bytes)) waiting)
+    more-call : (c : Connection) (s : Store) (a : Part) → onward (partCall c s a) ≡ partCall c s (oneMore a)
+    more-call c s a = unfold partCall in more-judged c s (a .bytes) (a .taken) (cond (a .ended) (judge c s (a .bytes)) waiting)
