@@ -150,3 +150,18 @@ pub fn read(session: Session, store: Store, piece: &[u8], reply: &mut [u8]) -> S
     }
     receive(session, store, piece, reply)
 }
+
+// The same on a record and a store that are lent: they hold the new state afterwards.
+pub fn read_lent(
+    session: &mut Session,
+    store: &mut Store,
+    piece: &[u8],
+    reply: &mut [u8],
+) -> Outcome
+    ensures { λ r. ⌜ ReadPromise (now (session .entry)) (now (store .entry)) (record { piece = now (piece .entry); room = now (reply .entry); outcome = r; session = now (session .exit); store = now (store .exit); final = now (reply .exit) }) ⌝ }
+{
+    let step = read(*session, *store, piece, reply);
+    *session = step.session;
+    *store = step.store;
+    step.outcome
+}
