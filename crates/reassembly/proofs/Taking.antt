@@ -5,7 +5,7 @@ use native.Mathlib.Numerals.{add-one}
 use mathlib.Core.Path.{_≡_, refl, sym, ap, _∙_, subst}
 use mathlib.Core.Logic.{⊎-elim}
 use mathlib.Core.Bool.{Bool, true, false, cond}
-use mathlib.Core.List.{List, [], _∷_, _++_}
+use mathlib.Core.List.{List, [], _∷_, _++_, append-nil, append-assoc}
 use lib.ListN.{length, take, drop, getD, set, length-append, drop-of-length-le}
 use lib.Seq.{drop-cons, length-take-le, take-all}
 use mir.Val.{Fits}
@@ -244,3 +244,12 @@ module _ (c : Connection) (u p : List ℕ) (l : length u ≤ 1027) where
   -- bytes that end a message or show a refusal don't wait
   pub part-ended : takePiece c u p .ended ≡ true → waits c (takePiece c u p .bytes) ≡ false
   part-ended = facts-ended c u (takePiece c u p) (facts c u p l)
+
+-- the bytes are those that came and those that were taken
+pub part-bytes : (c : Connection) (u p : List ℕ) → takePiece c u p .bytes ≡ u ++ take (takePiece c u p .taken) p
+part-bytes c u [] = rw (take-none c u) (sym (append-nil u))
+part-bytes c u (b ∷ bs) =
+    let v = u ++ (b ∷ []) in
+    by-test (waits c v)
+    (λ w. rw (take-on c u b bs w) (part-bytes c v bs ∙ append-assoc u (b ∷ []) (take (takePiece c v bs .taken) bs)))
+    (λ w. rw (take-ends c u b bs w))

@@ -11,8 +11,11 @@ pub mod FirstFields
 pub mod Lawfully
 pub mod Receiving
 pub mod Promising
+pub mod Committing
+pub mod Ways
+pub mod Acknowledging
 pub mod Ending
 pub mod Demand3
-pub mod Corollaries
 pub mod CasesHold
 pub mod ListingHolds
+pub mod Corollaries

@@ -29,23 +29,23 @@ module _ (s : Session) (t : Store) (piece room : List ℕ) where
 
   -- ---- the call's cases
 
-  call-short : length room < 12 → call ≡ stay (heldBy s t) (answer.Refused 1)
+  pub call-short : length room < 12 → call ≡ stay (heldBy s t) (answer.Refused 1)
   unfolding callOf
   call-short l = cond-true (ltb (length room) 12) _ _ (lt-ltb (length room) 12 l)
 
   module _ (l : 12 ≤ length room) where
-    call-unsound : sound s t ≡ false → call ≡ stay (heldBy s t) (answer.Refused 4)
+    pub call-unsound : sound s t ≡ false → call ≡ stay (heldBy s t) (answer.Refused 4)
     unfolding callOf
     call-unsound f = cond-false (ltb (length room) 12) _ _ (le-ltb (length room) 12 l) ∙ cond-false (sound s t) _ _ f
 
     module _ (f : sound s t ≡ true) where
-      call-closed : isClosed (s .connection) ≡ true → call ≡ stay (heldBy s t) (answer.Refused 2)
+      pub call-closed : isClosed (s .connection) ≡ true → call ≡ stay (heldBy s t) (answer.Refused 2)
       unfolding callOf
       call-closed o =
           cond-false (ltb (length room) 12) _ _ (le-ltb (length room) 12 l)
           ∙ (cond-true (sound s t) _ _ f ∙ cond-true (isClosed (s .connection)) _ _ o)
 
-      call-open : isClosed (s .connection) ≡ false → call ≡ scan peers (heldBy s t) piece
+      pub call-open : isClosed (s .connection) ≡ false → call ≡ scan peers (heldBy s t) piece
       unfolding callOf
       call-open o =
           cond-false (ltb (length room) 12) _ _ (le-ltb (length room) 12 l)

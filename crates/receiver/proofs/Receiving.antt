@@ -60,11 +60,11 @@ module _ (s : Session) (t : Store) (a : Part) where
   abbrev call : Call State Answer
   call = partCall (s .connection) t a
 
-  waited-call : a .ended ≡ false → call ≡ judgedCall (s .connection) t (a .bytes) (a .taken) waiting
+  pub waited-call : a .ended ≡ false → call ≡ judgedCall (s .connection) t (a .bytes) (a .taken) waiting
   unfolding partCall
   waited-call e = ap (judgedCall (s .connection) t (a .bytes) (a .taken)) (cond-false (a .ended) _ _ e)
 
-  settled-call : (e : Effect) → a .ended ≡ true → judge (s .connection) t (a .bytes) ≡ settled e
+  pub settled-call : (e : Effect) → a .ended ≡ true → judge (s .connection) t (a .bytes) ≡ settled e
       → call ≡ judgedCall (s .connection) t (a .bytes) (a .taken) (settled e)
   unfolding partCall
   settled-call e h j = ap (judgedCall (s .connection) t (a .bytes) (a .taken)) (cond-true (a .ended) _ _ h ∙ j)

@@ -1,22 +1,112 @@
--- What follows from demand 3, in the auditor's words.
+-- What follows from the promise and from demand 3, in the auditor's words.
+use Prim.Native.Nat.{ℕ, _-_, _<_}
 use mathlib.Core.Path.{_≡_}
-use mathlib.Core.List.{List}
-use mathlib.Core.Bool.{true}
-use Prim.Native.Nat.{ℕ}
+use mathlib.Core.List.{List, [], _++_}
+use mathlib.Core.Bool.{true, cond}
+use lib.ListN.{length, take, drop, getD}
+use lib.Dec.{eqb}
 use Rattle.store.specs.declared.Store.{Store}
+use Rattle.store.specs.Store.{makeEntry, noEntry, noTable, emptyStore}
+use Rattle.frame.specs.declared.Frame.the-variants as frame
+use Rattle.frame.specs.Frame.{judgeFrame}
 use Rattle.session.specs.declared.Session.{Session}
+use Rattle.session.specs.declared.Connection.{Connection}
+use Rattle.session.specs.declared.Commit.{Commit}
+use Rattle.session.specs.declared.Answer.{Answer}
+use Rattle.session.specs.declared.Answer.the-variants as answer
+use Rattle.session.specs.Session.{unfinished, bindingAt, holding}
 use Rattle.soundness.specs.Sound.{sound}
-use Rattle.receiver.specs.Promise.{Made}
-use Rattle.receiver.specs.Demand3.{Chain, cameTo, lastStore, repliesOf, OffersTo}
+use Rattle.opening.specs.Opening.{Role, answerer, opened, «open», openRoom}
+use Rattle.body.specs.Fields.{Read, got, spanIn}
+use Rattle.body.specs.Bodies.{Update, updateFields, incrementalFields}
+use Rattle.message.specs.Effects.{acknowledge, followingId}
+use Rattle.receiver.specs.Promise.{Made, ReadPromise}
+use Rattle.receiver.specs.Ledger.{isAcknowledgement}
+use Rattle.receiver.specs.Demand3.{Chain, OffersTo, cameTo, lastSession, lastStore, repliesOf, replyIn}
+use Rattle.receiver.specs.Cases.{east, west}
+use Rattle.receiver.specs.Listing.{listing, listedResult, listedConnection, listedStore}
 
--- "would another division of the same traffic by TCP have left another table?" Two lists of calls that offer one stream from one record and
--- store come to the same answers, replies, unfinished bytes and store
+-- ---- "would another division of the same traffic by TCP have left another table?"
+
+-- two lists of calls that offer one stream from one record and store come to the same answers, replies, record and store
 pub record SameByAnyDivision (s : Session) (t : Store) (stream : List ℕ) (calls others : List Made) : Type 0 where
   pub came : cameTo s t calls ≡ cameTo s t others
   pub store : lastStore t calls ≡ lastStore t others
+  pub session : lastSession s calls ≡ lastSession s others
   pub replies : repliesOf calls ≡ repliesOf others
 
 abbrev pub AnyDivision : Type 0
 AnyDivision =
     (s : Session) (t : Store) (stream : List ℕ) (calls others : List Made) → sound s t ≡ true → Chain s t calls → Chain s t others
     → OffersTo s stream calls → OffersTo s stream others → SameByAnyDivision s t stream calls others
+
+-- ---- "which entries did you hold when this acknowledgement went out?"
+
+-- the message that a call ended: the record's unfinished bytes and the bytes taken
+abbrev pub messageOf : Session → Made → List ℕ
+messageOf s m = unfinished s ++ take (m .outcome .taken) (m .piece)
+
+-- the fields of an update of this type for the table at a place
+abbrev pub fieldsOf : Connection → Store → ℕ → ℕ → List ℕ → Read Update
+fieldsOf c t table kind body =
+    cond (eqb kind 128) (updateFields (getD (t .tables) table noTable) body)
+    (incrementalFields (getD (t .tables) table noTable) (followingId (bindingAt c table .previous)) body)
+
+-- the store that the call left holds the entry with the message's key and values, and else what it held before; the reply is the
+-- acknowledgement of this update with the table's ID
+pub record EntryHeld (s : Session) (t : Store) (m : Made) : Type 0 where
+  pub table : ℕ
+  pub id : ℕ
+  pub place : ℕ
+  pub how : Commit
+  pub answer : m .outcome .answer ≡ answer.Update table id place how
+  pub kind : ℕ
+  pub start : ℕ
+  pub end : ℕ
+  pub framed : judgeFrame (messageOf s m) ≡ frame.Body kind start end
+  pub body : List ℕ
+  pub body-is : body ≡ take (end - start) (drop start (messageOf s m))
+  pub fields : Update
+  pub after : ℕ
+  pub read : fieldsOf (s .connection) t table kind body ≡ got fields after
+  pub own-id : fields .id ≡ id
+  pub holds : getD (m .store .entries) place noEntry ≡ makeEntry table (spanIn body (fields .key)) (fields .server) (fields .values)
+  pub others : (i : ℕ) → (i ≡ place → ⊥) → getD (m .store .entries) i noEntry ≡ getD (t .entries) i noEntry
+  pub tables : m .store .tables ≡ t .tables
+  pub reply : replyIn m ≡ acknowledge (bindingAt (s .connection) table .id) id
+
+abbrev pub HeldWhenAcknowledged : Type 0
+HeldWhenAcknowledged = (s : Session) (t : Store) (m : Made) → ReadPromise s t m → isAcknowledgement (replyIn m) ≡ true → EntryHeld s t m
+
+-- ---- any refused call, on any record and store, sound or not, leaves tables and entries and the room past the reply as they were
+
+pub record Untouched (t : Store) (m : Made) : Type 0 where
+  pub store : m .store ≡ t
+  pub room : drop (m .outcome .«reply_len») (m .final) ≡ drop (m .outcome .«reply_len») (m .room)
+
+abbrev pub RefusedUntouched : Type 0
+RefusedUntouched = (s : Session) (t : Store) (m : Made) (n : ℕ) → ReadPromise s t m → m .outcome .answer ≡ answer.Refused n → Untouched t m
+
+-- the store is the very store that came for every answer but a table or an update
+abbrev pub OthersUntouched : Type 0
+OthersUntouched =
+    (s : Session) (t : Store) (m : Made) → ReadPromise s t m → ((place : ℕ) → m .outcome .answer ≡ answer.Table place → ⊥)
+    → ((table id place : ℕ) (how : Commit) → m .outcome .answer ≡ answer.Update table id place how → ⊥) → Untouched t m
+
+-- a refused opening leaves the room as it came
+abbrev pub RefusedOpeningUntouched : Type 0
+RefusedOpeningUntouched =
+    (role : Role) (local remote room : List ℕ) (n : ℕ) → «open» role local remote (length room) .answer ≡ answer.Refused n
+    → openRoom role local remote room ≡ room
+
+-- ---- the listing
+
+-- calls that offer the listing's stream, in any division, give its answers and replies and leave its store and record
+pub record ListingCame (calls : List Made) : Type 0 where
+  pub came : cameTo (opened answerer east west) emptyStore calls ≡ listedResult
+  pub session : lastSession (opened answerer east west) calls ≡ holding listedConnection []
+  pub store : lastStore emptyStore calls ≡ listedStore
+
+abbrev pub ListingByCalls : Type 0
+ListingByCalls =
+    (calls : List Made) → Chain (opened answerer east west) emptyStore calls → OffersTo (opened answerer east west) listing calls → ListingCame calls

@@ -1,0 +1,193 @@
+-- When an acknowledgement goes out, the entry is held; any refused call leaves tables and entries as they were.
+use Prim.Native.Nat.{ℕ, zero, suc, _-_, _≤_, _<_, _^_}
+use native.Mathlib.Omega.{arith}
+use mathlib.Core.Path.{_≡_, refl, sym, ap, _∙_, subst}
+use mathlib.Core.Bool.{Bool, true, false, cond, _&&_}
+use mathlib.Core.List.{List, [], _∷_, _++_}
+use lib.ListN.{length, take, drop, getD, set}
+use lib.Seq.{getD-set-same, getD-set-other}
+use lib.Dec.{ltb, lit<}
+use borrow.Author.Tests.{ltb-true}
+use Rattle.lists.specs.Lists.{every, front}
+use Rattle.lists.proofs.Cases.{by-test, never, and-first, and-second}
+use Rattle.lists.proofs.Every.{every-cons}
+use Rattle.store.specs.declared.Store.{Store}
+use Rattle.store.specs.declared.Entry.{Entry}
+use Rattle.store.specs.Store.{makeEntry, putEntry, noEntry}
+use Rattle.wire.specs.Value.{Bytes}
+use Rattle.handshake.specs.Handshake.{nameOk}
+use Rattle.session.specs.declared.Session.{Session}
+use Rattle.session.specs.declared.Connection.{Connection}
+use Rattle.session.specs.declared.Commit.{Commit}
+use Rattle.session.specs.declared.Answer.{Answer}
+use Rattle.session.specs.declared.Answer.the-variants as answer
+use Rattle.session.specs.Session.{unfinished, bindingAt, committed}
+use Rattle.session.proofs.Bindings.{committed-previous, committed-id}
+use Rattle.body.specs.Fields.{spanIn}
+use Rattle.message.specs.Effects.{Effect, acknowledge, updatedEntry}
+use Rattle.opening.specs.Opening.{Role, «open», openRoom}
+use Rattle.message.proofs.Kept.{Held}
+use Rattle.reassembly.specs.Judge.{settled, judge}
+use Rattle.streams.specs.Calls.{Call}
+use Rattle.streams.proofs.Basics.{every-take}
+use Rattle.receiver.specs.Good.{Good}
+use Rattle.receiver.specs.Model.{State, heldBy, isByte}
+use Rattle.receiver.specs.Promise.{Made, Shaped, ReadPromise, callOf}
+use Rattle.receiver.specs.Ledger.{Ledger, startLedger, RightReply, isAcknowledgement, post}
+use Rattle.receiver.specs.Demand3.{replyIn}
+use Rattle.receiver.specs.Corollaries.{messageOf, fieldsOf, EntryHeld, HeldWhenAcknowledged, Untouched, RefusedUntouched, OthersUntouched, RefusedOpeningUntouched}
+use Rattle.receiver.proofs.Committing.{Committed, Updated, updated, store-stays}
+use Rattle.receiver.proofs.Chained.{good-held}
+use Rattle.receiver.proofs.Following.{starts-following}
+use Rattle.receiver.proofs.Laws.{Right, JudgedRight, judge-right}
+use Rattle.receiver.proofs.Lawfully.{open-held}
+use Rattle.receiver.proofs.Ways.{Way, Judging, nothing, judging, ways, answer-is, taken-is, reply-is, room-past}
+
+-- ---- stores
+
+untouched : (s : Session) (t : Store) (m : Made) → ReadPromise s t m → ((place : ℕ) → m .outcome .answer ≡ answer.Table place → ⊥)
+    → ((table id place : ℕ) (how : Commit) → m .outcome .answer ≡ answer.Update table id place how → ⊥)
+    → Way s t (m .piece) (callOf s t (m .piece) (length (m .room))) → m .store ≡ t
+untouched s t m p f g (nothing r q) = p .store ∙ q
+untouched s t m p f g (judging e j) =
+    let a = answer-is s t m p ∙ j .answer in
+    p .store ∙ (j .store ∙ store-stays (s .connection) t _ e (j .judged) (λ place q. f place (a ∙ q)) (λ table id place how q. g table id place how (a ∙ q)))
+
+pub others-untouched : OthersUntouched
+others-untouched s t m p f g = record { store = untouched s t m p f g (ways s t m p); room = room-past s t m p }
+
+pub refused-untouched : RefusedUntouched
+refused-untouched s t m n p a =
+    others-untouched s t m p
+    (λ place q. let r = sym a ∙ q in let z : _≡_ {A = ℕ} 0 1 = cc in omega arith)
+    (λ table id place how q. let r = sym a ∙ q in let z : _≡_ {A = ℕ} 0 1 = cc in omega arith)
+
+-- ---- the entry of an acknowledged update
+
+small-bytes : (ys : List ℕ) → every isByte ys ≡ true → (i : ℕ) → getD ys i 0 < 2 ^ 8
+small-bytes [] h i = lit< tt
+small-bytes (y ∷ ys) h zero = ltb-true y 256 (and-first (isByte y) (every isByte ys) (sym (every-cons isByte y ys) ∙ h))
+small-bytes (y ∷ ys) h (suc i) = small-bytes ys (and-second (isByte y) (every isByte ys) (sym (every-cons isByte y ys) ∙ h)) i
+
+small-append : (xs ys : List ℕ) → ((i : ℕ) → getD xs i 0 < 2 ^ 8) → ((i : ℕ) → getD ys i 0 < 2 ^ 8) → (i : ℕ) → getD (xs ++ ys) i 0 < 2 ^ 8
+small-append [] ys f g i = g i
+small-append (x ∷ xs) ys f g zero = f zero
+small-append (x ∷ xs) ys f g (suc i) = small-append xs ys (λ j. f (suc j)) g i
+
+-- no other answer's reply is an acknowledgement
+only-updates : (l : Ledger) (reply : List ℕ) (a : Answer) → RightReply l reply a → isAcknowledgement reply ≡ true
+    → (table : ℕ) × ((id : ℕ) × ((place : ℕ) × ((how : Commit) × (a ≡ answer.Update table id place how))))
+only-updates l reply answer.More r h = never h r
+only-updates l reply (answer.Hello process relative) r h = never h r
+only-updates l reply answer.Status r h = never h r
+only-updates l reply answer.Request r h = never h r
+only-updates l reply answer.Finished r h = never h r
+only-updates l reply answer.Partial r h = never h r
+only-updates l reply answer.Confirmed r h = never h r
+only-updates l reply answer.Heartbeat r h = never h r
+only-updates l reply (answer.Error type) r h = never h r
+only-updates l reply (answer.Table place) r h = never h r
+only-updates l reply (answer.Switch place) r h = never h r
+only-updates l reply (answer.Update table id place how) r h = (table, (id, (place, (how, refl))))
+only-updates l reply (answer.Acknowledgement id update) r h = never h r
+only-updates l reply (answer.Skipped kind) r h = never h r
+only-updates l reply (answer.Refused n) r h = never h r
+
+put-here : (t : Store) (place : ℕ) (e : Entry) → place < length (t .entries) → getD (putEntry t place e .entries) place noEntry ≡ e
+unfolding putEntry
+put-here t place e l = getD-set-same (t .entries) place e noEntry l
+
+put-others : (t : Store) (place : ℕ) (e : Entry) (i : ℕ) → (i ≡ place → ⊥) → getD (putEntry t place e .entries) i noEntry ≡ getD (t .entries) i noEntry
+unfolding putEntry
+put-others t place e i n = getD-set-other (t .entries) place i e noEntry n
+
+put-tables : (t : Store) (place : ℕ) (e : Entry) → putEntry t place e .tables ≡ t .tables
+unfolding putEntry
+put-tables t place e = refl
+
+module _ (s : Session) (t : Store) (m : Made) (p : ReadPromise s t m) (h : isAcknowledgement (replyIn m) ≡ true) (e : Effect)
+    (j : Judging s t (m .piece) (callOf s t (m .piece) (length (m .room))) e) where
+  good : Good (heldBy s t)
+  good = good-held s t (p .shaped) (j .sound)
+
+  abbrev held : Held (s .connection) t
+  held = unfold heldBy in open-held (heldBy s t) good (j .opened)
+
+  judged : judge (s .connection) t (messageOf s m) ≡ settled e
+  judged = ap (λ (n : ℕ). judge (s .connection) t (unfinished s ++ take n (m .piece))) (taken-is s t m p) ∙ j .judged
+
+  bytes : Bytes (messageOf s m)
+  bytes = record {
+    byte =
+        small-append (unfinished s) (take (m .outcome .taken) (m .piece)) (unfold heldBy in good .unfinished)
+        (small-bytes (take (m .outcome .taken) (m .piece)) (every-take isByte (m .outcome .taken) (m .piece) (p .bytes)));
+  }
+
+  right : Right (s .connection) (messageOf s m) e
+  right = subst (JudgedRight (s .connection) (messageOf s m)) judged (judge-right (s .connection) t held (messageOf s m) bytes)
+
+  acked : isAcknowledgement (e .reply) ≡ true
+  acked = ap isAcknowledgement (sym (reply-is s t m p ∙ j .reply)) ∙ h
+
+  entry-held : EntryHeld s t m
+  unfolding updatedEntry
+  entry-held =
+      let k = only-updates _ (e .reply) (e .answer) (right .follow .right (startLedger (s .connection)) (starts-following (s .connection))) acked in
+      let table = k .0 in
+      let id = k .1 .0 in
+      let place = k .1 .1 .0 in
+      let u = updated (s .connection) t (messageOf s m) e judged table id place (k .1 .1 .1 .0) (k .1 .1 .1 .1) in
+      let x = u .committed in
+      let stored = p .store ∙ (j .store ∙ x .store) in
+      let few : table < length (s .connection .bindings) = omega (arith, x .current, held .connection .currentLimit, held .connectionShape .places) in
+      record {
+        table = table;
+        id = id;
+        place = place;
+        how = k .1 .1 .1 .0;
+        answer = answer-is s t m p ∙ (j .answer ∙ k .1 .1 .1 .1);
+        kind = u .kind;
+        start = u .start;
+        end = u .end;
+        framed = u .framed;
+        body = take (u .end - u .start) (drop (u .start) (messageOf s m));
+        body-is = refl;
+        fields = x .fields;
+        after = x .after;
+        read = x .read;
+        own-id = x .own-id;
+        holds = ap (λ (k : Store). getD (k .entries) place noEntry) stored ∙ put-here t place _ (x .inside);
+        others = λ i n. ap (λ (k : Store). getD (k .entries) i noEntry) stored ∙ put-others t place _ i n;
+        tables = ap (λ (k : Store). k .tables) stored ∙ put-tables t place _;
+        reply =
+            reply-is s t m p
+            ∙ (j .reply
+            ∙ (x .reply
+            ∙ (ap (λ (n : ℕ). acknowledge n (bindingAt (committed (s .connection) table id) table .previous)) (committed-id (s .connection) table id few)
+            ∙ ap (acknowledge (bindingAt (s .connection) table .id)) (committed-previous (s .connection) table id few))));
+      }
+
+none-acknowledges : isAcknowledgement [] ≡ false
+unfolding isAcknowledgement
+none-acknowledges = refl
+
+by-way : (s : Session) (t : Store) (m : Made) → ReadPromise s t m → isAcknowledgement (replyIn m) ≡ true
+    → Way s t (m .piece) (callOf s t (m .piece) (length (m .room))) → EntryHeld s t m
+by-way s t m p h (nothing r q) = never (ap isAcknowledgement (sym (reply-is s t m p ∙ r)) ∙ h) none-acknowledges
+by-way s t m p h (judging e j) = entry-held s t m p h e j
+
+pub held-when-acknowledged : HeldWhenAcknowledged
+held-when-acknowledged s t m p h = by-way s t m p h (ways s t m p)
+
+-- ---- opening
+
+pub refused-opening-untouched : RefusedOpeningUntouched
+unfolding «open» openRoom front
+refused-opening-untouched role local remote room n =
+    by-test (ltb (length room) 101)
+    (λ a. rw a (λ q. refl))
+    (λ a.
+    rw a
+    (by-test (nameOk local && nameOk remote)
+    (λ b. rw b (λ q. absurd (let z : _≡_ {A = ℕ} 0 1 = cc in omega arith)))
+    (λ b. rw b (λ q. refl))))

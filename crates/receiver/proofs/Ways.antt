@@ -1,0 +1,128 @@
+-- How a call that kept its promise ended, on any record and store: it changed no store and sent nothing, or its message was judged.
+use Prim.Native.Nat.{ℕ, _≤_}
+use native.Mathlib.Omega.{arith}
+use mathlib.Core.Path.{_≡_, refl, sym, ap, _∙_}
+use mathlib.Core.Bool.{Bool, true, false, cond}
+use mathlib.Core.List.{List, [], _∷_, _++_}
+use lib.ListN.{length, take, drop}
+use lib.Dec.{ltb}
+use borrow.Author.Tests.{ltb-true, ltb-false}
+use Rattle.lists.specs.Lists.{front}
+use Rattle.lists.proofs.Cases.{by-test}
+use Rattle.lists.proofs.Bytes.{front-take, front-drop}
+use Rattle.store.specs.declared.Store.{Store}
+use Rattle.session.specs.declared.Session.{Session}
+use Rattle.session.specs.declared.Answer.{Answer}
+use Rattle.session.specs.declared.Outcome.{Outcome}
+use Rattle.session.specs.Session.{unfinished, isClosed}
+use Rattle.soundness.specs.Sound.{sound, waits}
+use Rattle.message.specs.Effects.{Effect}
+use Rattle.reassembly.specs.Judge.{Judged, settled, judge}
+use Rattle.reassembly.specs.Pieces.{Part, takePiece}
+use Rattle.reassembly.proofs.Taking.{part-bytes, part-ended}
+use Rattle.streams.specs.Calls.{Call, stay, scan}
+use Rattle.receiver.specs.Model.{State, heldBy, peers}
+use Rattle.receiver.specs.Promise.{Made, Shaped, ReadPromise, callOf, outcomeOf}
+use Rattle.receiver.specs.Steps.{judgedCall, partCall}
+use Rattle.receiver.specs.Demand3.{replyIn}
+use Rattle.receiver.proofs.Held.{state-fits}
+use Rattle.receiver.proofs.Piece.{judged-as, judged-settled, scan-takes}
+use Rattle.receiver.proofs.Chained.{good-held}
+use Rattle.receiver.proofs.Receiving.{waited-call, settled-call}
+use Rattle.receiver.proofs.Promising.{call-short, call-unsound, call-closed, call-open}
+
+-- sound, open, and the message's bytes came to this effect
+pub record Judging (s : Session) (t : Store) (piece : List ℕ) (c : Call State Answer) (e : Effect) : Type 0 where
+  pub sound : sound s t ≡ true
+  pub opened : isClosed (s .connection) ≡ false
+  pub judged : judge (s .connection) t (unfinished s ++ take (c .taken) piece) ≡ settled e
+  pub reply : c .reply ≡ e .reply
+  pub answer : c .answer ≡ e .answer
+  pub store : c .state .store ≡ e .store
+
+pub data Way (s : Session) (t : Store) (piece : List ℕ) (c : Call State Answer) : Type 0 where
+  nothing : c .reply ≡ [] → c .state .store ≡ t → Way s t piece c
+  judging : (e : Effect) → Judging s t piece c e → Way s t piece c
+
+module _ (s : Session) (t : Store) (piece : List ℕ) where
+  stay-way : (c : Call State Answer) (a : Answer) → c ≡ stay (heldBy s t) a → Way s t piece c
+  unfolding heldBy
+  stay-way c a e = nothing (ap (λ (k : Call State Answer). k .reply) e) (ap (λ (k : Call State Answer). k .state .store) e)
+
+  module _ (sh : Shaped s t) (f : sound s t ≡ true) (o : isClosed (s .connection) ≡ false) where
+    abbrev part : Part
+    part = takePiece (s .connection) (unfinished s) piece
+
+    few : length (unfinished s) ≤ 1027
+    unfolding heldBy
+    few = state-fits (heldBy s t) (good-held s t sh f .sound)
+
+    is-part : scan peers (heldBy s t) piece ≡ partCall (s .connection) t part
+    unfolding heldBy
+    is-part = scan-takes (s .connection) (unfinished s) t piece o
+
+    waited-way : part .ended ≡ false → Way s t piece (scan peers (heldBy s t) piece)
+    unfolding judgedCall
+    waited-way z =
+        let q = is-part ∙ waited-call s t part z in
+        nothing (ap (λ (k : Call State Answer). k .reply) q) (ap (λ (k : Call State Answer). k .state .store) q)
+
+    settled-way : part .ended ≡ true → Way s t piece (scan peers (heldBy s t) piece)
+    unfolding judgedCall
+    settled-way z =
+        let j = judged-settled (waits (s .connection) (part .bytes)) (judge (s .connection) t (part .bytes)) (judged-as (s .connection) t (part .bytes)) (part-ended (s .connection) (unfinished s) piece few z) in
+        let q = is-part ∙ settled-call s t part (j .0) z (j .1) in
+        let n = ap (λ (k : Call State Answer). k .taken) q in
+        judging (j .0) (record {
+          sound = f;
+          opened = o;
+          judged =
+              ap (judge (s .connection) t) (ap (λ (k : ℕ). unfinished s ++ take k piece) n ∙ sym (part-bytes (s .connection) (unfinished s) piece)) ∙ j .1;
+          reply = ap (λ (k : Call State Answer). k .reply) q;
+          answer = ap (λ (k : Call State Answer). k .answer) q;
+          store = ap (λ (k : Call State Answer). k .state .store) q;
+        })
+
+    open-way : Way s t piece (scan peers (heldBy s t) piece)
+    open-way = by-test (part .ended) settled-way waited-way
+
+  pub way : (room : List ℕ) → Shaped s t → Way s t piece (callOf s t piece (length room))
+  way room sh =
+      by-test (ltb (length room) 12)
+      (λ a. stay-way _ _ (call-short s t piece room (ltb-true (length room) 12 a)))
+      (λ a.
+      let l = ltb-false (length room) 12 a in
+      by-test (sound s t)
+      (λ f.
+      by-test (isClosed (s .connection))
+      (λ o. stay-way _ _ (call-closed s t piece room l f o))
+      (λ o. rw (call-open s t piece room l f o) (open-way sh f o)))
+      (λ f. stay-way _ _ (call-unsound s t piece room l f)))
+
+-- ---- what a call that kept its promise gave
+
+module _ (s : Session) (t : Store) (m : Made) (p : ReadPromise s t m) where
+  abbrev call : Call State Answer
+  call = callOf s t (m .piece) (length (m .room))
+
+  pub ways : Way s t (m .piece) call
+  ways = way s t (m .piece) (m .room) (p .shaped)
+
+  pub answer-is : m .outcome .answer ≡ call .answer
+  unfolding outcomeOf
+  answer-is = ap (λ (o : Outcome). o .answer) (p .outcome)
+
+  pub taken-is : m .outcome .taken ≡ call .taken
+  unfolding outcomeOf
+  taken-is = ap (λ (o : Outcome). o .taken) (p .outcome)
+
+  length-is : m .outcome .«reply_len» ≡ length (call .reply)
+  unfolding outcomeOf
+  length-is = ap (λ (o : Outcome). o .«reply_len») (p .outcome)
+
+  pub reply-is : replyIn m ≡ call .reply
+  unfolding replyIn
+  reply-is = rw (length-is, p .final) (front-take (call .reply) (m .room))
+
+  pub room-past : drop (m .outcome .«reply_len») (m .final) ≡ drop (m .outcome .«reply_len») (m .room)
+  room-past = rw (length-is, p .final) (front-drop (call .reply) (m .room))
