@@ -19,3 +19,4 @@ pub mod Demand3
 pub mod CasesHold
 pub mod ListingHolds
 pub mod Corollaries
+pub mod ReadBack

@@ -1,5 +1,5 @@
 -- What follows from the promise and from demand 3, in the auditor's words.
-use Prim.Native.Nat.{ℕ, _-_, _<_}
+use Prim.Native.Nat.{ℕ, _-_, _<_, _^_}
 use mathlib.Core.Path.{_≡_}
 use mathlib.Core.List.{List, [], _++_}
 use mathlib.Core.Bool.{true, cond}
@@ -18,7 +18,7 @@ use Rattle.session.specs.Session.{unfinished, bindingAt, holding}
 use Rattle.soundness.specs.Sound.{sound}
 use Rattle.opening.specs.Opening.{Role, answerer, opened, «open», openRoom}
 use Rattle.body.specs.Fields.{Read, got, spanIn}
-use Rattle.body.specs.Bodies.{Update, updateFields, incrementalFields}
+use Rattle.body.specs.Bodies.{Update, updateFields, incrementalFields, acknowledgementFields}
 use Rattle.message.specs.Effects.{acknowledge, followingId}
 use Rattle.receiver.specs.Promise.{Made, ReadPromise}
 use Rattle.receiver.specs.Ledger.{isAcknowledgement}
@@ -77,6 +77,15 @@ pub record EntryHeld (s : Session) (t : Store) (m : Made) : Type 0 where
 
 abbrev pub HeldWhenAcknowledged : Type 0
 HeldWhenAcknowledged = (s : Session) (t : Store) (m : Made) → ReadPromise s t m → isAcknowledgement (replyIn m) ≡ true → EntryHeld s t m
+
+-- an acknowledgement, read as a message of class 10, type 133, says its ID and its update ID
+pub record ReadBack (id update : ℕ) : Type 0 where
+  pub end : ℕ
+  pub framed : judgeFrame (acknowledge id update) ≡ frame.Body 133 3 end
+  pub fields : acknowledgementFields (take (end - 3) (drop 3 (acknowledge id update))) ≡ got (record { id = id; update = update }) (end - 3)
+
+abbrev pub AcknowledgementReadBack : Type 0
+AcknowledgementReadBack = (id update : ℕ) → id < 2 ^ 32 → update < 2 ^ 32 → ReadBack id update
 
 -- ---- any refused call, on any record and store, sound or not, leaves tables and entries and the room past the reply as they were
 
