@@ -64,7 +64,7 @@ fn read_between(low: u64, high: u64, body: &[u8], at: usize) -> Field
 fn read_word(body: &[u8], at: usize) -> Word
     ensures { λ r. ⌜ wordRead r ≡ integerOf 32 (now (body .entry)) at ⌝ }
 {
-    match wire::read_value32(body, at) {
+    match values::read_value32(body, at) {
         Field::Value { value, next } => Word::Value {
             value: value as u32,
             next,
@@ -186,7 +186,7 @@ fn is_key_type(n: u64) -> bool
     if 255 < n {
         return false;
     }
-    store::is_known(store::key_kind(n as u8))
+    table_types::is_known(table_types::key_kind(n as u8))
 }
 
 // The key type at `at`.
@@ -211,7 +211,7 @@ fn read_key_len(key_type: u8, body: &[u8], at: usize) -> Field
 {
     match wire::read_int(body, at) {
         Int::Value { value, next } => {
-            if store::key_length_ok(key_type, value as usize) {
+            if table_types::key_length_ok(key_type, value as usize) {
                 return Field::Value { value, next };
             }
             Field::OutOfRange
@@ -267,7 +267,7 @@ fn read_pair(t: usize, body: &[u8], at: usize) -> Word
 fn read_period(types: u32, t: usize, body: &[u8], at: usize) -> Word
     ensures { λ r. ⌜ wordRead r ≡ periodField types t (now (body .entry)) at ⌝ }
 {
-    if store::present(types, t) {
+    if table_types::present(types, t) {
         return read_pair(t, body, at);
     }
     Word::Value { value: 0, next: at }
@@ -281,7 +281,7 @@ fn read_periods(types: u32, body: &[u8], at: usize) -> PeriodsRead
     let mut position = at;
     let mut i: usize = 0;
     while i < RATES {
-        match read_period(types, store::rate_type(i), body, position) {
+        match read_period(types, table_types::rate_type(i), body, position) {
             Word::Value { value, next } => {
                 periods[i] = value;
                 position = next;
@@ -424,7 +424,7 @@ fn no_definition(reading: Reading) -> DefinitionBody
 pub fn read_switch(body: &[u8]) -> Field
     ensures { λ r. ⌜ r ≡ switchBody (switchFields (now (body .entry))) ⌝ }
 {
-    wire::read_value32(body, 0)
+    values::read_value32(body, 0)
 }
 
 // What reading an acknowledgement finds.
@@ -439,7 +439,7 @@ pub fn read_acknowledgement(body: &[u8]) -> AcknowledgementBody
     ensures { λ r. ⌜ r ≡ acknowledgementBody (acknowledgementFields (now (body .entry))) ⌝ }
 {
     match read_word(body, 0) {
-        Word::Value { value: id, next } => match wire::read_number(body, next) {
+        Word::Value { value: id, next } => match numbers::read_number(body, next) {
             Number::Value {
                 value: update,
                 next: end,
@@ -495,7 +495,7 @@ fn read_string(key_len: usize, body: &[u8], at: usize) -> Part
 fn read_key(key_type: u8, key_len: usize, body: &[u8], at: usize) -> Part
     ensures { λ r. ⌜ partRead r ≡ keyField «key_type» «key_len» (now (body .entry)) at ⌝ }
 {
-    if store::is_string(store::key_kind(key_type)) {
+    if table_types::is_string(table_types::key_kind(key_type)) {
         return read_string(key_len, body, at);
     }
     read_part(key_len, body, at)
@@ -505,8 +505,8 @@ fn read_key(key_type: u8, key_len: usize, body: &[u8], at: usize) -> Part
 fn read_server(types: u32, body: &[u8], at: usize) -> ServerId
     ensures { λ r. ⌜ serverRead r ≡ serverField types (now (body .entry)) at ⌝ }
 {
-    if store::present(types, 0) {
-        return wire::read_server_id(body, at);
+    if table_types::present(types, 0) {
+        return values::read_server_id(body, at);
     }
     ServerId::Id { id: 0, next: at }
 }
@@ -515,11 +515,11 @@ fn read_server(types: u32, body: &[u8], at: usize) -> ServerId
 fn read_slot(types: u32, t: usize, body: &[u8], at: usize) -> Field
     ensures { λ r. ⌜ fieldRead r ≡ slotField types t (now (body .entry)) at ⌝ }
 {
-    if store::present(types, t) {
-        if store::is_wide(t) {
-            return wire::read_value64(body, at);
+    if table_types::present(types, t) {
+        if table_types::is_wide(t) {
+            return values::read_value64(body, at);
         }
-        return wire::read_value32(body, at);
+        return values::read_value32(body, at);
     }
     Field::Value { value: 0, next: at }
 }
@@ -532,7 +532,7 @@ fn read_values(types: u32, body: &[u8], at: usize) -> ValuesRead
     let mut position = at;
     let mut slot: usize = 0;
     while slot < VALUES {
-        match read_slot(types, store::slot_type(slot), body, position) {
+        match read_slot(types, table_types::slot_type(slot), body, position) {
             Field::Value { value, next } => {
                 values[slot] = value;
                 position = next;
@@ -624,7 +624,7 @@ fn read_entry(table: Table, id: u32, body: &[u8], at: usize) -> UpdateBody
 pub fn read_update(table: Table, body: &[u8]) -> UpdateBody
     ensures { λ r. ⌜ r ≡ updateBody (updateFields table (now (body .entry))) ⌝ }
 {
-    match wire::read_number(body, 0) {
+    match numbers::read_number(body, 0) {
         Number::Value { value, next } => read_entry(table, value, body, next),
         Number::Short => no_update(Reading::Short),
     }

@@ -157,7 +157,7 @@ fn define_at(connection: Connection, store: Store, id: u32, table: Table, place:
 fn define_new(connection: Connection, store: Store, id: u32, table: Table) -> Settled
     ensures { λ r. ⌜ r ≡ settledOf (defineNew connection store id table (freeTable store)) ⌝ }
 {
-    match store::free_table(store) {
+    match lookup::free_table(store) {
         Found::At(place) => define_at(connection, store, id, table, place),
         Found::Nothing => refuse(connection, store, 26),
     }
@@ -167,7 +167,7 @@ fn define_new(connection: Connection, store: Store, id: u32, table: Table) -> Se
 fn define_named(connection: Connection, store: Store, id: u32, table: Table, name: &[u8]) -> Settled
     ensures { λ r. ⌜ r ≡ settledOf (defineNamed connection store id table (findTable store (now (name .entry)))) ⌝ }
 {
-    match store::find_table(store, name) {
+    match lookup::find_table(store, name) {
         Found::At(place) => {
             let tables = store.tables;
             if agree(table_at(tables, place), table) {
@@ -301,8 +301,8 @@ pub fn acknowledge(id: u32, update: u32) -> Reply
     let len = e.len;
     let encoded = e.bytes;
     let mut bytes = [0x0a, 0x85, (4 + len) as u8, 0, 0, 0, 0, 0, 0, 0, 0, 0];
-    wire::put_bytes(&mut bytes, 3, &encoded[..len]);
-    wire::put_number(&mut bytes, 3 + len, update);
+    room::put_bytes(&mut bytes, 3, &encoded[..len]);
+    room::put_number(&mut bytes, 3 + len, update);
     Reply {
         bytes,
         len: 7 + len,
@@ -343,7 +343,7 @@ fn commit_at(
 fn commit_new(connection: Connection, store: Store, table: usize, id: u32, entry: Entry) -> Settled
     ensures { λ r. ⌜ r ≡ settledOf (commitNew connection store table id entry (freeEntry store)) ⌝ }
 {
-    match store::free_entry(store) {
+    match lookup::free_entry(store) {
         Found::At(place) => commit_at(connection, store, table, id, entry, place, Commit::New),
         Found::Nothing => refuse(connection, store, 29),
     }
@@ -369,7 +369,7 @@ fn with_fields(
             let values = fields.values;
             let key = &body[start..end];
             let entry = store::make_entry(table, key, fields.server_id, values);
-            match store::find_entry(store, table, key) {
+            match lookup::find_entry(store, table, key) {
                 Found::At(place) => commit_at(
                     connection,
                     store,

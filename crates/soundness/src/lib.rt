@@ -17,7 +17,7 @@ use session::bound_to;
 use store::Store;
 use store::TABLES;
 use store::Table;
-use store::sound_store;
+use store_soundness::sound_store;
 ghost use mathlib.Core.Path.{_≡_};
 ghost use mathlib.Core.Bool.{_||_};
 ghost use Prim.Native.Nat.{_≤_};
