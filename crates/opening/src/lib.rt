@@ -1,7 +1,7 @@
 // Opening a session as answerer or caller.
 use handshake::Written;
 use handshake::name_ok;
-use handshake::write_hello;
+use hello_writing::write_hello;
 use lists::pad;
 use session::AWAITING_HELLO;
 use session::AWAITING_STATUS;

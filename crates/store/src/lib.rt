@@ -62,10 +62,6 @@ pub enum KeyKind {
     Unknown,
 }
 
-// ---- data types
-
-// ---- lookup
-
 // ---- putting a table or an entry
 
 // A held entry. Key bytes past the longest key are left out.
@@ -182,5 +178,3 @@ pub fn empty_store() -> Store
         entries: [e; ENTRIES],
     }
 }
-
-// ---- soundness
