@@ -1,4 +1,4 @@
--- Choice by a test, and what a test told. Assumes nothing.
+-- Choice by a test, and what a test told.
 use Prim.Native.Nat.{ℕ, _≤_, _<_}
 use native.Mathlib.Omega.{arith}
 use mathlib.Core.Logic.{_⊎_, inl, inr}

@@ -1,4 +1,4 @@
--- The decimal digits of a number: how they are written, how many there are, and that they read back. Assumes nothing.
+-- The decimal digits of a number: how they are written, how many there are, and that they read back.
 use Prim.Native.Nat.{ℕ, zero, suc, _+_, _*_, _-_, _/_, _%_, _^_, _≤_, _<_}
 use native.Mathlib.Omega.{arith}
 use native.Mathlib.Nat.{pow-suc}

@@ -1,5 +1,5 @@
 -- Laws of hello and status that layers above cite: what was judged stays with more bytes, a waiting one is short, the numbers of
--- refusals, and that accepted process numbers have 32 bits. Assumes nothing.
+-- refusals, and that accepted process numbers have 32 bits.
 use Prim.Native.Nat.{ℕ, zero, suc, _+_, _-_, _^_, _≤_, _<_}
 use native.Mathlib.Omega.{arith}
 use mathlib.Core.Logic.{_⊎_, inl, inr, ⊎-elim}

@@ -1,4 +1,4 @@
--- Each way through the functions that judge a hello, in the form of what it has to show. Assumes nothing.
+-- Each way through the functions that judge a hello, in the form of what it has to show.
 use Prim.Native.Nat.{ℕ, zero, suc, _+_, _-_, _^_, _≤_, _<_}
 use native.Mathlib.Omega.{arith}
 use native.Mathlib.Numerals.{add-one}

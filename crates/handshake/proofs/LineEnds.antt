@@ -1,4 +1,4 @@
--- Where a line ends, and what is known of it. Assumes nothing.
+-- Where a line ends, and what is known of it.
 use Prim.Native.Nat.{ℕ, zero, suc, _+_, _-_, _≤_, _<_}
 use native.Mathlib.Omega.{arith}
 use mathlib.Core.Path.{_≡_, refl, subst}

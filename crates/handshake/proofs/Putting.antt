@@ -1,4 +1,4 @@
--- Bytes put into a room one after the other, in the form of what each way has to show. Assumes nothing.
+-- Bytes put into a room one after the other, in the form of what each way has to show.
 use Prim.Native.Nat.{ℕ, suc, _+_, _-_, _^_, _≤_, _<_}
 use native.Mathlib.Omega.{arith}
 use native.Mathlib.Numerals.{add-one}

@@ -1,4 +1,4 @@
--- Reading the hello that a caller writes, as the addressed peer, is accepted with its process numbers. Assumes nothing.
+-- Reading the hello that a caller writes, as the addressed peer, is accepted with its process numbers.
 use Prim.Native.Nat.{ℕ, zero, suc, _+_, _-_, _^_, _≤_, _<_}
 use native.Mathlib.Omega.{arith}
 use native.Mathlib.Numerals.{add-one}

@@ -1,4 +1,4 @@
--- The loops over a slice: what holds at the head of each, and a law for each way from there. Assumes nothing.
+-- The loops over a slice: what holds at the head of each, and a law for each way from there.
 use Prim.Native.Nat.{ℕ, zero, suc, _+_, _*_, _-_, _^_, _≤_, _<_}
 use native.Mathlib.Omega.{arith}
 use native.Mathlib.Numerals.{add-one}

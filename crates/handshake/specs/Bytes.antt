@@ -1,4 +1,4 @@
--- Byte strings: equality, decimal numbers, and bytes at the front of a room. Assumes nothing.
+-- Byte strings: equality, decimal numbers, and bytes at the front of a room.
 use Prim.Native.Nat.{ℕ, zero, suc, _+_, _*_, _-_, _/_, _%_}
 use mathlib.Core.List.{List, [], _∷_, _++_}
 use mathlib.Core.Bool.{Bool, true, false, cond, _&&_}

@@ -1,4 +1,4 @@
--- The rules at worked examples, by computation. Assumes nothing.
+-- The rules at worked examples, by computation.
 use Prim.Native.Nat.{ℕ, _^_, _-_}
 use mathlib.Core.Path.{_≡_, refl}
 use mathlib.Core.List.{List, [], _∷_, _++_}

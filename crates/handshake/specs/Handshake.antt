@@ -1,4 +1,4 @@
--- Hello and status: what document 01 says in "Opening and handshake", in its order. Assumes nothing.
+-- Hello and status: what document 01 says in "Opening and handshake", in its order.
 use Prim.Native.Nat.{ℕ, zero, suc, _+_, _-_}
 use mathlib.Core.List.{List, [], _∷_, _++_}
 use mathlib.Core.Bool.{Bool, true, false, cond, _&&_}

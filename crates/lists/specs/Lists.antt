@@ -1,4 +1,4 @@
--- Tests and searches over lists, and byte strings, for the definitions of other crates. Assumes nothing.
+-- Tests and searches over lists, and byte strings, for the definitions of other crates.
 use Prim.Native.Nat.{ℕ, zero, suc, _+_}
 use mathlib.Core.List.{List, [], _∷_, _++_}
 use mathlib.Core.Bool.{Bool, true, false, cond, not, _&&_, _||_}

@@ -1,4 +1,4 @@
--- The acknowledgement of an update: its bytes, at most twelve, and the code that writes it. Assumes nothing.
+-- The acknowledgement of an update: its bytes, at most twelve, and the code that writes it.
 use Prim.Native.Nat.{ℕ, _+_, _-_, _^_, _≤_, _<_}
 use native.Mathlib.Omega.{arith}
 use mathlib.Core.Path.{_≡_, sym, ap, _∙_}

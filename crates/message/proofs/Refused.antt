@@ -1,5 +1,5 @@
 -- A refused message closes the record with its number and changes nothing else: tables, entries, bindings, previous IDs and the current table
--- stay. Assumes nothing.
+-- stay.
 use Prim.Native.Nat.{ℕ, _-_}
 use native.Mathlib.Omega.{arith}
 use mathlib.Core.Path.{_≡_, refl, sym, ap, _∙_}

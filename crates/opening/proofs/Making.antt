@@ -1,4 +1,4 @@
--- The code of opening: one law for each way to a result. Assumes nothing.
+-- The code of opening: one law for each way to a result.
 use Prim.Native.Nat.{ℕ, _^_, _≤_, _<_}
 use native.Mathlib.Omega.{arith}
 use mathlib.Core.Path.{_≡_, refl, sym, ap, _∙_}

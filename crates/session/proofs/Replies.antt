@@ -1,4 +1,4 @@
--- The code of replies: one law for each way to a result. Assumes nothing.
+-- The code of replies: one law for each way to a result.
 use Prim.Native.Nat.{ℕ}
 use mathlib.Core.Path.{_≡_, refl, sym, ap, _∙_}
 use mathlib.Core.Bool.{Bool, true, false, cond, _||_}

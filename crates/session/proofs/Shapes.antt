@@ -1,4 +1,4 @@
--- The changes of a connection keep its shape. Assumes nothing.
+-- The changes of a connection keep its shape.
 use Prim.Native.Nat.{ℕ, _+_, _^_, _≤_, _<_}
 use native.Mathlib.Omega.{arith}
 use mathlib.Core.Path.{_≡_, refl, sym, ap, _∙_, subst}

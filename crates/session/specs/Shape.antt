@@ -1,4 +1,4 @@
--- The shape of Rattle's values: how many elements each array has, and how large each number can be. Assumes nothing.
+-- The shape of Rattle's values: how many elements each array has, and how large each number can be.
 use Prim.Native.Nat.{ℕ, _^_, _<_}
 use mathlib.Core.Path.{_≡_}
 use lib.ListN.{length, getD}

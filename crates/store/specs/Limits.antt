@@ -1,4 +1,4 @@
--- The numbers of document 01 that concern tables and entries, and the layout of an entry's values. Assumes nothing.
+-- The numbers of document 01 that concern tables and entries, and the layout of an entry's values.
 use Prim.Native.Nat.{ℕ, zero, suc, _+_, _-_, _/_, _%_, _^_}
 use mathlib.Core.List.{List, [], _∷_, _++_}
 use mathlib.Core.Bool.{Bool, true, false, cond, not, _&&_, _||_}

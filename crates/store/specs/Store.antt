@@ -1,4 +1,4 @@
--- Tables and entries: what is held, lookup, the lowest free place, and what putting one makes. Assumes nothing.
+-- Tables and entries: what is held, lookup, the lowest free place, and what putting one makes.
 use Prim.Native.Nat.{ℕ, zero, suc, _+_, _-_}
 use mathlib.Core.List.{List, [], _∷_, _++_}
 use mathlib.Core.Bool.{Bool, true, false, cond, not, _&&_, _||_}

@@ -1,5 +1,5 @@
 -- Writing into lent room: a law for each way through `put_bytes`, `put_int` and `put_number`, and the laws of the room afterwards.
--- Assumes nothing.
+--
 use Prim.Native.Nat.{ℕ, _+_, _-_, _≤_, _<_, _^_}
 use native.Mathlib.Omega.{arith}
 use native.Mathlib.Numerals.{add-one}
