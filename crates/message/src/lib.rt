@@ -38,7 +38,7 @@ pub fn no_reply() -> Reply
 pub fn refuse(connection: Connection, store: Store, number: u8) -> Settled
     ensures { λ r. ⌜ r ≡ settledOf (refuse connection store number) ⌝ }
 {
-    let closed = session::refuse_connection(connection, number);
+    let closed = session::close_connection(connection, number);
     let reply = replies::refusal_reply(number);
     Settled {
         answer: Answer::Refused(number),
@@ -95,7 +95,7 @@ pub fn control(connection: Connection, store: Store, kind: u8) -> Settled
 pub fn peer_error(connection: Connection, store: Store, kind: u8) -> Settled
     ensures { λ r. ⌜ r ≡ settledOf (peerError connection store kind) ⌝ }
 {
-    let closed = session::refuse_connection(connection, 0);
+    let closed = session::close_connection(connection, 0);
     let reply = no_reply();
     Settled {
         answer: Answer::Error(kind),

@@ -109,7 +109,7 @@ pub struct Reply {
 // ---- changes of a connection
 
 // The connection closed with a number; all else stays.
-pub fn refuse_connection(c: Connection, number: u8) -> Connection
+pub fn close_connection(c: Connection, number: u8) -> Connection
     ensures { λ r. ⌜ r ≡ closedWith c number ⌝ }
 {
     let mut d = c;
