@@ -1,4 +1,4 @@
-// The bodies of stick table messages, read field by field from a lent slice.
+// The bodies of stick table messages: fields, and the bodies of a switch and an acknowledgement, read from a lent slice.
 ghost use mathlib.Core.Path.{_≡_};
 ghost use Rattle.body.specs.Fields.{integer, between, integerOf, bytes};
 ghost use Rattle.body.specs.Bodies.{switchFields, acknowledgementFields};

@@ -1,9 +1,12 @@
-// Hello and status of the peers protocol: judging the unfinished bytes of one, and writing one.
+// Hello and status of the peers protocol: what their bytes come to, and which names may be given at opening.
 ghost use mathlib.Core.Path.{_≡_};
 ghost use mathlib.Core.Bool.{true};
 ghost use Prim.Native.Nat.{_+_, _<_};
-ghost use Rattle.handshake.specs.Bytes.{eqBytes, within};
+ghost use Rattle.handshake.specs.Bytes.{within};
 ghost use Rattle.handshake.specs.Handshake.{nameOk};
+
+// The longest peer name.
+pub const PEER_NAME_MAX: usize = 32;
 
 // Where a line ends: its LF stands at a position; or the bytes end before an LF; or a 65th byte stands where an LF had to be.
 pub enum Line {
@@ -50,32 +53,6 @@ pub struct Digits {
     pub start: usize,
 }
 
-// The line that answers a hello: the first `len` of `bytes`.
-pub struct Reply {
-    pub bytes: [u8; 4],
-    pub len: usize,
-}
-
-// ---- byte strings
-
-pub fn same(a: &[u8], b: &[u8]) -> bool
-    ensures { λ r. ⌜ r ≡ eqBytes (now (a .entry)) (now (b .entry)) ⌝ }
-{
-    if a.len() != b.len() {
-        return false;
-    }
-    let mut i: usize = 0;
-    while i < a.len() {
-        let x = a[i];
-        let y = b[i];
-        if x != y {
-            return false;
-        }
-        i += 1;
-    }
-    true
-}
-
 pub fn bytes_within(s: &[u8], lo: u8, hi: u8) -> bool
     ensures { λ r. ⌜ r ≡ within lo hi (now (s .entry)) ⌝ }
 {
@@ -100,7 +77,7 @@ pub fn name_ok(name: &[u8]) -> bool
     if name.len() < 1 {
         return false;
     }
-    if 32 < name.len() {
+    if PEER_NAME_MAX < name.len() {
         return false;
     }
     bytes_within(name, 33, 126)

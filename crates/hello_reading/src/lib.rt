@@ -7,15 +7,18 @@ use handshake::Hello;
 use handshake::Line;
 use handshake::Number;
 use handshake::Part;
-use handshake::same;
+use lists::same;
 use sender_line::first_part;
 use sender_line::read_number;
+
+// The most bytes that a line has before its LF.
+const LINE_MAX: usize = 64;
 
 // Where the line that starts at `at` ends.
 pub fn line_end(s: &[u8], at: usize) -> Line
     ensures { λ r. ⌜ r ≡ lineAt (now (s .entry)) at ⌝ }
 {
-    let mut left: usize = 64;
+    let mut left: usize = LINE_MAX;
     let mut i = at;
     while i < s.len() {
         let b = s[i];

@@ -2,7 +2,8 @@
 ghost use mathlib.Core.Path.{_≡_};
 ghost use Prim.Native.Nat.{_+_, _≤_};
 ghost use lib.ListN.{length};
-ghost use Rattle.handshake.specs.Bytes.{decimal, digitsOf, putAt, front, roomWith, writtenTo};
+ghost use Rattle.lists.specs.Lists.{front, overlay};
+ghost use Rattle.handshake.specs.Bytes.{decimal, digitsOf, roomWith, writtenTo};
 ghost use Rattle.handshake.specs.Handshake.{spaced, senderLine, ended, helloBytes};
 use handshake::Digits;
 use handshake::Written;
@@ -35,7 +36,7 @@ fn count_digits(n: u32) -> usize
 fn put(room: &mut [u8], at: usize, bytes: &[u8]) -> usize
     requires { ⌜ at + length (now bytes) ≤ length (now room) ⌝ }
     ensures next { λ r. ⌜ r ≡ at + length (now (bytes .entry)) ⌝ }
-    ensures content { λ _. ⌜ now (room .exit) ≡ putAt (now (room .entry)) at (now (bytes .entry)) ⌝ }
+    ensures content { λ _. ⌜ now (room .exit) ≡ overlay at (now (bytes .entry)) (now (room .entry)) ⌝ }
 {
     let mut i: usize = 0;
     while i < bytes.len() {
@@ -48,7 +49,7 @@ fn put(room: &mut [u8], at: usize, bytes: &[u8]) -> usize
 fn put_line(room: &mut [u8], at: usize, line: &[u8]) -> usize
     requires { ⌜ at + length (ended (now line)) ≤ length (now room) ⌝ }
     ensures next { λ r. ⌜ r ≡ at + length (ended (now (line .entry))) ⌝ }
-    ensures content { λ _. ⌜ now (room .exit) ≡ putAt (now (room .entry)) at (ended (now (line .entry))) ⌝ }
+    ensures content { λ _. ⌜ now (room .exit) ≡ overlay at (ended (now (line .entry))) (now (room .entry)) ⌝ }
 {
     let next = put(room, at, line);
     put(room, next, b"\n")
@@ -57,7 +58,7 @@ fn put_line(room: &mut [u8], at: usize, line: &[u8]) -> usize
 fn put_spaced(room: &mut [u8], at: usize, n: u32) -> usize
     requires { ⌜ at + length (spaced n) ≤ length (now room) ⌝ }
     ensures next { λ r. ⌜ r ≡ at + length (spaced n) ⌝ }
-    ensures content { λ _. ⌜ now (room .exit) ≡ putAt (now (room .entry)) at (spaced n) ⌝ }
+    ensures content { λ _. ⌜ now (room .exit) ≡ overlay at (spaced n) (now (room .entry)) ⌝ }
 {
     let next = put(room, at, b" ");
     let d = decimal_digits(n as u64);
@@ -69,7 +70,7 @@ fn put_spaced(room: &mut [u8], at: usize, n: u32) -> usize
 fn put_sender(room: &mut [u8], at: usize, name: &[u8], process: u32, relative: u32) -> usize
     requires { ⌜ at + length (senderLine (now name) process relative) ≤ length (now room) ⌝ }
     ensures next { λ r. ⌜ r ≡ at + length (senderLine (now (name .entry)) process relative) ⌝ }
-    ensures content { λ _. ⌜ now (room .exit) ≡ putAt (now (room .entry)) at (senderLine (now (name .entry)) process relative) ⌝ }
+    ensures content { λ _. ⌜ now (room .exit) ≡ overlay at (senderLine (now (name .entry)) process relative) (now (room .entry)) ⌝ }
 {
     let a = put(room, at, name);
     let b = put_spaced(room, a, process);

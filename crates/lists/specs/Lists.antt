@@ -67,3 +67,7 @@ padTo (suc n) (x ∷ xs) = x ∷ padTo n xs
 -- a list with xs in place of its first elements, as many as xs has
 unfoldable pub front : List ℕ → List ℕ → List ℕ
 front xs room = xs ++ drop (length xs) room
+
+-- a list with xs in place of what stood from position at on
+unfoldable pub overlay : ℕ → List ℕ → List ℕ → List ℕ
+overlay at xs room = take at room ++ xs ++ drop (at + length xs) room

@@ -13,7 +13,8 @@ use Rattle.lists.proofs.Bytes.{pad-fits}
 use Rattle.wire.specs.declared.Encoded.{Encoded}
 use Rattle.wire.specs.Integer.{encodeInt, encodedInt, smallest}
 use Rattle.wire.specs.Number.{encodeNumber}
-use Rattle.wire.specs.Room.{overlay, putRoom}
+use Rattle.lists.specs.Lists.{overlay}
+use Rattle.wire.specs.Room.{putRoom}
 use Rattle.wire.proofs.Write.{int-alone}
 use Rattle.wire.proofs.Sizes.{shorter, encoded-len}
 use Rattle.wire.proofs.Numbers.{number-length}

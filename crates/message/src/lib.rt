@@ -1,4 +1,5 @@
 // Messages past the handshake: what each does to session and store, and its reply.
+use replies::no_reply;
 use session::Answer;
 use session::Binding;
 use session::Connection;
@@ -7,7 +8,6 @@ use store::Store;
 use store::TABLES;
 use store::Table;
 ghost use mathlib.Core.Path.{_≡_};
-ghost use mathlib.Core.List.{[]};
 ghost use lib.ListN.{getD};
 ghost use Rattle.store.specs.Store.{noTable};
 ghost use Rattle.session.specs.Answers.{replyOf};
@@ -24,15 +24,6 @@ pub struct Settled {
 }
 
 // ---- refusals
-
-pub fn no_reply() -> Reply
-    ensures { λ r. ⌜ r ≡ replyOf [] ⌝ }
-{
-    Reply {
-        bytes: [0u8; 12],
-        len: 0,
-    }
-}
 
 // A message that is refused with a number: it closes the session, and changes nothing else.
 pub fn refuse(connection: Connection, store: Store, number: u8) -> Settled

@@ -1,8 +1,19 @@
-// The replies to refusals.
+// Replies: to a hello, and to refusals.
+use handshake::Hello;
 use session::Reply;
 ghost use mathlib.Core.Path.{_≡_};
-ghost use Rattle.handshake.specs.Handshake.{refusalLine};
+ghost use mathlib.Core.List.{[]};
+ghost use Rattle.handshake.specs.Handshake.{refusalLine, helloReply};
 ghost use Rattle.session.specs.Answers.{isSizeLimit, isProtocolError, refusalReply, replyOf};
+
+pub fn no_reply() -> Reply
+    ensures { λ r. ⌜ r ≡ replyOf [] ⌝ }
+{
+    Reply {
+        bytes: [0u8; 12],
+        len: 0,
+    }
+}
 
 fn is_size_limit(number: u8) -> bool
     ensures { λ r. ⌜ r ≡ isSizeLimit number ⌝ }
@@ -51,10 +62,7 @@ fn refusal_line(number: u8) -> Reply
             bytes: *b"504\n\0\0\0\0\0\0\0\0",
             len: 4,
         },
-        _ => Reply {
-            bytes: [0u8; 12],
-            len: 0,
-        },
+        _ => no_reply(),
     }
 }
 
@@ -75,4 +83,21 @@ pub fn refusal_reply(number: u8) -> Reply
         };
     }
     refusal_line(number)
+}
+
+// The status line that answers a hello: none while it waits.
+pub fn hello_reply(hello: Hello) -> Reply
+    ensures { λ r. ⌜ r ≡ replyOf (helloReply hello) ⌝ }
+{
+    match hello {
+        Hello::Waiting => no_reply(),
+        Hello::Accepted {
+            process: _,
+            relative: _,
+        } => Reply {
+            bytes: *b"200\n\0\0\0\0\0\0\0\0",
+            len: 4,
+        },
+        Hello::Refused(number) => refusal_line(number),
+    }
 }

@@ -1,5 +1,6 @@
 // The session record, one for each connection: what reading needs to know between two calls, as plain numbers.
 // The lender of a record can put any number anywhere; `sound_session`, of the crate `soundness`, says whether it is one that the rules allow with a store.
+use handshake::PEER_NAME_MAX;
 use store::TABLES;
 ghost use mathlib.Core.Path.{_≡_};
 ghost use Rattle.session.specs.Session.{closedWith, establish, currentMark, makeCurrent};
@@ -36,8 +37,8 @@ pub struct Connection {
     pub current: usize,
     pub local_len: usize,
     pub remote_len: usize,
-    pub local: [u8; 32],
-    pub remote: [u8; 32],
+    pub local: [u8; PEER_NAME_MAX],
+    pub remote: [u8; PEER_NAME_MAX],
     pub bindings: [Binding; TABLES],
 }
 

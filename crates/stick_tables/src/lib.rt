@@ -2,9 +2,9 @@
 use body::AcknowledgementBody;
 use lists::Found;
 use message::Settled;
-use message::no_reply;
 use message::refuse;
 use message::skipped;
+use replies::no_reply;
 use session::Answer;
 use session::Connection;
 use store::Store;

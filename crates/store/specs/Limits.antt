@@ -23,6 +23,13 @@ nameMax = 32
 abbrev pub keyMax : ℕ
 keyMax = 64
 
+-- the rate types, and the integers of an entry's data types but for the server ID: 10 single ones and 8 times 3
+abbrev pub rateCount : ℕ
+rateCount = 8
+
+abbrev pub valueCount : ℕ
+valueCount = 34
+
 -- "IDs, expiry and periods are at most 2^32 - 1"
 abbrev pub max32 : ℕ
 max32 = 2 ^ 32 - 1

@@ -2,9 +2,9 @@
 use body::Reading;
 use lists::Found;
 use message::Settled;
-use message::no_reply;
 use message::refuse;
 use message::table_at;
+use replies::no_reply;
 use session::Answer;
 use session::Connection;
 use store::Store;

@@ -23,9 +23,11 @@ returns-4 : tie.Need-returns-4
 unfolding replyOf refusalLine padTo statusLine decimal decimalIn lf
 returns-4 c = rw (c .before .before .match .keys4)
 
+no-reply-requires : tie.Need-no-reply-requires
+no-reply-requires c κs = search needs
+
 returns-5 : tie.Need-returns-5
-unfolding replyOf padTo
 returns-5 c = search (needs, no-line)
 
 pub refusal-line-spec : {M : Type 1} → statement M
-refusal-line-spec = tie.close (tie.spec returns returns-2 returns-3 returns-4 returns-5)
+refusal-line-spec = tie.close (tie.spec no-reply-requires returns returns-2 returns-3 returns-4 returns-5)

@@ -1,8 +1,8 @@
 use mathlib.Core.Path.{refl}
 use Rattle.lists.specs.Lists.{padTo}
 use Rattle.session.specs.Answers.{replyOf}
-use Rattle.message.proofs.no_reply.Statement.{statement}
-use Rattle.message.proofs.no_reply.Tie as tie
+use Rattle.replies.proofs.no_reply.Statement.{statement}
+use Rattle.replies.proofs.no_reply.Tie as tie
 
 returns : tie.Need-returns
 unfolding replyOf padTo
