@@ -88,9 +88,9 @@ fn incremental_of(connection: Connection, store: Store, table: usize, body: &[u8
 pub fn incremental(connection: Connection, store: Store, body: &[u8]) -> Settled
     ensures { λ r. ⌜ r ≡ settledOf (incremental connection store (now (body .entry))) ⌝ }
 {
-    let current = connection.current;
-    if current == 0 {
+    let mark = connection.current;
+    if mark == 0 {
         return refuse(connection, store, 27);
     }
-    incremental_of(connection, store, current - 1, body)
+    incremental_of(connection, store, mark - 1, body)
 }
