@@ -1,4 +1,4 @@
--- "Bytes after the known fields are ignored": what was read of a body stays when more bytes follow. Assumes nothing.
+-- "Bytes after the known fields are ignored": what was read of a body stays when more bytes follow.
 use Prim.Native.Nat.{ℕ, _+_, _-_, _≤_}
 use native.Mathlib.Omega.{arith}
 use mathlib.Core.Logic.{_⊎_, inl, inr}

@@ -1,4 +1,4 @@
--- Each way through the readers of a definition, in the form of what it has to show. Assumes nothing.
+-- Each way through the readers of a definition, in the form of what it has to show.
 use Prim.Native.Nat.{ℕ, _-_, _^_, _<_}
 use native.Mathlib.Omega.{arith}
 use mathlib.Core.Path.{_≡_, refl, sym, _∙_}

@@ -1,4 +1,4 @@
--- Each way through a field reader, in the form of what it has to show. Assumes nothing.
+-- Each way through a field reader, in the form of what it has to show.
 use Prim.Native.Nat.{ℕ, _+_, _-_, _^_, _≤_, _<_}
 use native.Mathlib.Omega.{arith}
 use native.Mathlib.Nat.{pow-le-pow-right}

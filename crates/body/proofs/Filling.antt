@@ -1,5 +1,4 @@
--- A loop that reads a field for each of the types ts into an array: what holds at its head, and what each way from there shows. Assumes
--- nothing.
+-- A loop that reads a field for each of the types ts into an array: what holds at its head, and what each way from there shows.
 use Prim.Native.Nat.{ℕ, suc, _+_, _-_, _≤_, _<_}
 use native.Mathlib.Omega.{arith}
 use native.Mathlib.Numerals.{add-one}

@@ -1,4 +1,4 @@
--- From what a public function gave to what was read of the body. Assumes nothing.
+-- From what a public function gave to what was read of the body.
 use Prim.Native.Nat.{ℕ}
 use mathlib.Core.Path.{_≡_, refl, sym, ap, _∙_}
 use Rattle.wire.specs.declared.Field.{Field}

@@ -1,4 +1,4 @@
--- Each way through the readers of a switch and of an acknowledgement, in the form of what it has to show. Assumes nothing.
+-- Each way through the readers of a switch and of an acknowledgement, in the form of what it has to show.
 use Prim.Native.Nat.{ℕ}
 use mathlib.Core.Path.{_≡_, refl, ap, _∙_}
 use mathlib.Core.List.{List}

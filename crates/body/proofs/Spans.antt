@@ -1,4 +1,4 @@
--- A part that lies within a body: its length, its bytes, and that more bytes behind the body don't change it. Assumes nothing.
+-- A part that lies within a body: its length, its bytes, and that more bytes behind the body don't change it.
 use Prim.Native.Nat.{ℕ, _+_, _≤_}
 use native.Mathlib.Omega.{arith}
 use mathlib.Core.Path.{_≡_}

@@ -1,5 +1,5 @@
 -- What holds of a value that was read, and that it ends within the body: a type by cases on what reading gave, proved of fields one after
--- another and of each field. Assumes nothing.
+-- another and of each field.
 use Prim.Native.Nat.{ℕ, zero, suc, _+_, _-_, _^_, _≤_, _<_}
 use native.Mathlib.Omega.{arith}
 use mathlib.Core.Path.{_≡_, refl, ap, subst, _∙_}

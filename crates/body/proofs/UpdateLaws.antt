@@ -1,4 +1,4 @@
--- Each way through the readers of an update, in the form of what it has to show. Assumes nothing.
+-- Each way through the readers of an update, in the form of what it has to show.
 use Prim.Native.Nat.{ℕ}
 use mathlib.Core.Path.{_≡_, refl, _∙_}
 use mathlib.Core.List.{List}

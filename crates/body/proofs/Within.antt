@@ -1,4 +1,4 @@
--- What was read of a body is within the limits. Assumes nothing.
+-- What was read of a body is within the limits.
 use Prim.Native.Nat.{ℕ, _+_, _-_, _^_, _≤_, _<_}
 use native.Mathlib.Omega.{arith}
 use mathlib.Core.Path.{_≡_, refl, _∙_}

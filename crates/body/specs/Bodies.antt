@@ -6,7 +6,7 @@ use lib.ListN.{length, replicate}
 use lib.Dec.{eqb}
 use lib.IntN.{ℤ, pos}
 use Rattle.store.specs.declared.Table.{Table}
-use Rattle.store.specs.Limits.{nameMax, keyKind, isKnown, isString, keyLengthOk, dataTypesOk, present, widthOf, slotTypes, rateTypes}
+use Rattle.store.specs.Limits.{nameMax, keyKind, isKnown, isString, keyLengthOk, dataTypesOk, present, widthOf, slotTypes, rateTypes, rateCount}
 use Rattle.body.specs.Fields.{Read, got, Reader, andThen, forEach, Span, integer, between, integerOf, bytes, number4, serverId}
 
 -- ---- definition
@@ -68,7 +68,7 @@ timesThere types body at =
 
 -- ".. and then, unless the body ends there, .."
 abbrev pub noTimes : Times
-noTimes = record { timed = 0; expiry = 0; periods = replicate 8 0 }
+noTimes = record { timed = 0; expiry = 0; periods = replicate rateCount 0 }
 
 unfoldable pub timesFields : ℕ → Reader Times
 timesFields types body at = cond (eqb at (length body)) (got noTimes at) (timesThere types body at)

@@ -3,6 +3,7 @@ use Prim.Native.Nat.{ℕ}
 use mathlib.Core.List.{List}
 use lib.ListN.{replicate}
 use lib.IntN.{pos}
+use Rattle.store.specs.Limits.{valueCount}
 use Rattle.wire.specs.declared.Field.{Field}
 use Rattle.wire.specs.declared.Field.the-variants as field
 use Rattle.body.specs.declared.Reading.{Reading}
@@ -75,7 +76,7 @@ abbrev pub dataRead : DataRead → Read Data
 dataRead d = readAs {A = Data} (d .reading) (record { server = d .«server_id»; values = d .values })
 
 abbrev pub noData : Data
-noData = record { server = pos 0; values = replicate 34 0 }
+noData = record { server = pos 0; values = replicate valueCount 0 }
 
 -- ---- of a body; where it broke, all else is zero
 
@@ -125,7 +126,7 @@ updateStruct how u = record {
 }
 
 abbrev pub noUpdate : Update
-noUpdate = record { id = 0; key = noSpan; server = pos 0; values = replicate 34 0 }
+noUpdate = record { id = 0; key = noSpan; server = pos 0; values = replicate valueCount 0 }
 
 unfoldable pub updateBody : Read Update → UpdateBody
 updateBody (got u next) = updateStruct (reading.Whole next) u

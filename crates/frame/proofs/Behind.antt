@@ -1,4 +1,4 @@
--- More bytes behind: a judgement that isn't waiting stays, and waiting bytes become whole at their last byte only. Assumes nothing.
+-- More bytes behind: a judgement that isn't waiting stays, and waiting bytes become whole at their last byte only.
 use Prim.Native.Nat.{ℕ, _+_, _≤_, _<_}
 use native.Mathlib.Omega.{arith}
 use mathlib.Core.Logic.{_⊎_, inl, inr}

@@ -1,5 +1,5 @@
 -- A law for each way through `header_of`, `judge_body`, `judge_frame` and `wanted`. Where a law has an m, it is the number that the code
--- tests, and the law holds for more numbers than that one. Assumes nothing.
+-- tests, and the law holds for more numbers than that one.
 use Prim.Native.Nat.{ℕ, _+_, _-_, _^_, _≤_, _<_}
 use native.Mathlib.Omega.{arith}
 use mathlib.Core.Path.{_≡_, sym, _∙_}

@@ -1,5 +1,5 @@
 -- The bytes of an encoded integer: how many are cut short, how many a small value takes, and where a value ends that more bytes complete.
--- Assumes nothing.
+--
 use Prim.Native.Nat.{ℕ, zero, suc, _+_, _^_, _≤_, _<_}
 use native.Mathlib.Omega.{arith}
 use mathlib.Core.Logic.{_⊎_, inl, inr}

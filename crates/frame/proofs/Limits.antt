@@ -1,4 +1,4 @@
--- What holds of each judgement. Assumes nothing.
+-- What holds of each judgement.
 use Prim.Native.Nat.{ℕ, _+_, _≤_, _<_}
 use native.Mathlib.Omega.{arith}
 use mathlib.Core.Path.{_≡_, refl, sym, subst}

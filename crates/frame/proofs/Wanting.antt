@@ -1,4 +1,4 @@
--- How many bytes waiting bytes still want. Assumes nothing.
+-- How many bytes waiting bytes still want.
 use Prim.Native.Nat.{ℕ, _+_, _-_, _≤_, _<_}
 use native.Mathlib.Omega.{arith}
 use mathlib.Core.Logic.{_⊎_, inl, inr}

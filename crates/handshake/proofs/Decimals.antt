@@ -1,21 +1,21 @@
--- The decimal digits of a number: how they are written, how many there are, and that they read back. Assumes nothing.
+-- The decimal digits of a number: how they are written, how many there are, and that they read back.
 use Prim.Native.Nat.{ℕ, zero, suc, _+_, _*_, _-_, _/_, _%_, _^_, _≤_, _<_}
 use native.Mathlib.Omega.{arith}
 use native.Mathlib.Nat.{pow-suc}
 use mathlib.Core.Logic.{⊎-elim}
 use mathlib.Core.Path.{_≡_, refl, sym, ap, _∙_}
 use mathlib.Core.List.{List, [], _∷_, _++_, append-assoc, append-nil}
-use mathlib.Core.Bool.{Bool, true, false, _&&_}
-use lib.Dec.{ltb, leb}
+use mathlib.Core.Bool.{true, _&&_}
+use lib.Dec.{leb}
 use lib.ListN.{length, take, drop, set, replicate, length-append, length-replicate}
 use lib.Seq.{drop-at, take-length}
 use borrow.Author.Needs.{needs}
 use borrow.Author.Tests.{lt-ltb, le-ltb, le-leb}
-use mir.Syntax.{w8, w64}
+use mir.Syntax.{w64}
 use mir.Val.{Fits}
 use Rattle.handshake.specs.declared.Digits.{Digits}
 use Rattle.handshake.specs.Bytes.{within, decimalIn, decimal, readDigits, digitsOf}
-use Rattle.handshake.proofs.Choice.{lt-or-le, both-first, both-second}
+use Rattle.lists.proofs.Cases.{lt-or-le, and-first, and-second}
 
 -- ---- the rule, case by case
 decimal-last : (f g n : ℕ) → f ≡ suc g → n < 10 → decimalIn f n ≡ (48 + n) ∷ []
@@ -131,9 +131,9 @@ pub within-append : (lo hi : ℕ) (s t : List ℕ) → within lo hi s ≡ true �
 unfolding within
 within-append lo hi [] t p q = q
 within-append lo hi (b ∷ s) t p q =
-    let a = both-first (leb lo b) (leb b hi && within lo hi s) p in
-    let r = both-second (leb lo b) (leb b hi && within lo hi s) p in
-    rw (a, both-first (leb b hi) (within lo hi s) r) (within-append lo hi s t (both-second (leb b hi) (within lo hi s) r) q)
+    let a = and-first (leb lo b) (leb b hi && within lo hi s) p in
+    let r = and-second (leb lo b) (leb b hi && within lo hi s) p in
+    rw (a, and-first (leb b hi) (within lo hi s) r) (within-append lo hi s t (and-second (leb b hi) (within lo hi s) r) q)
 
 digit-in : (d : ℕ) → d < 10 → within 48 57 ((48 + d) ∷ []) ≡ true
 unfolding within

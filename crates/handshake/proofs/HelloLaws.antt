@@ -1,24 +1,25 @@
 -- Laws of hello and status that layers above cite: what was judged stays with more bytes, a waiting one is short, the numbers of
--- refusals, and that accepted process numbers have 32 bits. Assumes nothing.
+-- refusals, and that accepted process numbers have 32 bits.
 use Prim.Native.Nat.{ℕ, zero, suc, _+_, _-_, _^_, _≤_, _<_}
 use native.Mathlib.Omega.{arith}
-use mathlib.Core.Logic.{_⊎_, inl, inr, ⊎-elim}
-use mathlib.Core.Path.{_≡_, refl, sym, ap, subst, _∙_}
+use mathlib.Core.Logic.{_⊎_, ⊎-elim}
+use mathlib.Core.Path.{_≡_, refl, sym, subst, _∙_}
 use mathlib.Core.List.{List, [], _∷_, _++_}
-use mathlib.Core.Bool.{Bool, true, false, cond, _&&_}
+use mathlib.Core.Bool.{true, _&&_}
 use lib.Dec.{ltb, leb, eqb}
 use lib.ListN.{length, take, drop, length-append, length-drop, drop-of-length-le}
 use lib.Seq.{take-append-le, drop-append-le}
-use borrow.Author.Tests.{lt-ltb, le-ltb, leb-true, ltb-true, ltb-false}
+use borrow.Author.Tests.{lt-ltb, le-ltb, leb-true}
 use Rattle.handshake.specs.declared.Line.{Line}
 use Rattle.handshake.specs.declared.Line.the-variants as line
 use Rattle.handshake.specs.declared.Hello.{Hello}
 use Rattle.handshake.specs.declared.Hello.the-variants as hello
 use Rattle.handshake.specs.declared.Status.{Status}
 use Rattle.handshake.specs.declared.Status.the-variants as status
-use Rattle.handshake.specs.Bytes.{eqBytes, oneOf, within, readDigits}
+use Rattle.lists.specs.Lists.{eqBytes}
+use Rattle.handshake.specs.Bytes.{oneOf, within, readDigits}
 use Rattle.handshake.specs.Handshake.{lineIn, lineAt, span, word, afterWord, partB, numberB, numbersB, version20, version21, greets, judgeNames, judgeNumbers, judgeThird, judgeLines, fromThird, fromSecond, fromFirst, judgeHello, statusLine, failureLines, judgeFour, judgeStatus}
-use Rattle.handshake.proofs.Choice.{by-test, lt-or-le, both-first, both-second}
+use Rattle.lists.proofs.Cases.{by-test, lt-or-le, and-first, and-second}
 use Rattle.handshake.proofs.LineEnds.{line-ends, line-waits}
 
 -- ---- a line that ended, or is too long, stays so with more bytes
@@ -154,9 +155,9 @@ HelloIs len (hello.Refused n) = (10 ≤ n) × (n ≤ 13)
 number-small : (s : List ℕ) → numberB s ≡ true → readDigits 0 s < 2 ^ 32
 unfolding numberB
 number-small s h =
-    let a = both-second (leb 1 (length s)) _ h in
-    let b = both-second (leb (length s) 10) _ a in
-    let c = leb-true (readDigits 0 s) 4294967295 (both-second (within 48 57 s) _ b) in
+    let a = and-second (leb 1 (length s)) _ h in
+    let b = and-second (leb (length s) 10) _ a in
+    let c = leb-true (readDigits 0 s) 4294967295 (and-second (within 48 57 s) _ b) in
     omega arith
 
 module _ (n : ℕ) where
@@ -172,8 +173,8 @@ module _ (n : ℕ) where
   numbers-are l r v t s rest =
       by-test (numbersB rest)
       (λ h.
-      let a = both-second (partB rest) _ h in
-      rw h (names-are l r v t s _ _ (number-small (word rest) (both-first _ _ a)) (number-small (afterWord rest) (both-second (numberB (word rest)) _ a))))
+      let a = and-second (partB rest) _ h in
+      rw h (names-are l r v t s _ _ (number-small (word rest) (and-first _ _ a)) (number-small (afterWord rest) (and-second (numberB (word rest)) _ a))))
       (λ h. rw h (omega arith))
 
   third-is : (l r v t s : List ℕ) → HelloIs n (judgeThird l r v t s)

@@ -1,16 +1,15 @@
--- Each way through the functions that judge a hello, in the form of what it has to show. Assumes nothing.
-use Prim.Native.Nat.{ℕ, zero, suc, _+_, _-_, _^_, _≤_, _<_}
+-- Each way through the functions that judge a hello, in the form of what it has to show.
+use Prim.Native.Nat.{ℕ, _+_, _-_, _^_, _≤_, _<_}
 use native.Mathlib.Omega.{arith}
-use native.Mathlib.Numerals.{add-one}
 use mathlib.Core.Path.{_≡_, refl, sym, ap, subst, _∙_}
 use mathlib.Core.List.{List, [], _∷_}
-use mathlib.Core.Bool.{Bool, true, false, not, cond, _&&_}
-use lib.Dec.{ltb, leb, eqb}
+use mathlib.Core.Bool.{Bool, true, false, not, cond}
+use lib.Dec.{ltb}
 use lib.ListN.{length, take, drop, length-drop}
 use lib.Seq.{length-take-le, take-all}
 use borrow.Author.Needs.{needs}
-use borrow.Author.Tests.{lt-ltb, le-ltb, lt-leb, le-leb, ltb-true, leb-true, not-true, not-false}
-use mir.Syntax.{w32, w64}
+use borrow.Author.Tests.{lt-ltb, le-ltb, lt-leb, le-leb, ltb-true, not-true, not-false}
+use mir.Syntax.{w64}
 use mir.Val.{Fits}
 use Rattle.handshake.specs.declared.Hello.{Hello}
 use Rattle.handshake.specs.declared.Hello.the-variants as hello
@@ -18,9 +17,10 @@ use Rattle.handshake.specs.declared.Part.{Part}
 use Rattle.handshake.specs.declared.Part.the-variants as part
 use Rattle.handshake.specs.declared.Number.{Number}
 use Rattle.handshake.specs.declared.Number.the-variants as number
-use Rattle.handshake.specs.Bytes.{eqBytes, oneOf, within, readDigits}
+use Rattle.lists.specs.Lists.{eqBytes}
+use Rattle.handshake.specs.Bytes.{oneOf, within, readDigits}
 use Rattle.handshake.specs.Handshake.{nameOk, version20, version21, greeting, untilSpace, word, afterWord, partB, partOf, numberB, numberOf, numbersB, judgeNames, judgeNumbers, judgeThird, greets, judgeLines}
-use Rattle.handshake.proofs.Choice.{by-test, both-first, both-second}
+use Rattle.lists.proofs.Cases.{by-test, and-second}
 
 -- ---- names
 pub name-short : (s : List ℕ) → length s < 1 → false ≡ nameOk s
@@ -60,7 +60,7 @@ part-is : (s : List ℕ) → PartIs s (partOf s)
 unfolding PartIs partOf partB
 part-is s =
     by-test (partB s)
-    (λ h. rw h (refl, h, ltb-true (untilSpace s) (length s) (both-second (ltb 0 (untilSpace s)) _ h)))
+    (λ h. rw h (refl, h, ltb-true (untilSpace s) (length s) (and-second (ltb 0 (untilSpace s)) _ h)))
     (λ h. rw h h)
 
 -- ---- a number

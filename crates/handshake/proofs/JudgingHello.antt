@@ -1,7 +1,7 @@
--- Each way through `judge_hello`, in the form of what it has to show: x, y and z are what the lines come to. Assumes nothing.
+-- Each way through `judge_hello`, in the form of what it has to show: x, y and z are what the lines come to.
 use Prim.Native.Nat.{ℕ, _+_, _-_, _^_, _≤_, _<_}
 use native.Mathlib.Omega.{arith}
-use mathlib.Core.Path.{_≡_, refl, sym, ap, _∙_}
+use mathlib.Core.Path.{_≡_, sym, _∙_}
 use mathlib.Core.List.{List}
 use lib.ListN.{length, take, drop, length-drop}
 use lib.Seq.{length-take-le}

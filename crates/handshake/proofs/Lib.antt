@@ -1,4 +1,3 @@
-pub mod Choice
 pub mod Scans
 pub mod Judging
 pub mod LineEnds

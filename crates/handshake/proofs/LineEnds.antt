@@ -1,14 +1,14 @@
--- Where a line ends, and what is known of it. Assumes nothing.
+-- Where a line ends, and what is known of it.
 use Prim.Native.Nat.{ℕ, zero, suc, _+_, _-_, _≤_, _<_}
 use native.Mathlib.Omega.{arith}
-use mathlib.Core.Path.{_≡_, refl, subst}
+use mathlib.Core.Path.{_≡_, subst}
 use mathlib.Core.List.{List, [], _∷_}
 use lib.Dec.{eqb}
 use lib.ListN.{length, drop, length-drop}
 use Rattle.handshake.specs.declared.Line.{Line}
 use Rattle.handshake.specs.declared.Line.the-variants as line
 use Rattle.handshake.specs.Handshake.{lineIn, lineAt}
-use Rattle.handshake.proofs.Choice.{by-test}
+use Rattle.lists.proofs.Cases.{by-test}
 
 -- of a line at position at, where len bytes are there and n may stand before its LF
 unfoldable pub Lined : ℕ → ℕ → ℕ → Line → Type 0

@@ -1,19 +1,17 @@
--- Bytes put into a room one after the other, in the form of what each way has to show. Assumes nothing.
-use Prim.Native.Nat.{ℕ, suc, _+_, _-_, _^_, _≤_, _<_}
+-- Bytes put into a room one after the other, in the form of what each way has to show.
+use Prim.Native.Nat.{ℕ, _+_, _-_, _^_, _≤_, _<_}
 use native.Mathlib.Omega.{arith}
 use native.Mathlib.Numerals.{add-one}
 use mathlib.Core.Path.{_≡_, refl, sym, ap, _∙_}
 use mathlib.Core.List.{List, [], _∷_, _++_, append-assoc}
-use lib.ListN.{length, getD, take, drop, set, length-set, length-append, length-take, length-drop, replicate, length-replicate}
+use lib.ListN.{length, getD, take, drop, set, length-set, length-append, replicate, length-replicate}
 use lib.Seq.{paste, paste-zero, paste-suc, take-at, take-all, drop-append-add, drop-drop, length-take-le}
 use borrow.Author.Needs.{needs}
 use borrow.Author.Tests.{le-leb, lt-leb}
-use mir.Syntax.{w64}
-use mir.Val.{Fits}
 use Rattle.handshake.specs.declared.Digits.{Digits}
-use Rattle.handshake.specs.declared.Written.{Written}
 use Rattle.handshake.specs.declared.Written.the-variants as written
-use Rattle.handshake.specs.Bytes.{decimal, digitsOf, putAt, front, roomWith, writtenTo}
+use Rattle.lists.specs.Lists.{front, overlay}
+use Rattle.handshake.specs.Bytes.{decimal, digitsOf, roomWith, writtenTo}
 use Rattle.handshake.specs.Handshake.{greeting, version21, space, lf, spaced, senderLine, ended, helloBytes}
 use Rattle.handshake.proofs.Decimals.{digits-start, digits-taken, decimal-few}
 
@@ -43,8 +41,8 @@ module _ {room bytes : List ℕ} {at : ℕ} {now : List ℕ} {i : ℕ} (p : Past
   pub paste-next : length bytes ≤ i → at + i ≡ at + length bytes
   paste-next h = omega (arith, p .up)
 
-  pub paste-end : length bytes ≤ i → now ≡ putAt room at bytes
-  unfolding putAt
+  pub paste-end : length bytes ≤ i → now ≡ overlay at bytes room
+  unfolding overlay
   paste-end h =
       let e : i ≡ length bytes = omega (arith, p .up) in
       p .list ∙ ap (paste room at bytes) e ∙ rw (take-all (length bytes) bytes (omega arith))
@@ -52,8 +50,8 @@ module _ {room bytes : List ℕ} {at : ℕ} {now : List ℕ} {i : ℕ} (p : Past
 pub ruleset pasting = (needs, paste-start, paste-index, paste-turn, paste-kept, paste-next, paste-end)
 
 -- ---- two strings one after the other
-pub put-put : (room a b : List ℕ) (at : ℕ) → at ≤ length room → putAt (putAt room at a) (at + length a) b ≡ putAt room at (a ++ b)
-unfolding putAt
+pub put-put : (room a b : List ℕ) (at : ℕ) → at ≤ length room → overlay (at + length a) b (overlay at a room) ≡ overlay at (a ++ b) room
+unfolding overlay
 put-put room a b at h =
     let n : length (take at room ++ a) ≡ at + length a = length-append (take at room) a ∙ ap (λ (i : ℕ). i + length a) (length-take-le at room h) in
     let o : at + length a + length b ≡ at + length (a ++ b) = omega (arith, length-append a b) in
@@ -67,7 +65,7 @@ put-put room a b at h =
     rw (f, d, append-assoc (take at room) a b)
 
 -- the same where x is the room after the first and k the position after it
-put-on : (room x a b : List ℕ) (at k : ℕ) → at ≤ length room → x ≡ putAt room at a → k ≡ at + length a → putAt x k b ≡ putAt room at (a ++ b)
+put-on : (room x a b : List ℕ) (at k : ℕ) → at ≤ length room → x ≡ overlay at a room → k ≡ at + length a → overlay k b x ≡ overlay at (a ++ b) room
 put-on room x a b at k h e f = rw (e, f) (put-put room a b at h)
 
 -- ---- a line and its LF
@@ -86,7 +84,7 @@ module _ (room s : List ℕ) (at : ℕ) (fits : at + length (ended s) ≤ length
     pub line-lf : length x ≡ length room → k + 1 ≤ length x
     line-lf e = omega (arith, ended-length s)
 
-    pub line-put : (y : List ℕ) → x ≡ putAt room at s → y ≡ putAt x k (10 ∷ []) → y ≡ putAt room at (ended s)
+    pub line-put : (y : List ℕ) → x ≡ overlay at s room → y ≡ overlay k (10 ∷ []) x → y ≡ overlay at (ended s) room
     unfolding ended lf
     line-put y e f = f ∙ put-on room x s (10 ∷ []) at k (omega arith) e ek
 
@@ -111,7 +109,7 @@ module _ (room : List ℕ) (at n : ℕ) (fits : at + length (spaced n) ≤ lengt
     pub spaced-next : (r : ℕ) → r ≡ k + length (take (20 - d .start) (drop (d .start) (d .bytes))) → r ≡ at + length (spaced n)
     spaced-next r e = omega (arith, spaced-length n, taken-length)
 
-    pub spaced-put : (y : List ℕ) → x ≡ putAt room at (32 ∷ []) → y ≡ putAt x k (take (20 - d .start) (drop (d .start) (d .bytes))) → y ≡ putAt room at (spaced n)
+    pub spaced-put : (y : List ℕ) → x ≡ overlay at (32 ∷ []) room → y ≡ overlay k (take (20 - d .start) (drop (d .start) (d .bytes))) x → y ≡ overlay at (spaced n) room
     unfolding spaced space
     spaced-put y e f = f ∙ rw (digits-taken n d ed) (put-on room x (32 ∷ []) (decimal n) at k (omega arith) e ek)
 
@@ -144,14 +142,14 @@ module _ (room s : List ℕ) (at p q : ℕ) (fits : at + length (senderLine s p 
       pub sender-next : (r : ℕ) → r ≡ m + length (spaced q) → r ≡ at + length (senderLine s p q)
       sender-next r e = omega (arith, sender-length s p q)
 
-      pub sender-put : (z : List ℕ) → x ≡ putAt room at s → y ≡ putAt x k (spaced p) → z ≡ putAt y m (spaced q) → z ≡ putAt room at (senderLine s p q)
+      pub sender-put : (z : List ℕ) → x ≡ overlay at s room → y ≡ overlay k (spaced p) x → z ≡ overlay m (spaced q) y → z ≡ overlay at (senderLine s p q) room
       unfolding senderLine
       sender-put z e f g =
           let h : at ≤ length room = omega arith in
           let n : m ≡ at + length (s ++ spaced p) = omega (arith, length-append s (spaced p)) in
           g
           ∙ put-on room y (s ++ spaced p) (spaced q) at m h (f ∙ put-on room x s (spaced p) at k h e ek) n
-          ∙ ap (putAt room at) (append-assoc s (spaced p) (spaced q))
+          ∙ ap (λ (x : List ℕ). overlay at x room) (append-assoc s (spaced p) (spaced q))
 
 pub ruleset putting-sender = (needs, sender-room, sender-process, sender-relative, sender-next, sender-put)
 
@@ -172,8 +170,8 @@ hello-joined r l p q =
     append-assoc (ended first-line ++ ended r) (senderLine l p q) (10 ∷ [])
     ∙ append-assoc (ended first-line) (ended r) (senderLine l p q ++ (10 ∷ []))
 
-front-put : (room s : List ℕ) → putAt room 0 s ≡ front s room
-unfolding putAt front
+front-put : (room s : List ℕ) → overlay 0 s room ≡ front s room
+unfolding overlay front
 front-put room s = let z : 0 + length s ≡ length s = omega arith in rw z
 
 module _ (room r l : List ℕ) (p q : ℕ) (fits : length (helloBytes r l p q) ≤ length room) where
@@ -195,7 +193,7 @@ module _ (room r l : List ℕ) (p q : ℕ) (fits : length (helloBytes r l p q) �
         pub hello-next : (k : ℕ) → k ≡ c + 1 → k ≡ length (helloBytes r l p q)
         hello-next k e = omega (arith, hello-length r l p q, ended-length first-line)
 
-        pub hello-put : (w : List ℕ) → x ≡ putAt room 0 (ended first-line) → y ≡ putAt x a (ended r) → z ≡ putAt y b (senderLine l p q) → w ≡ putAt z c (10 ∷ []) → w ≡ front (helloBytes r l p q) room
+        pub hello-put : (w : List ℕ) → x ≡ overlay 0 (ended first-line) room → y ≡ overlay a (ended r) x → z ≡ overlay b (senderLine l p q) y → w ≡ overlay c (10 ∷ []) z → w ≡ front (helloBytes r l p q) room
         hello-put w e f g h = h ∙ put-on room z head (10 ∷ []) 0 c low two c-at ∙ whole
           where
             low : 0 ≤ length room
@@ -207,14 +205,14 @@ module _ (room r l : List ℕ) (p q : ℕ) (fits : length (helloBytes r l p q) �
             c-at : c ≡ 0 + length head
             c-at = omega (arith, length-append (ended first-line ++ ended r) (senderLine l p q), length-append (ended first-line) (ended r))
 
-            one : y ≡ putAt room 0 (ended first-line ++ ended r)
+            one : y ≡ overlay 0 (ended first-line ++ ended r) room
             one = f ∙ put-on room x (ended first-line) (ended r) 0 a low e ea
 
-            two : z ≡ putAt room 0 head
+            two : z ≡ overlay 0 head room
             two = g ∙ put-on room y (ended first-line ++ ended r) (senderLine l p q) 0 b low one (omega (arith, length-append (ended first-line) (ended r)))
 
-            whole : putAt room 0 (head ++ (10 ∷ [])) ≡ front (helloBytes r l p q) room
-            whole = ap (putAt room 0) (hello-joined r l p q) ∙ front-put room (helloBytes r l p q)
+            whole : overlay 0 (head ++ (10 ∷ [])) room ≡ front (helloBytes r l p q) room
+            whole = ap (λ (x : List ℕ). overlay 0 x room) (hello-joined r l p q) ∙ front-put room (helloBytes r l p q)
 
 pub ruleset putting-hello = (needs, hello-first, hello-second, hello-third, hello-last, hello-next, hello-put)
 

@@ -1,21 +1,19 @@
--- Reading the hello that a caller writes, as the addressed peer, is accepted with its process numbers. Assumes nothing.
+-- Reading the hello that a caller writes, as the addressed peer, is accepted with its process numbers.
 use Prim.Native.Nat.{ℕ, zero, suc, _+_, _-_, _^_, _≤_, _<_}
 use native.Mathlib.Omega.{arith}
-use native.Mathlib.Numerals.{add-one}
 use mathlib.Core.Path.{_≡_, refl, sym, ap, _∙_}
 use mathlib.Core.List.{List, [], _∷_, _++_, append-assoc}
-use mathlib.Core.Bool.{Bool, true, false, cond, _&&_}
-use lib.Dec.{ltb, leb, eqb}
-use lib.ListN.{length, take, drop, length-append}
-use lib.Seq.{take-append-seam, drop-append-seam, drop-at}
+use mathlib.Core.Bool.{true, _&&_}
+use lib.Dec.{leb}
+use lib.ListN.{length, take, length-append}
+use lib.Seq.{take-append-seam, drop-at}
 use borrow.Author.Tests.{lt-ltb, le-leb, leb-true, eq-eqb, ne-eqb}
-use Rattle.handshake.specs.declared.Line.{Line}
 use Rattle.handshake.specs.declared.Line.the-variants as line
-use Rattle.handshake.specs.declared.Hello.{Hello}
 use Rattle.handshake.specs.declared.Hello.the-variants as hello
-use Rattle.handshake.specs.Bytes.{eqBytes, oneOf, within, decimal, readDigits}
+use Rattle.lists.specs.Lists.{eqBytes}
+use Rattle.handshake.specs.Bytes.{oneOf, within, decimal, readDigits}
 use Rattle.handshake.specs.Handshake.{nameOk, greeting, version20, version21, space, lf, spaced, senderLine, ended, helloBytes, lineIn, lineAt, span, untilSpace, word, afterWord, partB, numberB, numbersB, greets, judgeNames, judgeNumbers, judgeThird, judgeLines, fromThird, fromSecond, fromFirst, judgeHello}
-use Rattle.handshake.proofs.Choice.{both-first, both-second}
+use Rattle.lists.proofs.Cases.{and-first, and-second}
 use Rattle.handshake.proofs.Decimals.{within-append, decimal-some, decimal-few, decimal-within, decimal-reads}
 use Rattle.handshake.proofs.Putting.{first-line}
 
@@ -29,21 +27,21 @@ within-wider : (lo hi lo′ hi′ : ℕ) (s : List ℕ) → lo′ ≤ lo → hi 
 unfolding within
 within-wider lo hi lo′ hi′ [] p q w = refl
 within-wider lo hi lo′ hi′ (b ∷ s) p q w =
-    let r = both-second (leb lo b) (leb b hi && within lo hi s) w in
-    let a = leb-true lo b (both-first (leb lo b) (leb b hi && within lo hi s) w) in
-    let c = leb-true b hi (both-first (leb b hi) (within lo hi s) r) in
+    let r = and-second (leb lo b) (leb b hi && within lo hi s) w in
+    let a = leb-true lo b (and-first (leb lo b) (leb b hi && within lo hi s) w) in
+    let c = leb-true b hi (and-first (leb b hi) (within lo hi s) r) in
     let d : lo′ ≤ b = omega arith in
     let e : b ≤ hi′ = omega arith in
-    rw (le-leb lo′ b d, le-leb b hi′ e) (within-wider lo hi lo′ hi′ s p q (both-second (leb b hi) (within lo hi s) r))
+    rw (le-leb lo′ b d, le-leb b hi′ e) (within-wider lo hi lo′ hi′ s p q (and-second (leb b hi) (within lo hi s) r))
 
 -- the first byte of such a string, and the others
 within-head : (lo hi b : ℕ) (s : List ℕ) → within lo hi (b ∷ s) ≡ true → lo ≤ b
 unfolding within
-within-head lo hi b s w = leb-true lo b (both-first (leb lo b) (leb b hi && within lo hi s) w)
+within-head lo hi b s w = leb-true lo b (and-first (leb lo b) (leb b hi && within lo hi s) w)
 
 within-tail : (lo hi b : ℕ) (s : List ℕ) → within lo hi (b ∷ s) ≡ true → within lo hi s ≡ true
 unfolding within
-within-tail lo hi b s w = both-second (leb b hi) (within lo hi s) (both-second (leb lo b) (leb b hi && within lo hi s) w)
+within-tail lo hi b s w = and-second (leb b hi) (within lo hi s) (and-second (leb lo b) (leb b hi && within lo hi s) w)
 
 -- ---- a line of such bytes, at the end of what stands before it
 line-in : (n at : ℕ) (x t : List ℕ) → within 32 126 x ≡ true → length x ≤ n → lineIn n at (x ++ (10 ∷ t)) ≡ line.End (at + length x)
@@ -117,17 +115,17 @@ module _ (n : ℕ) (h : n < 2 ^ 32) where
 module _ (s : List ℕ) (h : nameOk s ≡ true) where
   pub name-some : 1 ≤ length s
   unfolding nameOk
-  name-some = leb-true 1 (length s) (both-first (leb 1 (length s)) (leb (length s) 32 && within 33 126 s) h)
+  name-some = leb-true 1 (length s) (and-first (leb 1 (length s)) (leb (length s) 32 && within 33 126 s) h)
 
   name-rest : (leb (length s) 32 && within 33 126 s) ≡ true
   unfolding nameOk
-  name-rest = both-second (leb 1 (length s)) (leb (length s) 32 && within 33 126 s) h
+  name-rest = and-second (leb 1 (length s)) (leb (length s) 32 && within 33 126 s) h
 
   pub name-most : length s ≤ 32
-  name-most = leb-true (length s) 32 (both-first (leb (length s) 32) (within 33 126 s) name-rest)
+  name-most = leb-true (length s) 32 (and-first (leb (length s) 32) (within 33 126 s) name-rest)
 
   pub name-graphic : within 33 126 s ≡ true
-  name-graphic = both-second (leb (length s) 32) (within 33 126 s) name-rest
+  name-graphic = and-second (leb (length s) 32) (within 33 126 s) name-rest
 
 space-graphic : within 32 126 (32 ∷ []) ≡ true
 unfolding within

@@ -1,62 +1,22 @@
--- The loops over a slice: what holds at the head of each, and a law for each way from there. Assumes nothing.
+-- The loops over a slice: what holds at the head of each, and a law for each way from there.
 use Prim.Native.Nat.{ℕ, zero, suc, _+_, _*_, _-_, _^_, _≤_, _<_}
 use native.Mathlib.Omega.{arith}
 use native.Mathlib.Numerals.{add-one}
 use native.Mathlib.Nat.{pow-suc, pow-le-pow-right}
-use mathlib.Core.Path.{_≡_, refl, sym, ap, _∙_}
+use mathlib.Core.Path.{_≡_, refl, sym, _∙_}
 use mathlib.Core.List.{List, [], _∷_}
-use mathlib.Core.Bool.{Bool, true, false, _&&_, and-false}
-use lib.Dec.{ltb, leb, eqb, lit<}
+use mathlib.Core.Bool.{true, false}
+use lib.Dec.{leb, lit<}
 use lib.ListN.{length, getD, drop, drop-of-length-le}
 use lib.Seq.{drop-cons}
 use borrow.Author.Needs.{needs}
 use borrow.Author.Tests.{lt-leb, le-leb, eq-eqb, ne-eqb, leb-true}
 use mir.Syntax.{w64}
 use mir.Val.{Fits}
-use Rattle.handshake.specs.declared.Line.{Line}
 use Rattle.handshake.specs.declared.Line.the-variants as line
-use Rattle.handshake.specs.Bytes.{eqBytes, within, readDigits}
+use Rattle.handshake.specs.Bytes.{within, readDigits}
 use Rattle.handshake.specs.Handshake.{lineIn, lineAt, untilSpace}
-use Rattle.handshake.proofs.Choice.{both-first, both-second}
-
--- ---- equal byte strings
-pub record Matching (a b : List ℕ) (i : ℕ) : Type 0 where
-  pub even : length a ≡ length b
-  pub rest : eqBytes a b ≡ eqBytes (drop i a) (drop i b)
-
-eq-lengths : (a b : List ℕ) → (length a ≡ length b → ⊥) → eqBytes a b ≡ false
-unfolding eqBytes
-eq-lengths [] [] h = absurd (h refl)
-eq-lengths [] (y ∷ b) h = refl
-eq-lengths (x ∷ a) [] h = refl
-eq-lengths (x ∷ a) (y ∷ b) h = rw (eq-lengths a b (λ e. h (ap suc e))) (and-false (eqb x y))
-
-pub same-never : (a b : List ℕ) → (length a ≡ length b → ⊥) → false ≡ eqBytes a b
-same-never a b h = sym (eq-lengths a b h)
-
-pub same-start : {a b : List ℕ} → length a ≡ length b → Matching a b 0
-same-start e = record { even = e; rest = refl }
-
-module _ {a b : List ℕ} {i : ℕ} (m : Matching a b i) where
-  pub same-index : i < length a → i < length b
-  same-index h = omega (arith, m .even)
-
-  pub same-differ : i < length a → (getD a i 0 ≡ getD b i 0 → ⊥) → false ≡ eqBytes a b
-  unfolding eqBytes
-  same-differ h n = sym (m .rest ∙ rw (drop-cons a i 0 h, drop-cons b i 0 (same-index h), ne-eqb (getD a i 0) (getD b i 0) n))
-
-  pub same-turn : i < length a → getD a i 0 ≡ getD b i 0 → Matching a b (i + 1)
-  unfolding eqBytes
-  same-turn h e = record {
-    even = m .even;
-    rest = m .rest ∙ rw (drop-cons a i 0 h, drop-cons b i 0 (same-index h), eq-eqb (getD a i 0) (getD b i 0) e, add-one);
-  }
-
-  pub same-end : length a ≤ i → true ≡ eqBytes a b
-  unfolding eqBytes
-  same-end h = let k : length b ≤ i = omega (arith, m .even) in sym (m .rest ∙ rw (drop-of-length-le a h, drop-of-length-le b k))
-
-pub ruleset matching = (needs, same-never, same-start, same-index, same-differ, same-turn, same-end)
+use Rattle.lists.proofs.Cases.{and-first, and-second}
 
 -- ---- bytes within a range
 pub record Passing (lo hi : ℕ) (s : List ℕ) (i : ℕ) : Type 0 where
@@ -89,8 +49,8 @@ pub within-at : (lo hi : ℕ) (s : List ℕ) (i : ℕ) → within lo hi s ≡ tr
 unfolding within
 within-at lo hi [] i w h = omega arith
 within-at lo hi (b ∷ s) zero w h =
-    (leb-true lo b (both-first _ _ w), leb-true b hi (both-first _ _ (both-second (leb lo b) _ w)))
-within-at lo hi (b ∷ s) (suc i) w h = within-at lo hi s i (both-second (leb b hi) _ (both-second (leb lo b) _ w)) (omega arith)
+    (leb-true lo b (and-first _ _ w), leb-true b hi (and-first _ _ (and-second (leb lo b) _ w)))
+within-at lo hi (b ∷ s) (suc i) w h = within-at lo hi s i (and-second (leb b hi) _ (and-second (leb lo b) _ w)) (omega arith)
 
 -- ---- the end of a line
 line-lf : (n at b : ℕ) (s : List ℕ) → b ≡ 10 → lineIn n at (b ∷ s) ≡ line.End at

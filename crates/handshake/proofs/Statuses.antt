@@ -1,21 +1,17 @@
--- Each way through the functions on status lines, in the form of what it has to show. Assumes nothing.
+-- Each way through the functions on status lines, in the form of what it has to show.
 use Prim.Native.Nat.{ℕ, _≤_, _<_}
-use native.Mathlib.Omega.{arith}
-use mathlib.Core.Path.{_≡_, refl, sym, ap, _∙_}
+use mathlib.Core.Path.{_≡_, refl, sym, _∙_}
 use mathlib.Core.List.{List, [], _∷_}
 use mathlib.Core.Bool.{Bool, true, false, cond}
-use lib.Dec.{ltb, eqb}
 use lib.ListN.{length, take}
 use lib.Seq.{length-take-le}
 use borrow.Author.Needs.{needs}
-use borrow.Author.Tests.{lt-ltb, le-ltb, eq-eqb, ne-eqb}
-use Rattle.handshake.specs.declared.Hello.{Hello}
+use borrow.Author.Tests.{lt-ltb, le-ltb}
 use Rattle.handshake.specs.declared.Hello.the-variants as hello
-use Rattle.handshake.specs.declared.Status.{Status}
 use Rattle.handshake.specs.declared.Status.the-variants as status
-use Rattle.handshake.specs.declared.Reply.{Reply}
-use Rattle.handshake.specs.Bytes.{eqBytes, oneOf, decimalIn, decimal}
-use Rattle.handshake.specs.Handshake.{lf, statusLine, failureLines, refusalLine, helloReply, replyOf, judgeFour, judgeStatus}
+use Rattle.lists.specs.Lists.{eqBytes}
+use Rattle.handshake.specs.Bytes.{oneOf, decimalIn, decimal}
+use Rattle.handshake.specs.Handshake.{lf, statusLine, failureLines, judgeFour, judgeStatus}
 
 -- ---- one of the strings listed
 found : (s t : List ℕ) (ts : List (List ℕ)) (x : Bool) → x ≡ eqBytes s t → x ≡ true → true ≡ oneOf s (t ∷ ts)
@@ -84,38 +80,3 @@ module _ (u : List ℕ) (h : 4 ≤ length u) (a : Bool) (ea : a ≡ eqBytes (tak
   status-malformed b ha eb hb = rw (le-ltb (length u) 4 h, ← ea, ha, ← eb, hb)
 
 pub ruleset judging-status = (needs, status-waits, status-count, status-accepts, status-fails, status-malformed)
-
--- ---- replies
-pub reply-waiting : (h : Hello) → h ≡ hello.Waiting → _≡_ {A = Reply} (record { bytes = 0 ∷ 0 ∷ 0 ∷ 0 ∷ []; len = 0 }) (replyOf h)
-unfolding replyOf helloReply
-reply-waiting h e = rw e
-
-pub reply-accepted : (h : Hello) (p q : ℕ) → h ≡ hello.Accepted p q → _≡_ {A = Reply} (record { bytes = 50 ∷ 48 ∷ 48 ∷ 10 ∷ []; len = 4 }) (replyOf h)
-unfolding replyOf helloReply statusLine decimal decimalIn lf
-reply-accepted h p q e = rw e
-
-pub reply-refused : (h : Hello) (n : ℕ) (o : Reply) → h ≡ hello.Refused n → o ≡ replyOf (hello.Refused n) → o ≡ replyOf h
-reply-refused h n o e w = rw e w
-
-module _ (n : ℕ) where
-  pub reply-10 : n ≡ 10 → _≡_ {A = Reply} (record { bytes = 53 ∷ 48 ∷ 49 ∷ 10 ∷ []; len = 4 }) (replyOf (hello.Refused n))
-  unfolding replyOf helloReply refusalLine statusLine decimal decimalIn lf
-  reply-10 e = rw e
-
-  pub reply-11 : n ≡ 11 → _≡_ {A = Reply} (record { bytes = 53 ∷ 48 ∷ 50 ∷ 10 ∷ []; len = 4 }) (replyOf (hello.Refused n))
-  unfolding replyOf helloReply refusalLine statusLine decimal decimalIn lf
-  reply-11 e = rw e
-
-  pub reply-12 : n ≡ 12 → _≡_ {A = Reply} (record { bytes = 53 ∷ 48 ∷ 51 ∷ 10 ∷ []; len = 4 }) (replyOf (hello.Refused n))
-  unfolding replyOf helloReply refusalLine statusLine decimal decimalIn lf
-  reply-12 e = rw e
-
-  pub reply-13 : n ≡ 13 → _≡_ {A = Reply} (record { bytes = 53 ∷ 48 ∷ 52 ∷ 10 ∷ []; len = 4 }) (replyOf (hello.Refused n))
-  unfolding replyOf helloReply refusalLine statusLine decimal decimalIn lf
-  reply-13 e = rw e
-
-  pub reply-other : (n ≡ 10 → ⊥) → (n ≡ 11 → ⊥) → (n ≡ 12 → ⊥) → (n ≡ 13 → ⊥) → _≡_ {A = Reply} (record { bytes = 0 ∷ 0 ∷ 0 ∷ 0 ∷ []; len = 0 }) (replyOf (hello.Refused n))
-  unfolding replyOf helloReply refusalLine
-  reply-other a b c d = rw (ne-eqb n 10 a, ne-eqb n 11 b, ne-eqb n 12 c, ne-eqb n 13 d)
-
-pub ruleset replies = (needs, reply-waiting, reply-accepted, reply-refused, reply-10, reply-11, reply-12, reply-13, reply-other)

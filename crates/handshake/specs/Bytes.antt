@@ -1,20 +1,13 @@
--- Byte strings: equality, decimal numbers, and bytes at the front of a room. Assumes nothing.
+-- Byte strings: ranges, decimal numbers, and bytes at the front of a room.
 use Prim.Native.Nat.{ℕ, zero, suc, _+_, _*_, _-_, _/_, _%_}
 use mathlib.Core.List.{List, [], _∷_, _++_}
 use mathlib.Core.Bool.{Bool, true, false, cond, _&&_}
-use lib.Dec.{ltb, leb, eqb}
-use lib.ListN.{length, take, drop, replicate}
+use lib.Dec.{ltb, leb}
+use lib.ListN.{length, replicate}
+use Rattle.lists.specs.Lists.{eqBytes, front}
 use Rattle.handshake.specs.declared.Digits.{Digits}
 use Rattle.handshake.specs.declared.Written.{Written}
 use Rattle.handshake.specs.declared.Written.the-variants as written
-
--- ---- equality
-
-unfoldable pub eqBytes : List ℕ → List ℕ → Bool
-eqBytes [] [] = true
-eqBytes [] (b ∷ t) = false
-eqBytes (a ∷ s) [] = false
-eqBytes (a ∷ s) (b ∷ t) = eqb a b && eqBytes s t
 
 -- s is one of the strings listed
 unfoldable pub oneOf : List ℕ → List (List ℕ) → Bool
@@ -49,14 +42,6 @@ unfoldable pub digitsOf : ℕ → Digits
 digitsOf n = record { bytes = replicate (20 - length (decimal n)) 0 ++ decimal n; start = 20 - length (decimal n) }
 
 -- ---- a room
-
--- bytes in a room from a position on, the rest of it as it came
-unfoldable pub putAt : List ℕ → ℕ → List ℕ → List ℕ
-putAt room at bytes = take at room ++ bytes ++ drop (at + length bytes) room
-
--- bytes at the front of a room, the rest of it as it came
-unfoldable pub front : List ℕ → List ℕ → List ℕ
-front bytes room = bytes ++ drop (length bytes) room
 
 -- the room where bytes are written that it may be too short for
 unfoldable pub roomWith : List ℕ → List ℕ → List ℕ

@@ -1,4 +1,4 @@
--- The rules at worked examples, by computation. Assumes nothing.
+-- The rules at worked examples, by computation.
 use Prim.Native.Nat.{ℕ, _^_, _-_}
 use mathlib.Core.Path.{_≡_, refl}
 use mathlib.Core.List.{List, [], _∷_, _++_}
@@ -7,7 +7,8 @@ use lib.ListN.{replicate}
 use Rattle.handshake.specs.declared.Line.the-variants as line
 use Rattle.handshake.specs.declared.Hello.the-variants as hello
 use Rattle.handshake.specs.declared.Status.the-variants as status
-use Rattle.handshake.specs.Bytes.{eqBytes, oneOf, within, decimalIn, decimal, readDigits}
+use Rattle.lists.specs.Lists.{eqBytes}
+use Rattle.handshake.specs.Bytes.{oneOf, within, decimalIn, decimal, readDigits}
 use Rattle.handshake.specs.Handshake.{nameOk, greeting, version20, version21, space, lf, spaced, senderLine, ended, helloBytes, lineIn, lineAt, span, untilSpace, word, afterWord, partB, numberB, numbersB, greets, judgeNames, judgeNumbers, judgeThird, judgeLines, fromThird, fromSecond, fromFirst, judgeHello, statusLine, refusalLine, helloReply, failureLines, judgeFour, judgeStatus}
 
 -- `east` and `west`

@@ -1,9 +1,9 @@
--- Hello and status: what document 01 says in "Opening and handshake", in its order. Assumes nothing.
+-- Hello and status: what document 01 says in "Opening and handshake", in its order.
 use Prim.Native.Nat.{ℕ, zero, suc, _+_, _-_}
 use mathlib.Core.List.{List, [], _∷_, _++_}
-use mathlib.Core.Bool.{Bool, true, false, cond, _&&_}
+use mathlib.Core.Bool.{Bool, cond, _&&_}
 use lib.Dec.{ltb, leb, eqb}
-use lib.ListN.{length, take, drop, replicate}
+use lib.ListN.{length, take, drop}
 use Rattle.handshake.specs.declared.Line.{Line}
 use Rattle.handshake.specs.declared.Line.the-variants as line
 use Rattle.handshake.specs.declared.Hello.{Hello}
@@ -14,14 +14,17 @@ use Rattle.handshake.specs.declared.Part.{Part}
 use Rattle.handshake.specs.declared.Part.the-variants as part
 use Rattle.handshake.specs.declared.Number.{Number}
 use Rattle.handshake.specs.declared.Number.the-variants as number
-use Rattle.handshake.specs.declared.Reply.{Reply}
-use Rattle.handshake.specs.Bytes.{eqBytes, oneOf, within, decimal, readDigits}
+use Rattle.lists.specs.Lists.{eqBytes}
+use Rattle.handshake.specs.Bytes.{oneOf, within, decimal, readDigits}
 
 -- ---- names
 
 -- "with our name and the one accepted peer's name, each 1 to 32 bytes from 33 to 126"
+abbrev pub peerNameMax : ℕ
+peerNameMax = 32
+
 unfoldable pub nameOk : List ℕ → Bool
-nameOk name = leb 1 (length name) && (leb (length name) 32 && within 33 126 name)
+nameOk name = leb 1 (length name) && (leb (length name) peerNameMax && within 33 126 name)
 
 -- ---- the hello
 
@@ -70,8 +73,11 @@ lineIn (suc n) at [] = line.Open
 lineIn (suc n) at (b ∷ s) = cond (eqb b 10) (line.End at) (lineIn n (at + 1) s)
 
 -- "Reading a hello: a line has at most 64 bytes before its LF, and a 65th shows refusal 10 at once."
+abbrev pub lineMax : ℕ
+lineMax = 64
+
 unfoldable pub lineAt : List ℕ → ℕ → Line
-lineAt u at = lineIn 64 at (drop at u)
+lineAt u at = lineIn lineMax at (drop at u)
 
 -- the bytes from a position up to another
 unfoldable pub span : ℕ → ℕ → List ℕ → List ℕ
@@ -182,10 +188,6 @@ unfoldable pub helloReply : Hello → List ℕ
 helloReply hello.Waiting = []
 helloReply (hello.Accepted process relative) = statusLine 200
 helloReply (hello.Refused n) = refusalLine n
-
--- the same in an array of four bytes, zeros after it
-unfoldable pub replyOf : Hello → Reply
-replyOf h = record { bytes = helloReply h ++ replicate (4 - length (helloReply h)) 0; len = length (helloReply h) }
 
 -- ---- judging a status
 

@@ -1,4 +1,4 @@
--- Byte strings: equality, padding with zeros, and a new front. Assumes nothing.
+-- Byte strings: equality, padding with zeros, and a new front.
 use Prim.Native.Nat.{ℕ, zero, suc, _+_, _-_, _≤_, _<_}
 use native.Mathlib.Omega.{arith}
 use mathlib.Core.Path.{_≡_, refl, sym, ap, _∙_, subst}

@@ -1,4 +1,4 @@
--- Case analysis on numbers and tests, and the laws of the connectives that tests are joined by. Assumes nothing.
+-- Case analysis on numbers and tests, and the laws of the connectives that tests are joined by.
 use Prim.Native.Nat.{ℕ, _≤_, _<_}
 use native.Mathlib.Omega.{arith}
 use mathlib.Core.Path.{_≡_, refl, sym, _∙_}

@@ -1,4 +1,4 @@
--- The loop of `same`: both lists from place i on say what the whole lists say. Assumes nothing.
+-- The loop of `same`: both lists from place i on say what the whole lists say.
 use Prim.Native.Nat.{ℕ, _+_, _≤_, _<_}
 use native.Mathlib.Omega.{arith}
 use mathlib.Core.Path.{_≡_, refl, sym, _∙_}

@@ -1,4 +1,4 @@
--- `distinct`: at two places, from all pairs of places, after a store, and along a loop. Assumes nothing.
+-- `distinct`: at two places, from all pairs of places, after a store, and along a loop.
 use Prim.Native.Nat.{ℕ, zero, suc, _+_, _-_, _≤_, _<_}
 use native.Mathlib.Omega.{arith}
 use mathlib.Core.Path.{_≡_, refl, sym, ap, _∙_, subst}

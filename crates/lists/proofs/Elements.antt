@@ -1,4 +1,4 @@
--- What a type says of its values, it says of every element of an array of it. Assumes nothing.
+-- What a type says of its values, it says of every element of an array of it.
 use mathlib.Core.Path.{_≡_, refl, sym, ap, _∙_, subst}
 use Prim.Native.Nat.{ℕ, zero, suc, _<_}
 use native.Mathlib.Omega.{arith}

@@ -1,4 +1,4 @@
--- `every`: at a place, from all places, after a store, and along a loop. Assumes nothing.
+-- `every`: at a place, from all places, after a store, and along a loop.
 use Prim.Native.Nat.{ℕ, zero, suc, _+_, _-_, _≤_, _<_}
 use native.Mathlib.Omega.{arith}
 use native.Mathlib.Numerals.{add-one}

@@ -1,4 +1,4 @@
--- `firstPlace`: the lowest place that passes a test, what it says of all places, after a store, and along a loop. Assumes nothing.
+-- `firstPlace`: the lowest place that passes a test, what it says of all places, after a store, and along a loop.
 use Prim.Native.Nat.{ℕ, zero, suc, _+_, _-_, _≤_, _<_}
 use native.Mathlib.Omega.{arith}
 use native.Mathlib.Nat.{add-zero}

@@ -1,4 +1,4 @@
--- A loop that tests every element: from place i on the list says what the whole list says. Assumes nothing.
+-- A loop that tests every element: from place i on the list says what the whole list says.
 use Prim.Native.Nat.{ℕ, _+_, _≤_, _<_}
 use native.Mathlib.Omega.{arith}
 use mathlib.Core.Path.{_≡_, refl, sym, _∙_}

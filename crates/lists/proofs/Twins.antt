@@ -1,4 +1,4 @@
--- Two nested loops that look for two alike elements: places from i on, and the elements behind place i from j on. Assumes nothing.
+-- Two nested loops that look for two alike elements: places from i on, and the elements behind place i from j on.
 use Prim.Native.Nat.{ℕ, _+_, _≤_, _<_}
 use native.Mathlib.Omega.{arith}
 use mathlib.Core.Path.{_≡_, refl, sym, ap, _∙_}

@@ -1,4 +1,4 @@
--- The loops of `pad` and `all_zero`: what holds of the places passed. Assumes nothing.
+-- The loops of `pad` and `all_zero`: what holds of the places passed.
 use Prim.Native.Nat.{ℕ, _+_, _≤_, _<_}
 use native.Mathlib.Omega.{arith}
 use mathlib.Core.Path.{_≡_, refl, sym, ap, _∙_}

@@ -1,4 +1,4 @@
--- Tests and searches over lists, and byte strings, for the definitions of other crates. Assumes nothing.
+-- Tests and searches over lists, and byte strings, for the definitions of other crates.
 use Prim.Native.Nat.{ℕ, zero, suc, _+_}
 use mathlib.Core.List.{List, [], _∷_, _++_}
 use mathlib.Core.Bool.{Bool, true, false, cond, not, _&&_, _||_}
@@ -67,3 +67,7 @@ padTo (suc n) (x ∷ xs) = x ∷ padTo n xs
 -- a list with xs in place of its first elements, as many as xs has
 unfoldable pub front : List ℕ → List ℕ → List ℕ
 front xs room = xs ++ drop (length xs) room
+
+-- a list with xs in place of what stood from position at on
+unfoldable pub overlay : ℕ → List ℕ → List ℕ → List ℕ
+overlay at xs room = take at room ++ xs ++ drop (at + length xs) room

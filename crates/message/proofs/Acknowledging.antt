@@ -1,4 +1,4 @@
--- The acknowledgement of an update: its bytes, at most twelve, and the code that writes it. Assumes nothing.
+-- The acknowledgement of an update: its bytes, at most twelve, and the code that writes it.
 use Prim.Native.Nat.{ℕ, _+_, _-_, _^_, _≤_, _<_}
 use native.Mathlib.Omega.{arith}
 use mathlib.Core.Path.{_≡_, sym, ap, _∙_}
@@ -13,7 +13,8 @@ use Rattle.lists.proofs.Bytes.{pad-fits}
 use Rattle.wire.specs.declared.Encoded.{Encoded}
 use Rattle.wire.specs.Integer.{encodeInt, encodedInt, smallest}
 use Rattle.wire.specs.Number.{encodeNumber}
-use Rattle.wire.specs.Room.{overlay, putRoom}
+use Rattle.lists.specs.Lists.{overlay}
+use Rattle.wire.specs.Room.{putRoom}
 use Rattle.wire.proofs.Write.{int-alone}
 use Rattle.wire.proofs.Sizes.{shorter, encoded-len}
 use Rattle.wire.proofs.Numbers.{number-length}

@@ -1,4 +1,4 @@
--- An update: a law for each way to a result. Assumes nothing.
+-- An update: a law for each way to a result.
 use Prim.Native.Nat.{ℕ, _+_, _-_, _≤_}
 use native.Mathlib.Omega.{arith}
 use mathlib.Core.Path.{_≡_, refl, sym, ap, _∙_}

@@ -1,4 +1,4 @@
--- The answer and the reply to a control message: a law for each way to a result. Assumes nothing.
+-- The answer and the reply to a control message: a law for each way to a result.
 use Prim.Native.Nat.{ℕ, _≤_, _<_}
 use mathlib.Core.Path.{_≡_}
 use mathlib.Core.List.{[], _∷_}

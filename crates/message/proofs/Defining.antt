@@ -1,4 +1,4 @@
--- A definition: a law for each way to a result. Assumes nothing.
+-- A definition: a law for each way to a result.
 use Prim.Native.Nat.{ℕ, _+_, _-_, _^_, _≤_, _<_}
 use native.Mathlib.Omega.{arith}
 use mathlib.Core.Path.{_≡_, sym, ap, _∙_}

@@ -1,5 +1,5 @@
 -- "Bytes after the known fields are ignored.": added to the body of an accepted message they change nothing; of a definition, where it has its
--- expiry. Assumes nothing.
+-- expiry.
 use Prim.Native.Nat.{ℕ, _-_}
 use mathlib.Core.Path.{_≡_, refl, sym, ap, _∙_}
 use mathlib.Core.List.{List, [], _∷_, _++_}

@@ -1,4 +1,4 @@
--- What a message does keeps record and store sound, and their shape; its reply is short. Assumes nothing.
+-- What a message does keeps record and store sound, and their shape; its reply is short.
 use Prim.Native.Nat.{ℕ, zero, suc, _+_, _-_, _^_, _≤_, _<_}
 use native.Mathlib.Omega.{arith}
 use mathlib.Core.Path.{_≡_, refl, sym, ap, subst, _∙_}

@@ -1,5 +1,5 @@
 -- A refused message closes the record with its number and changes nothing else: tables, entries, bindings, previous IDs and the current table
--- stay. Assumes nothing.
+-- stay.
 use Prim.Native.Nat.{ℕ, _-_}
 use native.Mathlib.Omega.{arith}
 use mathlib.Core.Path.{_≡_, refl, sym, ap, _∙_}
@@ -50,7 +50,7 @@ module _ (c : Connection) (s : Store) where
 
   named-only : (id : ℕ) (t : Table) (f : Found) → Only (defineNamed c s id t f)
   unfolding defineNamed
-  named-only id t (found.At p) = by-test (agrees (getD (s .tables) p noTable) t) (λ a. rw a (define-only id t p)) (λ a. rw a (refuse-only 25))
+  named-only id t (found.At p) = by-test (agrees (getD (s .tables) p noTable) t) (λ a. rw a (define-only id t p)) (λ a. rw a (refuse-only _))
   named-only id t found.Nothing = new-only id t (freeTable s)
 
   switch-only : (f : Found) → Only (switchTo c s f)
@@ -78,16 +78,16 @@ module _ (c : Connection) (s : Store) where
 
   update-only : (body : List ℕ) → Only (update c s body)
   unfolding update
-  update-only body = by-test (eqb (c .current) 0) (λ a. rw a (refuse-only 27)) (λ a. rw a (with-only body (c .current - 1) _))
+  update-only body = by-test (eqb (c .current) 0) (λ a. rw a (refuse-only _)) (λ a. rw a (with-only body (c .current - 1) _))
 
   incremental-only : (body : List ℕ) → Only (incremental c s body)
   unfolding incremental incrementalOf
   incremental-only body =
       by-test (eqb (c .current) 0)
-      (λ a. rw a (refuse-only 27))
+      (λ a. rw a (refuse-only _))
       (λ a.
       rw a
-      (by-test (isUpdated (bindingAt c (c .current - 1))) (λ b. rw b (with-only body (c .current - 1) _)) (λ b. rw b (refuse-only 28))))
+      (by-test (isUpdated (bindingAt c (c .current - 1))) (λ b. rw b (with-only body (c .current - 1) _)) (λ b. rw b (refuse-only _))))
 
   definition-only : (body : List ℕ) → Only (definition c s body)
   unfolding definition

@@ -1,4 +1,4 @@
--- What a message does, as the struct that the functions return: a law for each way to a result. Assumes nothing.
+-- What a message does, as the struct that the functions return: a law for each way to a result.
 use Prim.Native.Nat.{ℕ}
 use mathlib.Core.Path.{_≡_, _∙_}
 use mathlib.Core.List.{List, []}

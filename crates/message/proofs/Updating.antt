@@ -1,4 +1,4 @@
--- Updates with and without an ID, and the types of class 10: a law for each way to a result. Assumes nothing.
+-- Updates with and without an ID, and the types of class 10: a law for each way to a result.
 use Prim.Native.Nat.{ℕ, _+_, _-_, _%_, _^_, _≤_}
 use native.Mathlib.Omega.{arith}
 use mathlib.Core.Path.{_≡_, refl, sym, ap, _∙_}

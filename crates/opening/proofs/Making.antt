@@ -1,4 +1,4 @@
--- The code of opening: one law for each way to a result. Assumes nothing.
+-- The code of opening: one law for each way to a result.
 use Prim.Native.Nat.{ℕ, _^_, _≤_, _<_}
 use native.Mathlib.Omega.{arith}
 use mathlib.Core.Path.{_≡_, refl, sym, ap, _∙_}
@@ -12,7 +12,6 @@ use Rattle.lists.specs.Lists.{padTo, front}
 use Rattle.lists.proofs.Cases.{and-first, and-second, and-true, and-false, cond-true, cond-false}
 use Rattle.lists.proofs.Bytes.{pad-nil}
 use Rattle.handshake.specs.Bytes.{roomWith, writtenTo}
-use Rattle.handshake.specs.Bytes as bytes
 use Rattle.handshake.specs.declared.Written.{Written}
 use Rattle.handshake.specs.declared.Written.the-variants as written
 use Rattle.handshake.specs.Handshake.{nameOk, helloBytes}
@@ -157,7 +156,7 @@ module _ (local remote room : List ℕ) (process relative : ℕ) (p : process < 
   hello-written = cond-true (leb (length hello) (length room)) _ _ (le-leb (length hello) (length room) hello-within)
 
   hello-room : roomWith hello room ≡ front hello room
-  unfolding roomWith front bytes.front
+  unfolding roomWith front
   hello-room = cond-true (leb (length hello) (length room)) _ _ (le-leb (length hello) (length room) hello-within)
 
   written-length : (w : Written) (k : ℕ) → w ≡ writtenTo hello room → w ≡ written.Length k → k ≡ length hello

@@ -1,4 +1,4 @@
--- The record that opening returns is sound with every sound store. Assumes nothing.
+-- The record that opening returns is sound with every sound store.
 use Prim.Native.Nat.{ℕ, _+_, _≤_, _<_}
 use native.Mathlib.Omega.{arith}
 use mathlib.Core.Path.{_≡_, refl, sym, ap, _∙_, subst}

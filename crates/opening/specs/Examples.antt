@@ -1,4 +1,4 @@
--- Opening at worked examples. Assumes nothing.
+-- Opening at worked examples.
 use Prim.Native.Nat.{ℕ}
 use mathlib.Core.Path.{_≡_, refl}
 use mathlib.Core.Bool.{Bool, true, false}

@@ -6,7 +6,7 @@ use lib.ListN.{length, replicate}
 use lib.Dec.{ltb}
 use Rattle.lists.specs.Lists.{padTo, front}
 use Rattle.store.specs.Limits.{tablePlaces}
-use Rattle.handshake.specs.Handshake.{nameOk, helloBytes}
+use Rattle.handshake.specs.Handshake.{nameOk, peerNameMax, helloBytes}
 use Rattle.session.specs.declared.Connection.{Connection}
 use Rattle.session.specs.declared.Session.{Session}
 use Rattle.session.specs.declared.Answer.{Answer}
@@ -36,8 +36,8 @@ newConnection phase closed number local remote = record {
   current = 0;
   «local_len» = length local;
   «remote_len» = length remote;
-  local = padTo 32 local;
-  remote = padTo 32 remote;
+  local = padTo peerNameMax local;
+  remote = padTo peerNameMax remote;
   bindings = replicate tablePlaces noBinding;
 }
 

@@ -1,7 +1,8 @@
 // Opening a session as answerer or caller.
+use handshake::PEER_NAME_MAX;
 use handshake::Written;
 use handshake::name_ok;
-use handshake::write_hello;
+use hello_writing::write_hello;
 use lists::pad;
 use session::AWAITING_HELLO;
 use session::AWAITING_STATUS;
@@ -17,7 +18,7 @@ ghost use mathlib.Core.Bool.{_&&_};
 ghost use mathlib.Core.List.{[]};
 ghost use lib.ListN.{length};
 ghost use Rattle.lists.specs.Lists.{padTo};
-ghost use Rattle.handshake.specs.Handshake.{nameOk};
+ghost use Rattle.handshake.specs.Handshake.{nameOk, peerNameMax};
 ghost use Rattle.session.specs.Session.{holding};
 ghost use Rattle.opening.specs.Opening.{answerer, caller, newConnection, refuseOpening, «open», openRoom, openedOf};
 
@@ -30,10 +31,10 @@ pub struct Opened {
     pub outcome: Outcome,
 }
 
-fn name_array(name: &[u8]) -> [u8; 32]
-    ensures { λ r. ⌜ r ≡ padTo 32 (now (name .entry)) ⌝ }
+fn name_array(name: &[u8]) -> [u8; PEER_NAME_MAX]
+    ensures { λ r. ⌜ r ≡ padTo peerNameMax (now (name .entry)) ⌝ }
 {
-    let mut bytes = [0u8; 32];
+    let mut bytes = [0u8; PEER_NAME_MAX];
     pad(&mut bytes, name);
     bytes
 }

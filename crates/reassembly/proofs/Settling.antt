@@ -1,21 +1,19 @@
 -- What bytes come to, in the form of the code: one law for each case of a match.
 use Prim.Native.Nat.{ℕ, _-_, _≤_}
 use mathlib.Core.Path.{_≡_, refl, sym, ap, _∙_}
-use mathlib.Core.List.{List, [], _∷_}
+use mathlib.Core.List.{List, []}
 use mathlib.Core.Bool.{true, false, cond}
 use lib.ListN.{length, take, drop}
 use lib.Dec.{eqb}
 use borrow.Author.Needs.{needs}
 use borrow.Author.Tests.{eq-eqb, ne-eqb}
-use Rattle.lists.specs.Lists.{padTo}
 use Rattle.lists.proofs.Cases.{cond-true, cond-false}
 use Rattle.store.specs.declared.Store.{Store}
 use Rattle.handshake.specs.declared.Hello.{Hello}
 use Rattle.handshake.specs.declared.Hello.the-variants as hello
 use Rattle.handshake.specs.declared.Status.{Status}
 use Rattle.handshake.specs.declared.Status.the-variants as status
-use Rattle.handshake.specs.Bytes.{decimal, decimalIn}
-use Rattle.handshake.specs.Handshake.{judgeHello, judgeStatus, helloReply, statusLine, lf}
+use Rattle.handshake.specs.Handshake.{judgeHello, judgeStatus, helloReply}
 use Rattle.frame.specs.declared.Frame.{Frame}
 use Rattle.frame.specs.declared.Frame.the-variants as frame
 use Rattle.frame.specs.Frame.{judgeFrame}
@@ -33,29 +31,17 @@ use Rattle.reassembly.specs.Judge.{Judged, waiting, settled, helloJudged
 
 -- ---- a message that changes the connection alone
 
-module _ (c d : Connection) (s : Store) (a : Answer) (k : Reply) where
-  pub noted : k ≡ replyOf [] → _≡_ {A = Settled} (record { answer = a; reply = k; connection = c; store = s }) (settledOf (note c s a []))
+module _ (c d : Connection) (s : Store) (a : Answer) (bs : List ℕ) (k : Reply) where
+  pub noted : k ≡ replyOf bs → _≡_ {A = Settled} (record { answer = a; reply = k; connection = c; store = s }) (settledOf (note c s a bs))
   unfolding settledOf note
   noted e = ap (λ (x : Reply). record { answer = a; reply = x; connection = c; store = s }) e
 
-  pub noted-established : d ≡ establish c → k ≡ replyOf []
-      → _≡_ {A = Settled} (record { answer = a; reply = k; connection = d; store = s }) (settledOf (note (establish c) s a []))
+  pub noted-established : d ≡ establish c → k ≡ replyOf bs
+      → _≡_ {A = Settled} (record { answer = a; reply = k; connection = d; store = s }) (settledOf (note (establish c) s a bs))
   unfolding settledOf note
   noted-established e f = rw (e, f)
 
-pub hello-answered : (c d : Connection) (s : Store) (p q : ℕ) → d ≡ establish c
-    → _≡_ {A = Settled}
-    (record {
-      answer = answer.Hello p q;
-      reply = record { bytes = 50 ∷ 48 ∷ 48 ∷ 10 ∷ 0 ∷ 0 ∷ 0 ∷ 0 ∷ 0 ∷ 0 ∷ 0 ∷ 0 ∷ []; len = 4 };
-      connection = d;
-      store = s;
-    })
-    (settledOf (note (establish c) s (answer.Hello p q) (helloReply (hello.Accepted p q))))
-unfolding settledOf note replyOf padTo helloReply statusLine decimal decimalIn lf
-hello-answered c d s p q e = rw e
-
-pub ruleset accepting = (needs, noted, noted-established, hello-answered)
+pub ruleset accepting = (needs, noted, noted-established)
 
 -- ---- a hello
 

@@ -3,20 +3,20 @@ use frame::Frame;
 use frame::judge_frame;
 use handshake::Hello;
 use handshake::Status;
-use handshake::judge_status;
 use lists::pad;
 use message::Settled;
-use message::no_reply;
+use replies::hello_reply;
+use replies::no_reply;
 use session::AWAITING_HELLO;
 use session::AWAITING_STATUS;
 use session::Answer;
 use session::Connection;
-use session::Reply;
 use session::Session;
 use session::UNFINISHED_MAX;
 use session::establish_connection;
 use soundness::bytes_wait;
 use soundness::hello_of;
+use status_reading::judge_status;
 use store::Store;
 ghost use mathlib.Core.Path.{_≡_};
 ghost use mathlib.Core.List.{[]};
@@ -113,10 +113,7 @@ fn accepted_hello(connection: Connection, store: Store, process: u32, relative: 
     ensures { λ r. ⌜ r ≡ settledOf (note (establish connection) store (Answer.Hello process relative) (helloReply (Hello.Accepted process relative))) ⌝ }
 {
     let established = establish_connection(connection);
-    let reply = Reply {
-        bytes: *b"200\n\0\0\0\0\0\0\0\0",
-        len: 4,
-    };
+    let reply = hello_reply(Hello::Accepted { process, relative });
     Settled {
         answer: Answer::Hello { process, relative },
         reply,
@@ -171,7 +168,7 @@ fn settle_frame(connection: Connection, store: Store, u: &[u8]) -> Settled
         Frame::Control(kind) => message::control(connection, store, kind),
         Frame::Error(kind) => message::peer_error(connection, store, kind),
         Frame::Body { kind, start, end } => {
-            message::stick_table(connection, store, kind, &u[start..end])
+            stick_tables::stick_table(connection, store, kind, &u[start..end])
         }
         Frame::Refused(number) => message::refuse(connection, store, number),
     }

@@ -33,7 +33,7 @@ use Rattle.receiver.specs.Demand3.{Chain, OffersTo, cameTo, lastSession,
 use Rattle.receiver.specs.Cases.{east, west}
 use Rattle.receiver.specs.Listing.{listing, listedResult, listedState, listedConnection, listedStore}
 use Rattle.receiver.specs.Corollaries.{SameByAnyDivision, AnyDivision, ListingCame, ListingByCalls}
-use Rattle.receiver.proofs.Promising.{call-short, call-unsound, call-closed, call-open}
+use Rattle.receiver.proofs.CallCases.{call-short, call-unsound, call-closed, call-open}
 use Rattle.receiver.proofs.Ways.{taken-is}
 use Rattle.receiver.proofs.Demand3.{demand-3}
 use Rattle.receiver.proofs.ListingHolds.{listing-holds}

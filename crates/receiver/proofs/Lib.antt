@@ -5,12 +5,10 @@ pub mod Claimed
 pub mod Offered
 pub mod Following
 pub mod Piece
-pub mod Reading
+pub mod CallCases
 pub mod Laws
 pub mod FirstFields
 pub mod Lawfully
-pub mod Receiving
-pub mod Promising
 pub mod Committing
 pub mod Ways
 pub mod Acknowledging

@@ -17,6 +17,7 @@ use Rattle.frame.specs.declared.Frame.{Frame}
 use Rattle.frame.specs.declared.Frame.the-variants as frame
 use Rattle.frame.specs.Frame.{judgeFrame}
 use Rattle.session.specs.declared.Connection.{Connection}
+use Rattle.session.specs.declared.Session.{Session}
 use Rattle.session.specs.declared.Answer.{Answer}
 use Rattle.session.specs.declared.Answer.the-variants as answer
 use Rattle.session.specs.Session.{isClosed, localName, remoteName}
@@ -28,7 +29,7 @@ use Rattle.streams.proofs.OneCall.{scan-nil, scan-quiet, scan-answered}
 use Rattle.reassembly.specs.Judge.{Judged, waiting, settled, judge, helloJudged, statusJudged, frameJudged}
 use Rattle.receiver.specs.Model.{State, joined, feed, peers}
 use Rattle.reassembly.specs.Pieces.{Part, oneMore, takePiece}
-use Rattle.receiver.specs.Steps.{judgedCall, partCall}
+use Rattle.receiver.specs.Parts.{judgedCall, partCall}
 
 -- bytes that wait come to nothing, and others to something
 pub data JudgedAs : Bool → Judged → Type 0 where
@@ -112,3 +113,15 @@ scan-takes c u s (b ∷ bs) h =
 
     more-call : (c : Connection) (s : Store) (a : Part) → onward (partCall c s a) ≡ partCall c s (oneMore a)
     more-call c s a = unfold partCall in more-judged c s (a .bytes) (a .taken) (cond (a .ended) (judge c s (a .bytes)) waiting)
+
+-- ---- the call of a part
+
+module _ (s : Session) (t : Store) (a : Part) where
+  pub waited-call : a .ended ≡ false → partCall (s .connection) t a ≡ judgedCall (s .connection) t (a .bytes) (a .taken) waiting
+  unfolding partCall
+  waited-call e = ap (judgedCall (s .connection) t (a .bytes) (a .taken)) (cond-false (a .ended) _ _ e)
+
+  pub settled-call : (e : Effect) → a .ended ≡ true → judge (s .connection) t (a .bytes) ≡ settled e
+      → partCall (s .connection) t a ≡ judgedCall (s .connection) t (a .bytes) (a .taken) (settled e)
+  unfolding partCall
+  settled-call e h j = ap (judgedCall (s .connection) t (a .bytes) (a .taken)) (cond-true (a .ended) _ _ h ∙ j)

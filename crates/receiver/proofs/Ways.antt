@@ -23,13 +23,12 @@ use Rattle.reassembly.proofs.Taking.{part-bytes, part-ended}
 use Rattle.streams.specs.Calls.{Call, stay, scan}
 use Rattle.receiver.specs.Model.{State, heldBy, peers}
 use Rattle.receiver.specs.Promise.{Made, Shaped, ReadPromise, callOf, outcomeOf}
-use Rattle.receiver.specs.Steps.{judgedCall, partCall}
+use Rattle.receiver.specs.Parts.{judgedCall, partCall}
 use Rattle.receiver.specs.Demand3.{replyIn}
 use Rattle.receiver.proofs.Held.{state-fits}
-use Rattle.receiver.proofs.Piece.{judged-as, judged-settled, scan-takes}
+use Rattle.receiver.proofs.Piece.{judged-as, judged-settled, scan-takes, waited-call, settled-call}
 use Rattle.receiver.proofs.Chained.{good-held}
-use Rattle.receiver.proofs.Receiving.{waited-call, settled-call}
-use Rattle.receiver.proofs.Promising.{call-short, call-unsound, call-closed, call-open}
+use Rattle.receiver.proofs.CallCases.{call-short, call-unsound, call-closed, call-open}
 
 -- sound, open, and the message's bytes came to this effect
 pub record Judging (s : Session) (t : Store) (piece : List ℕ) (c : Call State Answer) (e : Effect) : Type 0 where

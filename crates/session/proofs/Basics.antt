@@ -1,4 +1,4 @@
--- What the proofs of functions share. Assumes nothing.
+-- What the proofs of functions share.
 use Prim.Native.Nat.{ℕ}
 use mathlib.Core.Path.{_≡_, sym, _∙_}
 use mathlib.Core.Bool.{Bool, true, false, not}

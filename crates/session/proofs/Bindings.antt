@@ -1,4 +1,4 @@
--- What stands at a place after a change of the bindings. Assumes nothing.
+-- What stands at a place after a change of the bindings.
 use Prim.Native.Nat.{ℕ, zero, suc, _+_, _≤_, _<_}
 use native.Mathlib.Omega.{arith}
 use mathlib.Core.Path.{_≡_, refl, sym, ap, _∙_, subst}

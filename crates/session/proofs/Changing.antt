@@ -1,4 +1,4 @@
--- The code that changes a connection: one law for each way to a result, and the loops over the bindings. Assumes nothing.
+-- The code that changes a connection: one law for each way to a result, and the loops over the bindings.
 use Prim.Native.Nat.{ℕ, zero, suc, _+_, _-_, _≤_, _<_}
 use native.Mathlib.Omega.{arith}
 use native.Mathlib.Numerals.{add-one}

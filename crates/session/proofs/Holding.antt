@@ -1,4 +1,4 @@
--- A record with given unfinished bytes. Assumes nothing.
+-- A record with given unfinished bytes.
 use Prim.Native.Nat.{ℕ, _≤_}
 use mathlib.Core.Path.{_≡_, refl}
 use mathlib.Core.List.{List}

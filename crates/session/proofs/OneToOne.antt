@@ -1,4 +1,4 @@
--- An answer is known from its number and values. Assumes nothing.
+-- An answer is known from its number and values.
 use Prim.Native.Nat.{ℕ, _<_}
 use mathlib.Core.Path.{_≡_, refl, sym, ap, _∙_}
 use mathlib.Core.Bool.{Bool, true, false, cond}

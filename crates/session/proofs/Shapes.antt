@@ -1,4 +1,4 @@
--- The changes of a connection keep its shape. Assumes nothing.
+-- The changes of a connection keep its shape.
 use Prim.Native.Nat.{ℕ, _+_, _^_, _≤_, _<_}
 use native.Mathlib.Omega.{arith}
 use mathlib.Core.Path.{_≡_, refl, sym, ap, _∙_, subst}
@@ -82,7 +82,7 @@ module _ {c : Connection} (h : ConnectionShape c) where
 
   bind-to-shape : {b : Binding} {id : ℕ} → BindingShape b → id < 2 ^ 32 → BindingShape (bindTo id b)
   unfolding bindTo
-  bind-to-shape b l = record { bound = omega arith; updated = b .updated; id = l; previous = b .previous }
+  bind-to-shape b l = record { bound = omega arith; updated = omega (arith, b .updated); id = l; previous = b .previous }
 
   unbind-shape : {b : Binding} → BindingShape b → BindingShape (unbind b)
   unfolding unbind

@@ -1,4 +1,4 @@
--- What the types of the code say of a binding, a connection and a session. Assumes nothing.
+-- What the types of the code say of a binding, a connection and a session.
 use Prim.Native.Nat.{ℕ, _^_, _<_}
 use mathlib.Core.Path.{_≡_}
 use mathlib.Core.List.{List}

@@ -1,4 +1,4 @@
--- Replies, answers and bindings at worked examples. Assumes nothing.
+-- Replies, answers and bindings at worked examples.
 use Prim.Native.Nat.{ℕ, _+_}
 use mathlib.Core.Path.{_≡_, refl}
 use mathlib.Core.Bool.{cond}

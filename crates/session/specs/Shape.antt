@@ -1,7 +1,8 @@
--- The shape of Rattle's values: how many elements each array has, and how large each number can be. Assumes nothing.
+-- The shape of Rattle's values: how many elements each array has, and how large each number can be.
 use Prim.Native.Nat.{ℕ, _^_, _<_}
 use mathlib.Core.Path.{_≡_}
 use lib.ListN.{length, getD}
+use Rattle.handshake.specs.Handshake.{peerNameMax}
 use Rattle.store.specs.Limits.{tablePlaces}
 use Rattle.store.specs.Shape.{Cells}
 use Rattle.session.specs.declared.Binding.{Binding}
@@ -22,8 +23,8 @@ pub record ConnectionShape (c : Connection) : Type 0 where
   pub current : c .current < 2 ^ 64
   pub localLength : c .«local_len» < 2 ^ 64
   pub remoteLength : c .«remote_len» < 2 ^ 64
-  pub local : Cells 32 8 (c .local)
-  pub remote : Cells 32 8 (c .remote)
+  pub local : Cells peerNameMax 8 (c .local)
+  pub remote : Cells peerNameMax 8 (c .remote)
   pub places : length (c .bindings) ≡ tablePlaces
   pub binding : (i : ℕ) → i < tablePlaces → BindingShape (bindingAt c i)
 

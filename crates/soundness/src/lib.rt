@@ -1,11 +1,11 @@
 // Soundness of a session record with a store: each kind of fault of the record is a test of its own, equal to its definition.
+use bindings::bound_to;
 use frame::Frame;
 use frame::judge_frame;
 use handshake::Hello;
 use handshake::Status;
-use handshake::judge_hello;
-use handshake::judge_status;
 use handshake::name_ok;
+use hello_reading::judge_hello;
 use session::AWAITING_HELLO;
 use session::AWAITING_STATUS;
 use session::Binding;
@@ -13,11 +13,11 @@ use session::Connection;
 use session::ESTABLISHED;
 use session::Session;
 use session::UNFINISHED_MAX;
-use session::bound_to;
+use status_reading::judge_status;
 use store::Store;
 use store::TABLES;
 use store::Table;
-use store::sound_store;
+use store_soundness::sound_store;
 ghost use mathlib.Core.Path.{_≡_};
 ghost use mathlib.Core.Bool.{_||_};
 ghost use Prim.Native.Nat.{_≤_};

@@ -1,4 +1,4 @@
--- Soundness as facts: what a sound store holds, and that such facts make a store sound. Assumes nothing.
+-- Soundness as facts: what a sound store holds, and that such facts make a store sound.
 use Prim.Native.Nat.{ℕ, _+_, _^_, _≤_, _<_, min}
 use native.Mathlib.Omega.{arith}
 use mathlib.Core.Path.{_≡_, refl, sym, ap, _∙_}

@@ -1,4 +1,4 @@
--- Lookup in a sound store, and that putting a table or an entry by the rules keeps a store sound and every other lookup. Assumes nothing.
+-- Lookup in a sound store, and that putting a table or an entry by the rules keeps a store sound and every other lookup.
 use Prim.Native.Nat.{ℕ, _+_, _^_, _≤_, _<_}
 use native.Mathlib.Omega.{arith}
 use mathlib.Core.Path.{_≡_, refl, sym, ap, _∙_, subst}

@@ -1,4 +1,4 @@
--- The loops of lookup and of the search for a free place, and the cases of their tests. Assumes nothing.
+-- The loops of lookup and of the search for a free place, and the cases of their tests.
 use Prim.Native.Nat.{ℕ, _+_, _≤_, _<_, min}
 use native.Mathlib.Omega.{arith}
 use mathlib.Core.Path.{_≡_, refl, sym, ap, _∙_}

@@ -1,4 +1,4 @@
--- What making and putting a table or an entry gives, in the form of the code. Assumes nothing.
+-- What making and putting a table or an entry gives, in the form of the code.
 use Prim.Native.Nat.{ℕ, _≤_, _<_}
 use native.Mathlib.Omega.{arith}
 use mathlib.Core.Path.{_≡_, refl, sym, ap, _∙_}

@@ -1,4 +1,4 @@
--- Putting a table or an entry by the rules keeps a sound store sound. Assumes nothing.
+-- Putting a table or an entry by the rules keeps a sound store sound.
 use Prim.Native.Nat.{ℕ, _+_, _-_, _^_, _≤_, _<_}
 use native.Mathlib.Omega.{arith}
 use mathlib.Core.Path.{_≡_, refl, sym, ap, _∙_, subst}

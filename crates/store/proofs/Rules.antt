@@ -1,4 +1,4 @@
--- The rules of key types and data types: one law for each case. Assumes nothing.
+-- The rules of key types and data types: one law for each case.
 use Prim.Native.Nat.{ℕ, zero, suc, _+_, _*_, _-_, _/_, _%_, _^_, _≤_, _<_}
 use native.Mathlib.Omega.{arith}
 use native.Mathlib.Nat.{div-eq-of-lt, pow-le-pow-right}

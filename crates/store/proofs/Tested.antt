@@ -1,4 +1,4 @@
--- The tests of soundness, in the cases of the code. Assumes nothing.
+-- The tests of soundness, in the cases of the code.
 use Prim.Native.Nat.{ℕ, _+_, _-_, _^_, _≤_, _<_, min}
 use native.Mathlib.Omega.{arith}
 use mathlib.Core.Path.{_≡_, refl, sym, ap, _∙_}

@@ -1,4 +1,4 @@
--- The nested loops for two tables with one name and for two entries with one table and key. Assumes nothing.
+-- The nested loops for two tables with one name and for two entries with one table and key.
 use Prim.Native.Nat.{ℕ, _+_, _≤_, _<_, min}
 use native.Mathlib.Omega.{arith}
 use mathlib.Core.Path.{_≡_, refl, sym, ap, _∙_}

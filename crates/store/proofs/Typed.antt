@@ -1,4 +1,4 @@
--- What the types of the code say of a table, an entry and a store. Assumes nothing.
+-- What the types of the code say of a table, an entry and a store.
 use Prim.Native.Nat.{ℕ, _^_, _<_}
 use mathlib.Core.Path.{_≡_, sym, _∙_}
 use mathlib.Core.List.{List, map}

@@ -1,4 +1,4 @@
--- The values of an entry in wire order, and the contents of a store without places. Assumes nothing.
+-- The values of an entry in wire order, and the contents of a store without places.
 use Prim.Native.Nat.{ℕ, zero, suc, _+_, _-_}
 use mathlib.Core.List.{List, [], _∷_, _++_, map}
 use mathlib.Core.Bool.{Bool, true, false, cond}

@@ -1,4 +1,4 @@
--- The layout and the tests at worked examples. Assumes nothing.
+-- The layout and the tests at worked examples.
 use Prim.Native.Nat.{ℕ}
 use mathlib.Core.Path.{_≡_, refl}
 use mathlib.Core.List.{List, [], _∷_}

@@ -1,4 +1,4 @@
--- The numbers of document 01 that concern tables and entries, and the layout of an entry's values. Assumes nothing.
+-- The numbers of document 01 that concern tables and entries, and the layout of an entry's values.
 use Prim.Native.Nat.{ℕ, zero, suc, _+_, _-_, _/_, _%_, _^_}
 use mathlib.Core.List.{List, [], _∷_, _++_}
 use mathlib.Core.Bool.{Bool, true, false, cond, not, _&&_, _||_}
@@ -22,6 +22,13 @@ nameMax = 32
 -- "1 to 64 for 3 and 4"
 abbrev pub keyMax : ℕ
 keyMax = 64
+
+-- the rate types, and the integers of an entry's data types but for the server ID: 10 single ones and 8 times 3
+abbrev pub rateCount : ℕ
+rateCount = 8
+
+abbrev pub valueCount : ℕ
+valueCount = 34
 
 -- "IDs, expiry and periods are at most 2^32 - 1"
 abbrev pub max32 : ℕ

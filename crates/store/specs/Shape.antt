@@ -1,4 +1,4 @@
--- The shape of Rattle's values: how many elements each array has, and how large each number can be. Assumes nothing.
+-- The shape of Rattle's values: how many elements each array has, and how large each number can be.
 use Prim.Native.Nat.{ℕ, _^_, _<_}
 use mathlib.Core.Path.{_≡_}
 use mathlib.Core.List.{List}
@@ -7,7 +7,7 @@ use lib.Signed.{mag}
 use Rattle.store.specs.declared.Table.{Table}
 use Rattle.store.specs.declared.Entry.{Entry}
 use Rattle.store.specs.declared.Store.{Store}
-use Rattle.store.specs.Limits.{nameMax, keyMax, tablePlaces, entryPlaces}
+use Rattle.store.specs.Limits.{nameMax, keyMax, tablePlaces, entryPlaces, rateCount, valueCount}
 use Rattle.store.specs.Store.{noTable, noEntry}
 
 -- n numbers of so many bits
@@ -23,7 +23,7 @@ pub record TableShape (t : Table) : Type 0 where
   pub nameLength : t .«name_len» < 2 ^ 64
   pub keyLength : t .«key_len» < 2 ^ 64
   pub expiry : t .expiry < 2 ^ 32
-  pub periods : Cells 8 32 (t .periods)
+  pub periods : Cells rateCount 32 (t .periods)
   pub name : Cells nameMax 8 (t .name)
 
 pub record EntryShape (e : Entry) : Type 0 where
@@ -32,7 +32,7 @@ pub record EntryShape (e : Entry) : Type 0 where
   pub table : e .table < 2 ^ 64
   pub keyLength : e .«key_len» < 2 ^ 64
   pub key : Cells keyMax 8 (e .key)
-  pub values : Cells 34 64 (e .values)
+  pub values : Cells valueCount 64 (e .values)
 
 pub record StoreShape (s : Store) : Type 0 where
   pub tables : length (s .tables) ≡ tablePlaces

@@ -1,5 +1,5 @@
 -- Soundness of a store: document 01's "Not sound means", as far as it concerns tables and entries. Each kind of fault is a test of its own;
--- free places aren't looked at, nor values that a table doesn't have. Assumes nothing.
+-- free places aren't looked at, nor values that a table doesn't have.
 use Prim.Native.Nat.{ℕ, zero, suc, _+_, _-_, _^_}
 use mathlib.Core.List.{List, [], _∷_, _++_}
 use mathlib.Core.Bool.{Bool, true, false, cond, not, _&&_, _||_}

@@ -1,4 +1,4 @@
--- Tables and entries: what is held, lookup, the lowest free place, and what putting one makes. Assumes nothing.
+-- Tables and entries: what is held, lookup, the lowest free place, and what putting one makes.
 use Prim.Native.Nat.{ℕ, zero, suc, _+_, _-_}
 use mathlib.Core.List.{List, [], _∷_, _++_}
 use mathlib.Core.Bool.{Bool, true, false, cond, not, _&&_, _||_}
@@ -11,7 +11,7 @@ use Rattle.store.specs.declared.Table.{Table}
 use Rattle.store.specs.declared.Entry.{Entry}
 use Rattle.store.specs.declared.Store.{Store}
 use Rattle.store.specs.declared.Definition.{Definition}
-use Rattle.store.specs.Limits.{nameMax, keyMax, tablePlaces, entryPlaces}
+use Rattle.store.specs.Limits.{nameMax, keyMax, tablePlaces, entryPlaces, rateCount, valueCount}
 
 -- ---- what a place holds
 
@@ -107,12 +107,12 @@ noTable = record {
   «name_len» = 0;
   «key_len» = 0;
   expiry = 0;
-  periods = replicate 8 0;
+  periods = replicate rateCount 0;
   name = replicate nameMax 0;
 }
 
 unfoldable pub noEntry : Entry
-noEntry = record { held = 0; «server_id» = pos 0; table = 0; «key_len» = 0; key = replicate keyMax 0; values = replicate 34 0 }
+noEntry = record { held = 0; «server_id» = pos 0; table = 0; «key_len» = 0; key = replicate keyMax 0; values = replicate valueCount 0 }
 
 unfoldable pub emptyStore : Store
 emptyStore = record { tables = replicate tablePlaces noTable; entries = replicate entryPlaces noEntry }

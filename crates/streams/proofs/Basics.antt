@@ -1,4 +1,4 @@
--- Cases of a test and of a byte, tests over lists, and the laws of the byte model over a timeline. Assumes nothing.
+-- Cases of a test and of a byte, tests over lists, and the laws of the byte model over a timeline.
 use mathlib.Core.Path.{_≡_, refl}
 use Prim.Native.Nat.{ℕ, zero, suc}
 use mathlib.Core.List.{List, [], _∷_, _++_}

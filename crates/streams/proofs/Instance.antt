@@ -1,4 +1,4 @@
--- The small receiver is lawful, so the theorems hold of it. Assumes nothing.
+-- The small receiver is lawful, so the theorems hold of it.
 use mathlib.Core.Path.{_≡_, refl, sym, _∙_}
 use Prim.Native.Nat.{ℕ, suc, _-_, _≤_, _<_}
 use native.Mathlib.Omega.{arith}

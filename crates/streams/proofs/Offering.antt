@@ -1,4 +1,4 @@
--- For every stream and every cutting of it there is a list of calls that offers it, with no piece across a cut. Assumes nothing.
+-- For every stream and every cutting of it there is a list of calls that offers it, with no piece across a cut.
 use mathlib.Core.Path.{_≡_, refl, sym}
 use Prim.Native.Nat.{ℕ, zero, suc, _+_, _≤_}
 use native.Mathlib.Omega.{arith}

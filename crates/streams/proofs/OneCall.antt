@@ -1,4 +1,4 @@
--- One reading call against the byte model, on any state. Assumes nothing.
+-- One reading call against the byte model, on any state.
 use mathlib.Core.Path.{_≡_, refl, ap, _∙_}
 use Prim.Native.Nat.{ℕ, suc, _+_, _≤_, _<_}
 use native.Mathlib.Omega.{arith}

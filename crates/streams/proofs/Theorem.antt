@@ -1,4 +1,4 @@
--- Every list of reading calls and events comes to what the byte model says, for every lawful receiver. Assumes nothing.
+-- Every list of reading calls and events comes to what the byte model says, for every lawful receiver.
 use mathlib.Core.Path.{_≡_, refl, sym, ap, _∙_}
 use Prim.Native.Nat.{ℕ, zero, suc, _≤_}
 use native.Mathlib.Omega.{arith}

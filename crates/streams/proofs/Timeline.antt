@@ -1,4 +1,4 @@
--- The byte model over parts of a timeline, and a ledger along it. Assumes nothing.
+-- The byte model over parts of a timeline, and a ledger along it.
 use mathlib.Core.Path.{_≡_, refl, sym, ap, _∙_}
 use Prim.Native.Nat.{ℕ}
 use native.Mathlib.Omega.{arith}

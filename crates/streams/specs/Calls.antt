@@ -1,4 +1,4 @@
--- Reading calls by the byte model, lists of calls, and the offering of a timeline. Assumes nothing.
+-- Reading calls by the byte model, lists of calls, and the offering of a timeline.
 use Prim.Native.Nat.{ℕ, suc, _≤_}
 use mathlib.Core.Path.{_≡_}
 use mathlib.Core.Logic.{_⊎_}

@@ -1,4 +1,4 @@
--- What is asked of a receiver, and what is claimed of every list of calls. Assumes nothing.
+-- What is asked of a receiver, and what is claimed of every list of calls.
 use Prim.Native.Nat.{ℕ, suc, _≤_, _<_}
 use mathlib.Core.Path.{_≡_}
 use mathlib.Core.Logic.{_⊎_}

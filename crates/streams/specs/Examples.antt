@@ -1,4 +1,4 @@
--- The byte model and lists of calls of the small receiver, computed. Assumes nothing.
+-- The byte model and lists of calls of the small receiver, computed.
 use mathlib.Core.Path.{_≡_, refl}
 use mathlib.Core.List.{List, [], _∷_, flatten}
 use Rattle.streams.specs.Model.{Item, byte, event, bytes, feedAll, unfinished}

@@ -1,4 +1,4 @@
--- A ledger folded over the messages that ended. Assumes nothing.
+-- A ledger folded over the messages that ended.
 use Prim.Native.Nat.{ℕ}
 use mathlib.Core.Path.{_≡_}
 use mathlib.Core.List.{List, [], _∷_, _++_}

@@ -1,4 +1,4 @@
--- A receiver of bytes and its byte model over a timeline, for any states, answers and events. Assumes nothing.
+-- A receiver of bytes and its byte model over a timeline, for any states, answers and events.
 use Prim.Native.Nat.{ℕ}
 use mathlib.Core.List.{List, [], _∷_, _++_, map}
 use mathlib.Core.Bool.{Bool}

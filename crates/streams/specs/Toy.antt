@@ -1,4 +1,4 @@
--- A small receiver, to try the definitions on: a message is a length byte of at most 8 and that many bytes. Assumes nothing.
+-- A small receiver, to try the definitions on: a message is a length byte of at most 8 and that many bytes.
 -- State 0 is closed, 1 is between messages, 1 + k awaits k bytes of a message. States over 9 are not sound, those from 20 on closed.
 use Prim.Native.Nat.{ℕ, _+_, _-_}
 use mathlib.Core.Path.{_≡_}

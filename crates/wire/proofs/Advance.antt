@@ -1,4 +1,4 @@
--- A value read takes at least one byte, at most ten and none past the end, and is below 2^64. Assumes nothing.
+-- A value read takes at least one byte, at most ten and none past the end, and is below 2^64.
 use Prim.Native.Nat.{ℕ, zero, suc, _+_, _^_, _≤_, _<_}
 use native.Mathlib.Omega.{arith}
 use mathlib.Core.Path.{_≡_, subst}

@@ -1,5 +1,5 @@
 -- More bytes behind, and the position: what was read stays as it was when more bytes follow, and depends only on the bytes from its
--- position on. For the encoded integer, the 4-byte number, the value with a limit and the server ID. Assumes nothing.
+-- position on. For the encoded integer, the 4-byte number, the value with a limit and the server ID.
 use Prim.Native.Nat.{ℕ, zero, suc, _+_, _^_, _≤_}
 use native.Mathlib.Omega.{arith}
 use mathlib.Core.Logic.{_⊎_, inl, inr}

@@ -1,4 +1,4 @@
--- Values with a limit: a law for each way through `read_limited`, and the value rule over the width. Assumes nothing.
+-- Values with a limit: a law for each way through `read_limited`, and the value rule over the width.
 use Prim.Native.Nat.{ℕ, _+_, _-_, _^_, _≤_, _<_}
 use native.Mathlib.Omega.{arith}
 use native.Mathlib.Nat.{pow-le-pow-right}

@@ -1,4 +1,4 @@
--- The 4-byte number: a law for each way through `read_number` and `write_number`, and the round trip both ways. Assumes nothing.
+-- The 4-byte number: a law for each way through `read_number` and `write_number`, and the round trip both ways.
 use Prim.Native.Nat.{ℕ, suc, _+_, _*_, _-_, _/_, _%_, _^_, _≤_, _<_}
 use native.Mathlib.Omega.{arith}
 use mathlib.Core.Path.{_≡_, refl, sym, subst, _∙_}

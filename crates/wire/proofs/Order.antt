@@ -1,4 +1,4 @@
--- Two cases of an order. Assumes nothing.
+-- Two cases of an order.
 use Prim.Native.Nat.{ℕ, _≤_, _<_}
 use mathlib.Core.Logic.{_⊎_, inl, inr}
 use mathlib.Core.Path.{_≡_, refl}

@@ -1,4 +1,4 @@
--- Reading, case by case, at a position of a list. Assumes nothing.
+-- Reading, case by case, at a position of a list.
 use Prim.Native.Nat.{ℕ, suc, _+_, _*_, _-_, _^_, _≤_, _<_}
 use native.Mathlib.Omega.{arith}
 use native.Mathlib.Numerals.{add-one}

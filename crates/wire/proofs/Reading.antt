@@ -1,4 +1,4 @@
--- The state at the head of `read_int`'s loop, and a law for each way through `read_int` and `tenth_byte`. Assumes nothing.
+-- The state at the head of `read_int`'s loop, and a law for each way through `read_int` and `tenth_byte`.
 use Prim.Native.Nat.{ℕ, _+_, _*_, _-_, _^_, _≤_, _<_}
 use native.Mathlib.Omega.{arith}
 use native.Mathlib.Numerals.{add-one}

@@ -1,5 +1,5 @@
 -- Writing into lent room: a law for each way through `put_bytes`, `put_int` and `put_number`, and the laws of the room afterwards.
--- Assumes nothing.
+--
 use Prim.Native.Nat.{ℕ, _+_, _-_, _≤_, _<_, _^_}
 use native.Mathlib.Omega.{arith}
 use native.Mathlib.Numerals.{add-one}
@@ -16,7 +16,8 @@ use Rattle.wire.specs.declared.Put.the-variants as put
 use Rattle.wire.specs.declared.Encoded.{Encoded}
 use Rattle.wire.specs.Integer.{encodeInt, encodedInt, readInt}
 use Rattle.wire.specs.Number.{encodeNumber, readNumber}
-use Rattle.wire.specs.Room.{overlay, putResult, putRoom}
+use Rattle.lists.specs.Lists.{overlay}
+use Rattle.wire.specs.Room.{putResult, putRoom}
 use Rattle.wire.proofs.Order.{lt-or-le, split}
 use Rattle.wire.proofs.RoundTrip.{round-trip}
 use Rattle.wire.proofs.Numbers.{number-length, number-trip}

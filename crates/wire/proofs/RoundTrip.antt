@@ -1,4 +1,4 @@
--- Reading what was written gives the value back, and only a value's encoding reads as it. Assumes nothing.
+-- Reading what was written gives the value back, and only a value's encoding reads as it.
 use Prim.Native.Nat.{ℕ, zero, suc, _+_, _*_, _-_, _/_, _%_, _^_, _≤_, _<_}
 use native.Mathlib.Omega.{arith}
 use native.Mathlib.Nat.{pow-suc}

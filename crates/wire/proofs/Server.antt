@@ -1,4 +1,4 @@
--- The server ID: laws for each way through `server_id_of`, `server_id_word` and `read_server_id`, and the way there and back. Assumes nothing.
+-- The server ID: laws for each way through `server_id_of`, `server_id_word` and `read_server_id`, and the way there and back.
 use Prim.Native.Nat.{ℕ, zero, suc, _+_, _-_, _^_, _≤_, _<_}
 use native.Mathlib.Omega.{arith}
 use mathlib.Core.Path.{_≡_, refl, sym, ap, subst, _∙_}

@@ -1,4 +1,4 @@
--- The size of an encoding: 1 to 10 bytes, by the table of smallest values; each is a byte. Assumes nothing.
+-- The size of an encoding: 1 to 10 bytes, by the table of smallest values; each is a byte.
 use Prim.Native.Nat.{ℕ, zero, suc, _+_, _*_, _-_, _/_, _^_, _≤_, _<_}
 use native.Mathlib.Omega.{arith}
 use mathlib.Core.Path.{_≡_, refl, ap, _∙_}

@@ -1,4 +1,4 @@
--- An overflow shows at the tenth byte, and ten bytes are never too short. Assumes nothing.
+-- An overflow shows at the tenth byte, and ten bytes are never too short.
 use Prim.Native.Nat.{ℕ, zero, suc, _+_, _*_, _^_, _≤_, _<_}
 use native.Mathlib.Omega.{arith}
 use native.Mathlib.Nat.{pow-suc, mul-le-mul-left}

@@ -1,4 +1,4 @@
--- Writing, case by case; the state at the head of `write_int`'s loop, and a law for each way through it. Assumes nothing.
+-- Writing, case by case; the state at the head of `write_int`'s loop, and a law for each way through it.
 use Prim.Native.Nat.{ℕ, zero, suc, _+_, _-_, _/_, _%_, _^_, _≤_, _<_}
 use native.Mathlib.Omega.{arith}
 use native.Mathlib.Numerals.{add-one}

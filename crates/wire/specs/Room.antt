@@ -1,15 +1,12 @@
 -- Bytes written at a position of lent room, where they fit whole; everything else stays as it came.
 use Prim.Native.Nat.{ℕ, _+_}
-use mathlib.Core.List.{List, _++_}
+use mathlib.Core.List.{List}
 use mathlib.Core.Bool.{cond}
 use lib.Dec.{leb}
-use lib.ListN.{length, take, drop}
+use lib.ListN.{length}
+use Rattle.lists.specs.Lists.{overlay}
 use Rattle.wire.specs.declared.Put.{Put}
 use Rattle.wire.specs.declared.Put.the-variants as put
-
--- The bytes in place of those that stood from position `at` on.
-unfoldable pub overlay : ℕ → List ℕ → List ℕ → List ℕ
-overlay at bytes room = take at room ++ bytes ++ drop (at + length bytes) room
 
 -- The answer: the position after the bytes, or no room for them.
 unfoldable pub putResult : List ℕ → ℕ → List ℕ → Put

@@ -2,8 +2,8 @@ use Rattle.message.proofs.Settling.{settling}
 use Rattle.message.proofs.peer_error.Statement.{statement}
 use Rattle.message.proofs.peer_error.Tie as tie
 
-refuse-connection-requires : tie.Need-refuse-connection-requires
-refuse-connection-requires c κs = search settling
+close-connection-requires : tie.Need-close-connection-requires
+close-connection-requires c κs = search settling
 
 no-reply-requires : tie.Need-no-reply-requires
 no-reply-requires c κs = search settling
@@ -12,4 +12,4 @@ returns : tie.Need-returns
 returns c = search settling
 
 pub peer-error-spec : {M : Type 1} → statement M
-peer-error-spec = tie.close (tie.spec refuse-connection-requires no-reply-requires returns)
+peer-error-spec = tie.close (tie.spec close-connection-requires no-reply-requires returns)

@@ -2,8 +2,6 @@ use Rattle.soundness.proofs.Testing.{hellos}
 use borrow.Author.Needs.{needs}
 use Rattle.soundness.proofs.hello_of.Statement.{statement}
 use Rattle.soundness.proofs.hello_of.Tie as tie
-use Rattle.handshake.proofs.judge_hello.Reads as judge-hello-reads
-use Rattle.soundness.proofs.name_len.Reads as name-len-reads
 
 name-len-requires : tie.Need-name-len-requires
 name-len-requires c κs = search hellos

@@ -1,0 +1,37 @@
+use Rattle.store.proofs.Tested.{rows}
+use borrow.Author.Needs.{needs}
+use Rattle.place_soundness.proofs.held_entry_ok.Statement.{statement}
+use Rattle.place_soundness.proofs.held_entry_ok.Tie as tie
+
+returns : tie.Need-returns
+returns c = search rows
+
+entry-key-length-ok-requires : tie.Need-entry-key-length-ok-requires
+entry-key-length-ok-requires c κs = search rows
+
+returns-2 : tie.Need-returns-2
+returns-2 c = search rows
+
+key-rest-zero-requires : tie.Need-key-rest-zero-requires
+key-rest-zero-requires c κs = search rows
+
+returns-3 : tie.Need-returns-3
+returns-3 c = search rows
+
+slots-ok-requires : tie.Need-slots-ok-requires
+slots-ok-requires c κs = search rows
+
+returns-4 : tie.Need-returns-4
+returns-4 c = search rows
+
+pub held-entry-ok-spec : {M : Type 1} → statement M
+held-entry-ok-spec =
+    tie.close
+    (tie.spec
+    returns
+    entry-key-length-ok-requires
+    returns-2
+    key-rest-zero-requires
+    returns-3
+    slots-ok-requires
+    returns-4)

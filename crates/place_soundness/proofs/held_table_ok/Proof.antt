@@ -1,0 +1,45 @@
+use Rattle.store.proofs.Tested.{rows}
+use borrow.Author.Needs.{needs}
+use Rattle.place_soundness.proofs.held_table_ok.Statement.{statement}
+use Rattle.place_soundness.proofs.held_table_ok.Tie as tie
+
+within-requires : tie.Need-within-requires
+within-requires c κs = search rows
+
+returns : tie.Need-returns
+returns c = search rows
+
+key-kind-requires : tie.Need-key-kind-requires
+key-kind-requires c κs = search rows
+
+is-known-requires : tie.Need-is-known-requires
+is-known-requires c κs = search rows
+
+returns-2 : tie.Need-returns-2
+returns-2 c = search rows
+
+key-length-ok-requires : tie.Need-key-length-ok-requires
+key-length-ok-requires c κs = search rows
+
+returns-3 : tie.Need-returns-3
+returns-3 c = search rows
+
+returns-4 : tie.Need-returns-4
+returns-4 c = search rows
+
+returns-5 : tie.Need-returns-5
+returns-5 c = search rows
+
+pub held-table-ok-spec : {M : Type 1} → statement M
+held-table-ok-spec =
+    tie.close
+    (tie.spec
+    within-requires
+    returns
+    key-kind-requires
+    is-known-requires
+    returns-2
+    key-length-ok-requires
+    returns-3
+    returns-4
+    returns-5)

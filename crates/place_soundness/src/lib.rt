@@ -1,0 +1,125 @@
+// Soundness of one table and of one entry.
+ghost use mathlib.Core.Path.{_≡_};
+ghost use mathlib.Core.List.{[], _∷_};
+ghost use mathlib.Core.Bool.{_&&_};
+ghost use Rattle.lists.specs.Lists.{allOf};
+ghost use Rattle.store.specs.Limits.{slotTypes};
+ghost use Rattle.store.specs.Store.{tableHeld};
+ghost use Rattle.store.specs.Sound.{tableTests, soundTable, slotOk, slotsOk, entryKeyLengthOk, keyRestZero, valuesOk};
+use store::Entry;
+use store::KEY_MAX;
+use store::NAME_MAX;
+use store::Table;
+use store::VALUES;
+use table_types::is_known;
+use table_types::is_string;
+use table_types::is_wide;
+use table_types::key_kind;
+use table_types::key_length_ok;
+use table_types::present;
+use table_types::slot_type;
+use table_types::within;
+
+// Data types are bits 0 to 18.
+const DATA_TYPES_END: u32 = 524288;
+
+// A value of a 32-bit data type is below this.
+const VALUE_END: u64 = 4294967296;
+
+// The tests of a held table.
+fn held_table_ok(t: Table) -> bool
+    ensures { λ r. ⌜ r ≡ allOf (tableTests t) ⌝ }
+{
+    if !within(1, t.name_len, NAME_MAX) {
+        return false;
+    }
+    if !is_known(key_kind(t.key_type)) {
+        return false;
+    }
+    if !key_length_ok(t.key_type, t.key_len) {
+        return false;
+    }
+    if DATA_TYPES_END <= t.data_types {
+        return false;
+    }
+    t.timed <= 1
+}
+
+pub fn sound_table(t: Table) -> bool
+    ensures { λ r. ⌜ r ≡ soundTable t ⌝ }
+{
+    if t.held == 0 {
+        return true;
+    }
+    if t.held != 1 {
+        return false;
+    }
+    held_table_ok(t)
+}
+
+// Whether a held entry's key is as long as its table says.
+fn entry_key_length_ok(t: Table, e: Entry) -> bool
+    ensures { λ r. ⌜ r ≡ entryKeyLengthOk t e ⌝ }
+{
+    if is_string(key_kind(t.key_type)) {
+        return e.key_len <= t.key_len;
+    }
+    e.key_len == t.key_len
+}
+
+// Whether the key bytes past the length are zero.
+fn key_rest_zero(e: Entry) -> bool
+    ensures { λ r. ⌜ r ≡ keyRestZero e ⌝ }
+{
+    let n = e.key_len;
+    if KEY_MAX < n {
+        return true;
+    }
+    let bytes = e.key;
+    lists::all_zero(&bytes[n..])
+}
+
+// Whether a value of data type t fits its width, if the table has that type.
+fn slot_ok(types: u32, t: usize, v: u64) -> bool
+    ensures { λ r. ⌜ r ≡ slotOk types t v ⌝ }
+{
+    if v < VALUE_END {
+        return true;
+    }
+    if is_wide(t) {
+        return true;
+    }
+    !present(types, t)
+}
+
+// Whether the values that the table has fit their widths.
+fn slots_ok(types: u32, values: [u64; VALUES]) -> bool
+    ensures { λ r. ⌜ r ≡ slotsOk types slotTypes values ⌝ }
+{
+    let mut i = 0;
+    while i < VALUES {
+        let t = slot_type(i);
+        if !slot_ok(types, t, values[i]) {
+            return false;
+        }
+        i += 1;
+    }
+    true
+}
+
+// The tests of a held entry of the table.
+pub fn held_entry_ok(owner: Table, e: Entry) -> bool
+    ensures { λ r. ⌜ r ≡ (tableHeld owner && allOf (entryKeyLengthOk owner e ∷ keyRestZero e ∷ valuesOk owner e ∷ [])) ⌝ }
+{
+    if owner.held != 1 {
+        return false;
+    }
+    if !entry_key_length_ok(owner, e) {
+        return false;
+    }
+    if !key_rest_zero(e) {
+        return false;
+    }
+    let values = e.values;
+    slots_ok(owner.data_types, values)
+}

@@ -1,0 +1,19 @@
+use Rattle.message.proofs.Defining.{defining}
+use Rattle.table_definition.proofs.define_at.Statement.{statement}
+use Rattle.table_definition.proofs.define_at.Tie as tie
+
+bind-table-requires : tie.Need-bind-table-requires
+bind-table-requires c κs = search defining
+
+no-reply-requires : tie.Need-no-reply-requires
+no-reply-requires c κs = search defining
+
+put-table-requires : tie.Need-put-table-requires
+put-table-requires c κs = search defining
+
+returns : tie.Need-returns
+returns c = search defining
+
+pub define-at-spec : {M : Type 1} → statement M
+define-at-spec =
+    tie.close (tie.spec bind-table-requires no-reply-requires put-table-requires returns)

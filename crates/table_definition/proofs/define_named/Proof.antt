@@ -1,0 +1,52 @@
+use Rattle.message.proofs.Defining.{defining}
+use Rattle.table_definition.proofs.define_named.Statement.{statement}
+use Rattle.table_definition.proofs.define_named.Tie as tie
+
+find-table-requires : tie.Need-find-table-requires
+find-table-requires c κs = search defining
+
+enum-known-place : tie.Need-enum-known-place
+enum-known-place c = search defining
+
+table-at-requires : tie.Need-table-at-requires
+table-at-requires c κs = search defining
+
+agree-requires : tie.Need-agree-requires
+agree-requires c κs = search defining
+
+define-at-requires : tie.Need-define-at-requires
+define-at-requires c κs = search defining
+
+returns : tie.Need-returns
+returns c = search defining
+
+refuse-requires : tie.Need-refuse-requires
+refuse-requires c κs = search defining
+
+enum-told : tie.Need-enum-told
+enum-told c = search defining
+
+define-new-requires : tie.Need-define-new-requires
+define-new-requires c κs = search defining
+
+returns-2 : tie.Need-returns-2
+returns-2 c = search defining
+
+returns-3 : tie.Need-returns-3
+returns-3 c = search defining
+
+pub define-named-spec : {M : Type 1} → statement M
+define-named-spec =
+    tie.close
+    (tie.spec
+    find-table-requires
+    enum-known-place
+    table-at-requires
+    agree-requires
+    define-at-requires
+    returns
+    refuse-requires
+    enum-told
+    define-new-requires
+    returns-2
+    returns-3)

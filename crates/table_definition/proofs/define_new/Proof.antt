@@ -1,0 +1,36 @@
+use Rattle.message.proofs.Defining.{defining}
+use Rattle.table_definition.proofs.define_new.Statement.{statement}
+use Rattle.table_definition.proofs.define_new.Tie as tie
+
+free-table-requires : tie.Need-free-table-requires
+free-table-requires c κs = search defining
+
+enum-known-place : tie.Need-enum-known-place
+enum-known-place c = search defining
+
+define-at-requires : tie.Need-define-at-requires
+define-at-requires c κs = search defining
+
+enum-told : tie.Need-enum-told
+enum-told c = search defining
+
+refuse-requires : tie.Need-refuse-requires
+refuse-requires c κs = search defining
+
+returns : tie.Need-returns
+returns c = search defining
+
+returns-2 : tie.Need-returns-2
+returns-2 c = search defining
+
+pub define-new-spec : {M : Type 1} → statement M
+define-new-spec =
+    tie.close
+    (tie.spec
+    free-table-requires
+    enum-known-place
+    define-at-requires
+    enum-told
+    refuse-requires
+    returns
+    returns-2)

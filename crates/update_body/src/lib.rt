@@ -1,0 +1,97 @@
+// The fields of an update, read from its body.
+ghost use mathlib.Core.Path.{_≡_};
+ghost use Rattle.body.specs.Bodies.{stringField, keyField, entryFields, updateFields, incrementalFields};
+ghost use Rattle.body.specs.Results.{partRead, updateStruct, noUpdate, updateBody};
+use body::Part;
+use body::Reading;
+use body::UpdateBody;
+use body::read_between;
+use body::read_part;
+use store::Table;
+use store::VALUES;
+use update_data::read_data;
+use wire::Field;
+use wire::Number;
+
+// The string key at `at`: its length, and its bytes.
+fn read_string(key_len: usize, body: &[u8], at: usize) -> Part
+    ensures { λ r. ⌜ partRead r ≡ stringField «key_len» (now (body .entry)) at ⌝ }
+{
+    match read_between(0, key_len as u64, body, at) {
+        Field::Value { value: len, next } => read_part(len as usize, body, next),
+        Field::Short => Part::Short,
+        Field::OutOfRange => Part::OutOfRange,
+    }
+}
+
+// The key at `at`, of a table with this key type and key length.
+fn read_key(key_type: u8, key_len: usize, body: &[u8], at: usize) -> Part
+    ensures { λ r. ⌜ partRead r ≡ keyField «key_type» «key_len» (now (body .entry)) at ⌝ }
+{
+    if table_types::is_string(table_types::key_kind(key_type)) {
+        return read_string(key_len, body, at);
+    }
+    read_part(key_len, body, at)
+}
+
+// Key and data at `at`, of an update of this table with this ID.
+fn read_entry(table: Table, id: u32, body: &[u8], at: usize) -> UpdateBody
+    ensures { λ r. ⌜ r ≡ updateBody (entryFields table id (now (body .entry)) at) ⌝ }
+{
+    let key_type = table.key_type;
+    let key_len = table.key_len;
+    let types = table.data_types;
+    match read_key(key_type, key_len, body, at) {
+        Part::Bytes { start, len, next } => {
+            let read = read_data(types, body, next);
+            let how = read.reading;
+            let server_id = read.server_id;
+            let values = read.values;
+            match how {
+                Reading::Whole(end) => UpdateBody {
+                    reading: Reading::Whole(end),
+                    id,
+                    key_at: start,
+                    key_len: len,
+                    server_id,
+                    values,
+                },
+                Reading::Short => no_update(Reading::Short),
+                Reading::OutOfRange => no_update(Reading::OutOfRange),
+            }
+        }
+        Part::Short => no_update(Reading::Short),
+        Part::OutOfRange => no_update(Reading::OutOfRange),
+    }
+}
+
+// The fields of an update of this table: its ID, key and data.
+pub fn read_update(table: Table, body: &[u8]) -> UpdateBody
+    ensures { λ r. ⌜ r ≡ updateBody (updateFields table (now (body .entry))) ⌝ }
+{
+    match numbers::read_number(body, 0) {
+        Number::Value { value, next } => read_entry(table, value, body, next),
+        Number::Short => no_update(Reading::Short),
+    }
+}
+
+// The fields of an incremental update of this table, which has this ID.
+pub fn read_incremental(table: Table, id: u32, body: &[u8]) -> UpdateBody
+    ensures { λ r. ⌜ r ≡ updateBody (incrementalFields table id (now (body .entry))) ⌝ }
+{
+    read_entry(table, id, body, 0)
+}
+
+// An update that could not be read.
+fn no_update(reading: Reading) -> UpdateBody
+    ensures { λ r. ⌜ r ≡ updateStruct reading noUpdate ⌝ }
+{
+    UpdateBody {
+        reading,
+        id: 0,
+        key_at: 0,
+        key_len: 0,
+        server_id: 0,
+        values: [0u64; VALUES],
+    }
+}

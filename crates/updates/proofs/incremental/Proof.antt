@@ -1,0 +1,23 @@
+use Rattle.message.proofs.Updating.{updating}
+use Rattle.updates.proofs.incremental.Statement.{statement}
+use Rattle.updates.proofs.incremental.Tie as tie
+
+refuse-requires : tie.Need-refuse-requires
+refuse-requires c κs = search updating
+
+returns : tie.Need-returns
+returns c = search updating
+
+sub-incremental-of : tie.Need-sub-incremental-of
+sub-incremental-of c = search updating
+
+incremental-of-requires : tie.Need-incremental-of-requires
+incremental-of-requires c κs = search updating
+
+returns-2 : tie.Need-returns-2
+returns-2 c = search updating
+
+pub incremental-spec : {M : Type 1} → statement M
+incremental-spec =
+    tie.close
+    (tie.spec refuse-requires returns sub-incremental-of incremental-of-requires returns-2)

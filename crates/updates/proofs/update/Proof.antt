@@ -1,0 +1,36 @@
+use Rattle.message.proofs.Updating.{updating}
+use Rattle.updates.proofs.update.Statement.{statement}
+use Rattle.updates.proofs.update.Tie as tie
+
+refuse-requires : tie.Need-refuse-requires
+refuse-requires c κs = search updating
+
+returns : tie.Need-returns
+returns c = search updating
+
+sub-place : tie.Need-sub-place
+sub-place c = search updating
+
+table-at-requires : tie.Need-table-at-requires
+table-at-requires c κs = search updating
+
+read-update-requires : tie.Need-read-update-requires
+read-update-requires c κs = search updating
+
+with-fields-requires : tie.Need-with-fields-requires
+with-fields-requires c κs = search updating
+
+returns-2 : tie.Need-returns-2
+returns-2 c = search updating
+
+pub update-spec : {M : Type 1} → statement M
+update-spec =
+    tie.close
+    (tie.spec
+    refuse-requires
+    returns
+    sub-place
+    table-at-requires
+    read-update-requires
+    with-fields-requires
+    returns-2)
