@@ -30,7 +30,7 @@ use Rattle.receiver.specs.Promise.{Made, Shaped, ReadPromise, callOf, ou
 use Rattle.receiver.specs.Ledger.{Ledger, startLedger, post, Acknowledged}
 use Rattle.receiver.specs.Demand3.{Chain, replyIn, takenBy, lastSession, lastStore, responsesOf, repliesOf, cameTo, modelRan, callMade, CallAsModel, EachCall, OffersTo, WithinCutsOf, RoomsAre, Offering, NeverUnsound, Demand3}
 use Rattle.receiver.proofs.Held.{sound-held}
-use Rattle.receiver.proofs.OneRead.{modelCall, made-taken, made-answer, made-reply, made-state, made-sound, made-good, made-is, kept, room-kept, final-length}
+use Rattle.receiver.proofs.OneRead.{modelCall, made-taken, made-answer, made-reply, made-state, made-sound, made-good, made-is, made-count, kept, room-kept, final-length}
 use Rattle.receiver.proofs.Offered.{every-cutting}
 use Rattle.receiver.proofs.Chained.{stepsOf, good-held, steps-bytes, runs, takes, offers, call-has, not-4, ends-sound, ends-at, closed-held}
 
@@ -91,6 +91,7 @@ module _ (law : Lawful peers Good)
     model =
         subst (AsModel peers (heldBy s t) (m .piece) (length (m .room))) (sym (made-is s t m p f law g))
         (as-model peers (heldBy s t) (m .piece) (length (m .room)) (g .sound));
+    count = made-count s t m p f;
     room = room-kept s t m p f;
     size = final-length s t m p f (reply-short (heldBy s t) (m .piece) (length (m .room)) g (p .bytes));
     kept = kept s t m p f;

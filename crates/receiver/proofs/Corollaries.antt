@@ -107,7 +107,7 @@ unfolding Chain takenBy OffersTo
 empty-none s t [] c o = refl
 empty-none s t (m ∷ ms) c o =
     let z = empty-takes s t m (c .0) (first-none (m .piece) (o .0 .0) (o .0 .1)) in
-    rw (z, empty-none (m .session) (m .store) ms (c .1) (subst (λ (n : ℕ). OffersTo (m .session) (drop n []) ms) z (o .2)))
+    rw (z, empty-none (m .session) (m .store) ms (c .1) (subst (λ (n : ℕ). OffersTo (m .session) (drop n []) ms) z (o .1)))
 
 -- where a stream was offered and nothing was taken, the stream is empty or the session was closed
 pub none-why : (s : Session) (t : Store) (stream : List ℕ) (ms : List Made) → Chain s t ms → OffersTo s stream ms → takenBy ms ≡ []
@@ -120,7 +120,7 @@ none-why s t stream (m ∷ ms) c o h =
     ⊎-elim
     (λ r. inl (subst (λ (n : ℕ). drop n stream ≡ []) z r))
     (λ r. inr (ap (λ (x : Session). isClosed (x .connection)) (sym e) ∙ r))
-    (none-why (m .session) (m .store) (drop (m .outcome .taken) stream) ms (c .1) (o .2) (second-none (take (m .outcome .taken) (m .piece)) (takenBy ms) h))
+    (none-why (m .session) (m .store) (drop (m .outcome .taken) stream) ms (c .1) (o .1) (second-none (take (m .outcome .taken) (m .piece)) (takenBy ms) h))
 
 none-either : (s : Session) (t : Store) (stream : List ℕ) (ms ns : List Made) → Chain s t ms → OffersTo s stream ms → Chain s t ns → OffersTo s stream ns
     → takenBy ms ≡ [] → takenBy ns ≡ []

@@ -236,9 +236,16 @@ module _ (c : Connection) (s : Store) (h : Held c s) (m : List ℕ) where
     commit-at-right p how k = record {
       short = reply-short p how k;
       kept = k;
-      follow = commit-follow c s table id e p how m small (h .connectionShape .places) now (h .connection .currentBound table now) ids;
+      follow = commit-follow c s table id e p how m small (h .connectionShape .places) now (h .connection .currentBound table now)
+          (id-small k) (update-small k) ids;
     }
       where
+        id-small : Kept (commitAt c s table id e p how) → bindingAt (committed c table id) table .id < 2 ^ 32
+        id-small k = unfold commitAt in k .connectionShape .binding table small .id
+
+        update-small : Kept (commitAt c s table id e p how) → bindingAt (committed c table id) table .previous < 2 ^ 32
+        update-small k = unfold commitAt in k .connectionShape .binding table small .previous
+
         reply-short : (p : ℕ) (how : Commit) → Kept (commitAt c s table id e p how) → length (commitAt c s table id e p how .reply) ≤ 12
         reply-short p how k =
             unfold commitAt in

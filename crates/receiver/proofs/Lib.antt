@@ -10,6 +10,7 @@ pub mod Laws
 pub mod FirstFields
 pub mod Lawfully
 pub mod Committing
+pub mod Refusing
 pub mod Ways
 pub mod Acknowledging
 pub mod Ending

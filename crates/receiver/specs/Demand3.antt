@@ -82,6 +82,8 @@ callMade m = record {
 
 pub record CallAsModel (s : Session) (t : Store) (m : Made) : Type 0 where
   pub model : AsModel peers (heldBy s t) (m .piece) (length (m .room)) (callMade m)
+  -- the count of reply bytes is the reply's length
+  pub count : m .outcome .«reply_len» ≡ length (replyIn m)
   -- "Reply room past the reply stays as it came, in every call."
   pub room : drop (m .outcome .«reply_len») (m .final) ≡ drop (m .outcome .«reply_len») (m .room)
   pub size : length (m .final) ≡ length (m .room)
@@ -94,12 +96,12 @@ EachCall s t (m ∷ ms) = CallAsModel s t m × EachCall (m .session) (m .store) 
 
 -- ---- 3: a stream that is offered to its end or until the session closes
 
--- "Until the session closes, the host offers untaken bytes again.": each piece is a first part of what is left, with room for a reply
+-- "Until the session closes, the host offers untaken bytes again.": each piece is a first part of what is left. With room under 12 a call takes
+-- nothing, and all is offered again
 unfoldable pub OffersTo : Session → List ℕ → List Made → Type 0
 OffersTo s rest [] = (rest ≡ []) ⊎ (isClosed (s .connection) ≡ true)
 OffersTo s rest (m ∷ ms) =
     ((later : List ℕ) × (m .piece ++ later ≡ rest))
-    × (replyRoom ≤ length (m .room))
     × OffersTo (m .session) (drop (m .outcome .taken) rest) ms
 
 -- each piece is all that is left of the current cut: no piece crosses a cut, and none is cut further
