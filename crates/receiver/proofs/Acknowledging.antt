@@ -154,7 +154,7 @@ put-tables : (t : Store) (place : ℕ) (e : Entry) → putEntry t place e .table
 unfolding putEntry
 put-tables t place e = refl
 
-module _ (s : Session) (t : Store) (m : Made) (p : ReadPromise s t m) (h : isAcknowledgement (replyIn m) ≡ true) (e : Effect)
+module _ (s : Session) (t : Store) (m : Made) (p : ReadPromise s t m) (e : Effect)
     (j : Judging s t (m .piece) (callOf s t (m .piece) (length (m .room))) e) where
   good : Good (heldBy s t)
   good = good-held s t (p .shaped) (j .sound)
@@ -172,16 +172,16 @@ module _ (s : Session) (t : Store) (m : Made) (p : ReadPromise s t m) (h : isAck
         (small-bytes (take (m .outcome .taken) (m .piece)) (every-take isByte (m .outcome .taken) (m .piece) (p .bytes)));
   }
 
-  right : Right (s .connection) (messageOf s m) e
+  pub right : Right (s .connection) (messageOf s m) e
   right = subst (JudgedRight (s .connection) (messageOf s m)) judged (judge-right (s .connection) t held (messageOf s m) bytes)
 
-  acked : isAcknowledgement (e .reply) ≡ true
-  acked = ap isAcknowledgement (sym (reply-is s t m p ∙ j .reply)) ∙ h
+  acked : isAcknowledgement (replyIn m) ≡ true → isAcknowledgement (e .reply) ≡ true
+  acked h = ap isAcknowledgement (sym (reply-is s t m p ∙ j .reply)) ∙ h
 
-  entry-held : EntryHeld s t m
+  entry-held : isAcknowledgement (replyIn m) ≡ true → EntryHeld s t m
   unfolding updatedEntry
-  entry-held =
-      let k = only-updates _ (e .reply) (e .answer) (right .follow .right (startLedger (s .connection)) (starts-following (s .connection))) acked in
+  entry-held h =
+      let k = only-updates _ (e .reply) (e .answer) (right .follow .right (startLedger (s .connection)) (starts-following (s .connection))) (acked h) in
       let table = k .0 in
       let id = k .1 .0 in
       let place = k .1 .1 .0 in
@@ -199,6 +199,8 @@ module _ (s : Session) (t : Store) (m : Made) (p : ReadPromise s t m) (h : isAck
         start = u .start;
         end = u .end;
         framed = u .framed;
+        type = x .type;
+        current = x .current;
         body = take (u .end - u .start) (drop (u .start) (messageOf s m));
         body-is = refl;
         fields = x .fields;
@@ -225,7 +227,7 @@ by-way : (s : Session) (t : Store) (m : Made) → ReadPromise s t m → isAcknow
 by-way s t m p h (staying n k q) =
     never (ap isAcknowledgement (sym (reply-is s t m p ∙ ap (λ (x : Call State Answer). x .reply) q)) ∙ h) none-acknowledges
 by-way s t m p h (waiting-on w) = never (ap isAcknowledgement (sym (reply-is s t m p ∙ w .reply)) ∙ h) none-acknowledges
-by-way s t m p h (judging e j) = entry-held s t m p h e j
+by-way s t m p h (judging e j) = entry-held s t m p e j h
 
 pub held-when-acknowledged : HeldWhenAcknowledged
 held-when-acknowledged s t m p h = by-way s t m p h (ways s t m p)

@@ -6,6 +6,7 @@ pub mod Offered
 pub mod Following
 pub mod Piece
 pub mod CallCases
+pub mod NoneTaken
 pub mod Laws
 pub mod FirstFields
 pub mod Lawfully
@@ -13,6 +14,7 @@ pub mod Committing
 pub mod Refusing
 pub mod Ways
 pub mod Acknowledging
+pub mod LedgerAlong
 pub mod Ending
 pub mod Demand3
 pub mod CasesHold

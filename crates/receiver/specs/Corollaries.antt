@@ -66,6 +66,8 @@ pub record EntryHeld (s : Session) (t : Store) (m : Made) : Type 0 where
   pub start : ℕ
   pub end : ℕ
   pub framed : judgeFrame (messageOf s m) ≡ frame.Body kind start end
+  pub type : (kind ≡ 128) ⊎ (kind ≡ 129)
+  pub current : s .connection .current ≡ table + 1
   pub body : List ℕ
   pub body-is : body ≡ take (end - start) (drop start (messageOf s m))
   pub fields : Update
