@@ -21,3 +21,4 @@ pub mod CasesHold
 pub mod ListingHolds
 pub mod Corollaries
 pub mod ReadBack
+pub mod Sharing

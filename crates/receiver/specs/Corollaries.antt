@@ -1,8 +1,8 @@
 -- What follows from the promise and from demand 3, in the auditor's words.
-use Prim.Native.Nat.{ℕ, _+_, _-_, _<_, _^_}
+use Prim.Native.Nat.{ℕ, _+_, _-_, _≤_, _<_, _^_}
 use mathlib.Core.Path.{_≡_}
 use mathlib.Core.Logic.{_⊎_}
-use mathlib.Core.List.{List, [], _++_}
+use mathlib.Core.List.{List, [], _++_, flatten}
 use mathlib.Core.Bool.{Bool, true, cond, _&&_, _||_}
 use lib.ListN.{length, take, drop, getD}
 use lib.Dec.{eqb, leb}
@@ -15,16 +15,17 @@ use Rattle.session.specs.declared.Connection.{Connection}
 use Rattle.session.specs.declared.Commit.{Commit}
 use Rattle.session.specs.declared.Answer.{Answer}
 use Rattle.session.specs.declared.Answer.the-variants as answer
-use Rattle.session.specs.Answers.{refusalReply}
+use Rattle.session.specs.Answers.{refusalReply, answerNumber, answerValues}
 use Rattle.session.specs.Session.{unfinished, bindingAt, holding, closedWith}
 use Rattle.soundness.specs.Sound.{sound}
 use Rattle.opening.specs.Opening.{Role, answerer, opened, refusedOpening, «open», openRoom}
 use Rattle.body.specs.Fields.{Read, got, spanIn}
 use Rattle.body.specs.Bodies.{Update, updateFields, incrementalFields, acknowledgementFields}
 use Rattle.message.specs.Effects.{acknowledge, followingId}
+use Rattle.receiver.specs.Model.{replyRoom}
 use Rattle.receiver.specs.Promise.{Made, ReadPromise}
 use Rattle.receiver.specs.Ledger.{isAcknowledgement}
-use Rattle.receiver.specs.Demand3.{Chain, OffersTo, cameTo, lastSession, lastStore, repliesOf, replyIn}
+use Rattle.receiver.specs.Demand3.{Chain, OffersTo, cameTo, lastSession, lastStore, repliesOf, replyIn, Offering}
 use Rattle.receiver.specs.Cases.{east, west}
 use Rattle.receiver.specs.Listing.{listing, listedResult, listedConnection, listedStore}
 
@@ -153,3 +154,24 @@ pub record ListingCame (calls : List Made) : Type 0 where
 abbrev pub ListingByCalls : Type 0
 ListingByCalls =
     (calls : List Made) → Chain (opened answerer east west) emptyStore calls → OffersTo (opened answerer east west) listing calls → ListingCame calls
+
+-- and there are such calls: for every cutting of it into pieces, with any room of at least 12 bytes
+abbrev pub ListingOffered : Type 0
+ListingOffered =
+    (cuts : List (List ℕ)) (room : List ℕ) → flatten cuts ≡ listing → replyRoom ≤ length room → Offering (opened answerer east west) emptyStore cuts room
+
+-- ---- "a definition gives this paper's number and values for each of the enum's cases"
+
+-- two calls' answers with the same number and values are the same
+abbrev pub AnswersByNumber : Type 0
+AnswersByNumber =
+    (s : Session) (t : Store) (m : Made) (s′ : Session) (t′ : Store) (m′ : Made) → ReadPromise s t m → ReadPromise s′ t′ m′
+    → answerNumber (m .outcome .answer) ≡ answerNumber (m′ .outcome .answer) → answerValues (m .outcome .answer) ≡ answerValues (m′ .outcome .answer)
+    → m .outcome .answer ≡ m′ .outcome .answer
+
+-- ---- several records and one store
+
+-- a call on one record leaves every other record sound with the store
+abbrev pub OtherRecordsSound : Type 0
+OtherRecordsSound =
+    (s : Session) (t : Store) (m : Made) (other : Session) → ReadPromise s t m → sound other t ≡ true → sound other (m .store) ≡ true
