@@ -37,13 +37,11 @@ use Rattle.receiver.specs.Promise.{Made, Shaped, ReadPromise, callOf}
 use Rattle.receiver.specs.Ledger.{Ledger, startLedger, RightReply, isAcknowledgement, post}
 use Rattle.receiver.specs.Demand3.{replyIn}
 use Rattle.receiver.specs.Corollaries.{messageOf, fieldsOf, EntryHeld, HeldWhenAcknowledged, NothingChanged, OnlyClosed, RefusedCall, RefusedUntouched, OthersUntouched, RefusedOpening, RefusedOpeningUntouched}
-use Rattle.receiver.proofs.Committing.{Committed, Updated, updated, store-stays}
 use Rattle.receiver.proofs.Chained.{good-held}
 use Rattle.receiver.proofs.Following.{starts-following}
 use Rattle.receiver.proofs.Laws.{Right, JudgedRight, judge-right}
 use Rattle.receiver.proofs.Lawfully.{open-held}
-use Rattle.receiver.proofs.Ending.{settled-closes}
-use Rattle.receiver.proofs.Refusing.{settled-refused}
+use Rattle.receiver.proofs.SettledLaws.{settled-refused, store-stays, updated}
 use Rattle.receiver.proofs.Ways.{Way, Early, Judging, staying, waiting-on, judging, ways, answer-is, taken-is, count-is, reply-is, room-past, record-stays, record-holds}
 
 -- ---- stores
@@ -106,7 +104,8 @@ module _ (s : Session) (t : Store) (m : Made) (p : ReadPromise s t m) where
   by-refusal n a (waiting-on w) = absurd (let r = sym (w .answer) ∙ (sym (answer-is s t m p) ∙ a) in let z : _≡_ {A = ℕ} 0 1 = cc in omega arith)
   by-refusal n a (judging e j) =
       let r = sym (j .answer) ∙ (sym (answer-is s t m p) ∙ a) in
-      inr (settled-closes (s .connection) t _ e (j .judged) n r, closed n e j (settled-refused (s .connection) t _ e (j .judged) n r))
+      let k = settled-refused (s .connection) t _ e (j .judged) n r in
+      inr (k .0, closed n e j (k .1))
 
 pub refused-untouched : RefusedUntouched
 refused-untouched s t m n p a = by-refusal s t m p n a (ways s t m p)
@@ -185,8 +184,7 @@ module _ (s : Session) (t : Store) (m : Made) (p : ReadPromise s t m) (e : Effec
       let table = k .0 in
       let id = k .1 .0 in
       let place = k .1 .1 .0 in
-      let u = updated (s .connection) t (messageOf s m) e judged table id place (k .1 .1 .1 .0) (k .1 .1 .1 .1) in
-      let x = u .committed in
+      let x = updated (s .connection) t (messageOf s m) table id place (k .1 .1 .1 .0) e judged (k .1 .1 .1 .1) in
       let stored = p .store ∙ (ap (λ (k : State). k .store) (j .state) ∙ x .store) in
       let few : table < length (s .connection .bindings) = omega (arith, x .current, held .connection .currentLimit, held .connectionShape .places) in
       record {
@@ -195,13 +193,13 @@ module _ (s : Session) (t : Store) (m : Made) (p : ReadPromise s t m) (e : Effec
         place = place;
         how = k .1 .1 .1 .0;
         answer = answer-is s t m p ∙ (j .answer ∙ k .1 .1 .1 .1);
-        kind = u .kind;
-        start = u .start;
-        end = u .end;
-        framed = u .framed;
+        kind = x .kind;
+        start = x .start;
+        end = x .end;
+        framed = x .framed;
         type = x .type;
         current = x .current;
-        body = take (u .end - u .start) (drop (u .start) (messageOf s m));
+        body = take (x .end - x .start) (drop (x .start) (messageOf s m));
         body-is = refl;
         fields = x .fields;
         after = x .after;

@@ -32,7 +32,7 @@ use Rattle.receiver.specs.Good.{Good}
 use Rattle.receiver.specs.Ledger.{Ledger, startLedger, post, Acknowledged}
 use Rattle.receiver.proofs.Piece.{JudgedAs, judged-as, judged-waiting, judged-settled, feed-open, feed-waits}
 use Rattle.receiver.proofs.Following.{Follows, Follow, starts-following}
-use Rattle.receiver.proofs.Ending.{settled-ends}
+use Rattle.receiver.proofs.SettledLaws.{settled-ends}
 use Rattle.receiver.proofs.Laws.{Right, JudgedRight, judge-right}
 
 -- ---- what a good open state holds

@@ -24,7 +24,7 @@ use Rattle.receiver.specs.Demand3.{Chain, replyIn, endedBy, Acknowledged
 use Rattle.receiver.specs.Corollaries.{messageOf}
 use Rattle.receiver.proofs.Held.{sound-held}
 use Rattle.receiver.proofs.OneRead.{call-is, made-state, made-sound, made-good}
-use Rattle.receiver.proofs.Ending.{settled-ends}
+use Rattle.receiver.proofs.SettledLaws.{settled-ends}
 use Rattle.receiver.proofs.Following.{Follows, Follow, endedAs}
 use Rattle.receiver.proofs.Laws.{Right}
 use Rattle.receiver.proofs.Lawfully.{lawful}

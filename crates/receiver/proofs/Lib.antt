@@ -10,12 +10,11 @@ pub mod NoneTaken
 pub mod Laws
 pub mod FirstFields
 pub mod Lawfully
-pub mod Committing
-pub mod Refusing
 pub mod Ways
 pub mod Acknowledging
 pub mod LedgerAlong
-pub mod Ending
+pub mod EffectKinds
+pub mod SettledLaws
 pub mod Demand3
 pub mod CasesHold
 pub mod ListingHolds

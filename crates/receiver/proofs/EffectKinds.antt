@@ -1,0 +1,243 @@
+-- What unfinished bytes can come to, on any record and store: a refusal, a note of the answer, a peer's error, a table defined, an update committed.
+-- Each law over everything that bytes come to goes by these kinds.
+use Prim.Native.Nat.{ℕ, _+_, _-_, _≤_, _<_}
+use native.Mathlib.Omega.{arith}
+use mathlib.Core.Path.{_≡_, refl, sym, ap, _∙_, subst}
+use mathlib.Core.Logic.{_⊎_, inl, inr}
+use mathlib.Core.Bool.{Bool, true, false, cond, _&&_, _||_}
+use mathlib.Core.List.{List, []}
+use lib.ListN.{length, take, drop, getD}
+use lib.Dec.{eqb, leb}
+use borrow.Author.Tests.{eqb-true, le-leb, lt-leb}
+use Rattle.lists.specs.declared.Found.{Found}
+use Rattle.lists.specs.declared.Found.the-variants as found
+use Rattle.lists.proofs.Cases.{by-test, cond-true, cond-false}
+use Rattle.store.specs.declared.Table.{Table}
+use Rattle.store.specs.declared.Store.{Store}
+use Rattle.store.specs.Store.{findTable, freeTable, findEntry, freeEntry, makeTable, tableHeld, noTable}
+use Rattle.store.proofs.Kept.{entry-found, entry-place}
+use Rattle.handshake.specs.declared.Hello.{Hello}
+use Rattle.handshake.specs.declared.Hello.the-variants as hello
+use Rattle.handshake.specs.declared.Status.{Status}
+use Rattle.handshake.specs.declared.Status.the-variants as status
+use Rattle.handshake.specs.Handshake.{judgeHello, judgeStatus}
+use Rattle.handshake.proofs.HelloLaws.{hello-refusal, status-refusal}
+use Rattle.frame.specs.declared.Frame.{Frame}
+use Rattle.frame.specs.declared.Frame.the-variants as frame
+use Rattle.frame.specs.Frame.{judgeFrame}
+use Rattle.frame.proofs.Limits.{refused-number}
+use Rattle.session.specs.declared.Connection.{Connection}
+use Rattle.session.specs.declared.Commit.{Commit}
+use Rattle.session.specs.declared.Commit.the-variants as commit
+use Rattle.session.specs.declared.Answer.{Answer}
+use Rattle.session.specs.declared.Answer.the-variants as answer
+use Rattle.session.specs.Session.{localName, remoteName, findBound, bindingAt, isUpdated}
+use Rattle.body.specs.Fields.{Read, got, short, outside, spanIn}
+use Rattle.body.specs.Bodies.{Definition, Update, definitionFields, switchFields, acknowledgementFields, updateFields, incrementalFields}
+use Rattle.message.specs.Effects.{Effect, refuse, note, fieldsThen, control, controlAnswer, peerError, definedTable, defineAt, defineNew, defineNamed, agrees, definition, switchTo, switch, acknowledgement, skipped, updatedEntry, commitAt, commitNew, commitUpdate, withFields, followingId, incrementalOf, update, incremental, stickTable}
+use Rattle.reassembly.specs.Judge.{Judged, waiting, settled, helloJudged, statusJudged, frameJudged, judge}
+use Rattle.receiver.specs.Corollaries.{closes, fieldsOf}
+
+-- an answer that leaves the store as it is, and is no refusal
+abbrev pub Noted : Answer → Type 0
+Noted answer.More = ⊥
+Noted (answer.Hello process relative) = Unit {0}
+Noted answer.Status = Unit {0}
+Noted answer.Request = Unit {0}
+Noted answer.Finished = Unit {0}
+Noted answer.Partial = Unit {0}
+Noted answer.Confirmed = Unit {0}
+Noted answer.Heartbeat = Unit {0}
+Noted (answer.Error type) = Unit {0}
+Noted (answer.Table place) = ⊥
+Noted (answer.Switch place) = Unit {0}
+Noted (answer.Update table id entry how) = ⊥
+Noted (answer.Acknowledgement id update) = Unit {0}
+Noted (answer.Skipped kind) = Unit {0}
+Noted (answer.Refused n) = ⊥
+
+abbrev pub bodyIn : List ℕ → ℕ → ℕ → List ℕ
+bodyIn u start end = take (end - start) (drop start u)
+
+-- an update of the current table whose fields were read, and the place of its entry
+pub record Committing (c : Connection) (t : Store) (u : List ℕ) (fields : Update) (body : List ℕ) (place : ℕ) : Type 0 where
+  pub kind : ℕ
+  pub start : ℕ
+  pub end : ℕ
+  pub framed : judgeFrame u ≡ frame.Body kind start end
+  pub body-is : body ≡ bodyIn u start end
+  pub type : (kind ≡ 128) ⊎ (kind ≡ 129)
+  pub current : eqb (c .current) 0 ≡ false
+  pub after : ℕ
+  pub read : fieldsOf c t (c .current - 1) kind body ≡ got fields after
+  pub inside : place < length (t .entries)
+
+pub data Kind (c : Connection) (t : Store) (u : List ℕ) : Effect → Type 0 where
+  refused : (n : ℕ) → closes n ≡ true → Kind c t u (refuse c t n)
+  noted : (d : Connection) (a : Answer) (reply : List ℕ) → Noted a → Kind c t u (note d t a reply)
+  failed : (type : ℕ) → Kind c t u (peerError c t type)
+  defined : (id : ℕ) (x : Table) (place : ℕ) → tableHeld x ≡ true → Kind c t u (defineAt c t id x place)
+  committed : (fields : Update) (body : List ℕ) (place : ℕ) (how : Commit) → Committing c t u fields body place
+      → Kind c t u (commitAt c t (c .current - 1) (fields .id) (updatedEntry body (c .current - 1) fields) place how)
+
+-- ---- numbers of refusals
+
+closes-low : (n : ℕ) → 10 ≤ n → n ≤ 15 → closes n ≡ true
+unfolding closes
+closes-low n a b = rw (le-leb 10 n a, le-leb n 15 b)
+
+closes-high : (n : ℕ) → 20 ≤ n → n ≤ 29 → closes n ≡ true
+unfolding closes
+closes-high n a b = rw (le-leb 10 n (let z : 10 ≤ n = omega arith in z), lt-leb n 15 (let z : 15 < n = omega arith in z), le-leb 20 n a, le-leb n 29 b)
+
+-- ---- messages of class 10
+
+module _ (c : Connection) (t : Store) (u : List ℕ) where
+  refused-with : (n : ℕ) → 20 ≤ n → n ≤ 29 → Kind c t u (refuse c t n)
+  refused-with n a b = refused n (closes-high n a b)
+
+  fields-kind : {A : Type 0} (r : Read A) (f : A → Effect) → ((a : A) → Kind c t u (f a)) → Kind c t u (fieldsThen c t r f)
+  unfolding fieldsThen
+  fields-kind (got a n) f g = g a
+  fields-kind short f g = refused-with 23 (omega arith) (omega arith)
+  fields-kind outside f g = refused-with 24 (omega arith) (omega arith)
+
+  new-kind : (id : ℕ) (x : Table) (f : Found) → tableHeld x ≡ true → Kind c t u (defineNew c t id x f)
+  unfolding defineNew
+  new-kind id x (found.At p) k = defined id x p k
+  new-kind id x found.Nothing k = refused-with 26 (omega arith) (omega arith)
+
+  named-kind : (id : ℕ) (x : Table) (f : Found) → tableHeld x ≡ true → Kind c t u (defineNamed c t id x f)
+  unfolding defineNamed
+  named-kind id x (found.At p) k =
+      by-test (agrees (getD (t .tables) p noTable) x) (λ a. rw a (defined id x p k)) (λ a. rw a (refused-with 25 (omega arith) (omega arith)))
+  named-kind id x found.Nothing k = new-kind id x (freeTable t) k
+
+  defined-held : (body : List ℕ) (d : Definition) → tableHeld (definedTable body d) ≡ true
+  unfolding definedTable makeTable tableHeld
+  defined-held body d = refl
+
+  switch-kind : (f : Found) → Kind c t u (switchTo c t f)
+  unfolding switchTo
+  switch-kind (found.At p) = noted _ _ [] tt
+  switch-kind found.Nothing = refused-with 27 (omega arith) (omega arith)
+
+  module _ (kind start end : ℕ) (e : judgeFrame u ≡ frame.Body kind start end) where
+    abbrev body : List ℕ
+    body = bodyIn u start end
+
+    abbrev now : ℕ
+    now = c .current - 1
+
+    module _ (type : (kind ≡ 128) ⊎ (kind ≡ 129)) (z : eqb (c .current) 0 ≡ false) where
+      commit-kind : (f : Update) (after p : ℕ) (how : Commit) → fieldsOf c t now kind body ≡ got f after → p < length (t .entries)
+          → Kind c t u (commitAt c t now (f .id) (updatedEntry body now f) p how)
+      commit-kind f after p how r l =
+          committed f body p how
+          (record { kind = kind; start = start; end = end; framed = e; body-is = refl; type = type; current = z; after = after; read = r; inside = l })
+
+      commit-new-kind : (f : Update) (after : ℕ) (x : Found) → fieldsOf c t now kind body ≡ got f after → freeEntry t ≡ x
+          → Kind c t u (commitNew c t now (f .id) (updatedEntry body now f) x)
+      unfolding commitNew
+      commit-new-kind f after (found.At p) r q = commit-kind f after p commit.New r (entry-place t p q .inside)
+      commit-new-kind f after found.Nothing r q = refused-with 29 (omega arith) (omega arith)
+
+      commit-update-kind : (f : Update) (after : ℕ) (x : Found) → fieldsOf c t now kind body ≡ got f after
+          → findEntry t now (spanIn body (f .key)) ≡ x → Kind c t u (commitUpdate c t now (f .id) (updatedEntry body now f) x)
+      unfolding commitUpdate
+      commit-update-kind f after (found.At p) r q = commit-kind f after p commit.Replaced r (entry-found t now (spanIn body (f .key)) p q .inside)
+      commit-update-kind f after found.Nothing r q = commit-new-kind f after (freeEntry t) r refl
+
+      with-kind : (r : Read Update) → fieldsOf c t now kind body ≡ r → Kind c t u (withFields c t body now r)
+      unfolding withFields fieldsThen
+      with-kind (got f after) q = commit-update-kind f after (findEntry t now (spanIn body (f .key))) q refl
+      with-kind short q = refused-with 23 (omega arith) (omega arith)
+      with-kind outside q = refused-with 24 (omega arith) (omega arith)
+
+    update-kind : eqb kind 128 ≡ true → Kind c t u (update c t body)
+    unfolding update
+    update-kind a =
+        by-test (eqb (c .current) 0)
+        (λ z. rw z (refused-with 27 (omega arith) (omega arith)))
+        (λ z. rw z (with-kind (inl (eqb-true kind 128 a)) z (updateFields (getD (t .tables) now noTable) body) (cond-true (eqb kind 128) _ _ a)))
+
+    incremental-kind : eqb kind 128 ≡ false → eqb kind 129 ≡ true → Kind c t u (incremental c t body)
+    unfolding incremental incrementalOf
+    incremental-kind a b =
+        by-test (eqb (c .current) 0)
+        (λ z. rw z (refused-with 27 (omega arith) (omega arith)))
+        (λ z.
+        rw z
+        (by-test (isUpdated (bindingAt c now))
+        (λ y.
+        rw y
+        (with-kind (inr (eqb-true kind 129 b)) z (incrementalFields (getD (t .tables) now noTable) (followingId (bindingAt c now .previous)) body)
+        (cond-false (eqb kind 128) _ _ a)))
+        (λ y. rw y (refused-with 28 (omega arith) (omega arith)))))
+
+    stick-kind : Kind c t u (stickTable c t kind body)
+    unfolding stickTable
+    stick-kind =
+        by-test (eqb kind 128)
+        (λ a. rw a (update-kind a))
+        (λ a.
+        rw a
+        (by-test (eqb kind 129)
+        (λ b. rw b (incremental-kind a b))
+        (λ b.
+        rw b
+        (by-test (eqb kind 130)
+        (λ d. rw d (unfold definition in fields-kind _ _ (λ x. named-kind _ _ _ (defined-held body x))))
+        (λ d.
+        rw d
+        (by-test (eqb kind 131)
+        (λ f. rw f (unfold switch in fields-kind _ _ (λ x. switch-kind _)))
+        (λ f.
+        rw f
+        (by-test (eqb kind 133)
+        (λ g. rw g (unfold acknowledgement in fields-kind _ _ (λ x. noted c _ [] tt)))
+        (λ g. rw g (unfold skipped in noted c _ [] tt))))))))))
+
+-- ---- all that bytes come to
+
+abbrev JudgedKind : Connection → Store → List ℕ → Judged → Type 0
+JudgedKind c t u waiting = Unit {0}
+JudgedKind c t u (settled e) = Kind c t u e
+
+control-noted : (type : ℕ) → Noted (controlAnswer type)
+unfolding controlAnswer
+control-noted type =
+    by-test (eqb type 0)
+    (λ a. rw a tt)
+    (λ a. rw a (by-test (eqb type 1) (λ b. rw b tt) (λ b. rw b (by-test (eqb type 2) (λ d. rw d tt) (λ d. rw d (by-test (eqb type 3) (λ e. rw e tt) (λ e. rw e tt)))))))
+
+module _ (c : Connection) (t : Store) (u : List ℕ) where
+  hello-kind : (h : Hello) → judgeHello (localName c) (remoteName c) u ≡ h → JudgedKind c t u (helloJudged c t h)
+  unfolding helloJudged
+  hello-kind hello.Waiting e = tt
+  hello-kind (hello.Accepted p r) e = noted _ _ _ tt
+  hello-kind (hello.Refused n) e = let k = hello-refusal (localName c) (remoteName c) u n e in refused n (closes-low n (k .0) (omega (arith, k .1)))
+
+  status-kind : (h : Status) → judgeStatus u ≡ h → JudgedKind c t u (statusJudged c t h)
+  unfolding statusJudged
+  status-kind status.Waiting e = tt
+  status-kind status.Accepted e = noted _ _ _ tt
+  status-kind (status.Refused n) e = let k = status-refusal u n e in refused n (closes-low n (omega (arith, k .0)) (k .1))
+
+  frame-kind : (f : Frame) → judgeFrame u ≡ f → JudgedKind c t u (frameJudged c t u f)
+  unfolding frameJudged
+  frame-kind frame.Waiting e = tt
+  frame-kind (frame.Control type) e = unfold control in noted c (controlAnswer type) _ (control-noted type)
+  frame-kind (frame.Error type) e = failed type
+  frame-kind (frame.Body kind start end) e = stick-kind c t u kind start end e
+  frame-kind (frame.Refused n) e = let k = refused-number u n e in refused n (closes-high n (k .0) (omega (arith, k .1)))
+
+  judge-kind : JudgedKind c t u (judge c t u)
+  unfolding judge
+  judge-kind =
+      by-test (eqb (c .phase) 0)
+      (λ a. rw a (hello-kind (judgeHello (localName c) (remoteName c) u) refl))
+      (λ a. rw a (by-test (eqb (c .phase) 1) (λ b. rw b (status-kind (judgeStatus u) refl)) (λ b. rw b (frame-kind (judgeFrame u) refl))))
+
+  pub kind-of : (e : Effect) → judge c t u ≡ settled e → Kind c t u e
+  kind-of e q = subst (JudgedKind c t u) q judge-kind

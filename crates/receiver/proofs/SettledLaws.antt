@@ -1,0 +1,175 @@
+-- Laws over everything that bytes come to, on any record and store: it ends a message or closes the session; a refusal closes the record with its
+-- number and changes nothing else; an update puts its entry at one place; the store stays for all but a table or an update; held tables stay held.
+use Prim.Native.Nat.{ℕ, _+_, _-_, _<_}
+use native.Mathlib.Omega.{arith}
+use mathlib.Core.Path.{_≡_, refl, sym, ap, subst, _∙_}
+use mathlib.Core.Logic.{_⊎_}
+use mathlib.Core.Bool.{Bool, true, false, not, _||_}
+use mathlib.Core.List.{List}
+use lib.ListN.{length}
+use lib.Dec.{eqb}
+use borrow.Author.Tests.{ne-eqb, eqb-false}
+use Rattle.lists.proofs.Cases.{never}
+use Rattle.store.specs.declared.Store.{Store}
+use Rattle.store.specs.Store.{putTable, putEntry}
+use Rattle.frame.specs.declared.Frame.the-variants as frame
+use Rattle.frame.specs.Frame.{judgeFrame}
+use Rattle.session.specs.declared.Connection.{Connection}
+use Rattle.session.specs.declared.Commit.{Commit}
+use Rattle.session.specs.declared.Answer.{Answer}
+use Rattle.session.specs.declared.Answer.the-variants as answer
+use Rattle.session.specs.Session.{bindingAt, committed}
+use Rattle.soundness.proofs.Facts.{heldAt}
+use Rattle.soundness.proofs.Keeping.{put-held}
+use Rattle.body.specs.Fields.{got}
+use Rattle.body.specs.Bodies.{Update}
+use Rattle.message.specs.Effects.{Effect, refuse, note, peerError, defineAt, acknowledge, updatedEntry, commitAt}
+use Rattle.reassembly.specs.Judge.{settled, judge}
+use Rattle.receiver.specs.Model.{ends}
+use Rattle.receiver.specs.Corollaries.{closes, fieldsOf}
+use Rattle.receiver.proofs.EffectKinds as kinds
+use Rattle.receiver.proofs.EffectKinds.{Noted, Kind, bodyIn, kind-of}
+
+-- ---- every answer ends a message or closes the session
+
+not-closing : (n k : ℕ) → closes k ≡ false → closes n ≡ true → eqb n k ≡ false
+not-closing n k f h = ne-eqb n k (λ e. never (ap closes (sym e) ∙ h) f)
+
+few : (closes 1 ≡ false) × (closes 2 ≡ false) × (closes 4 ≡ false)
+unfolding closes
+few = (refl, refl, refl)
+
+noted-ends : (a : Answer) → Noted a → ends a ≡ true
+unfolding ends
+noted-ends answer.More h = absurd h
+noted-ends (answer.Hello process relative) h = refl
+noted-ends answer.Status h = refl
+noted-ends answer.Request h = refl
+noted-ends answer.Finished h = refl
+noted-ends answer.Partial h = refl
+noted-ends answer.Confirmed h = refl
+noted-ends answer.Heartbeat h = refl
+noted-ends (answer.Error type) h = refl
+noted-ends (answer.Table place) h = absurd h
+noted-ends (answer.Switch place) h = refl
+noted-ends (answer.Update table id entry how) h = absurd h
+noted-ends (answer.Acknowledgement id update) h = refl
+noted-ends (answer.Skipped kind) h = refl
+noted-ends (answer.Refused n) h = absurd h
+
+refusal-ends : (n : ℕ) → closes n ≡ true → ends (answer.Refused n) ≡ true
+unfolding ends
+refusal-ends n h = rw (not-closing n 1 (few .0) h, not-closing n 2 (few .1) h, not-closing n 4 (few .2) h)
+
+module _ (c : Connection) (t : Store) (u : List ℕ) where
+  kind-ends : (e : Effect) → Kind c t u e → ends (e .answer) ≡ true
+  kind-ends e (kinds.refused n h) = unfold refuse in refusal-ends n h
+  kind-ends e (kinds.noted d a reply h) = unfold note in noted-ends a h
+  kind-ends e (kinds.failed type) = unfold peerError ends in refl
+  kind-ends e (kinds.defined id x place h) = unfold defineAt ends in refl
+  kind-ends e (kinds.committed fields body place how k) = unfold commitAt ends in refl
+
+  pub settled-ends : (e : Effect) → judge c t u ≡ settled e → ends (e .answer) ≡ true
+  settled-ends e q = kind-ends e (kind-of c t u e q)
+
+  -- ---- refusals
+
+  noted-refused : (a : Answer) (n : ℕ) → Noted a → a ≡ answer.Refused n → ⊥
+  noted-refused a n h q = subst Noted q h
+
+  kind-refused : (e : Effect) (n : ℕ) → Kind c t u e → e .answer ≡ answer.Refused n → (closes n ≡ true) × (e ≡ refuse c t n)
+  unfolding refuse note peerError defineAt commitAt
+  kind-refused e n (kinds.refused k h) q = let r : k ≡ n = cc in (subst (λ (x : ℕ). closes x ≡ true) r h, ap (refuse c t) r)
+  kind-refused e n (kinds.noted d a reply h) q = absurd (noted-refused a n h q)
+  kind-refused e n (kinds.failed type) q = absurd (let z : _≡_ {A = ℕ} 0 1 = cc in omega arith)
+  kind-refused e n (kinds.defined id x place h) q = absurd (let z : _≡_ {A = ℕ} 0 1 = cc in omega arith)
+  kind-refused e n (kinds.committed fields body place how k) q = absurd (let z : _≡_ {A = ℕ} 0 1 = cc in omega arith)
+
+  pub settled-refused : (e : Effect) → judge c t u ≡ settled e → (n : ℕ) → e .answer ≡ answer.Refused n → (closes n ≡ true) × (e ≡ refuse c t n)
+  settled-refused e q n a = kind-refused e n (kind-of c t u e q) a
+
+  -- ---- the store stays for every answer but a table or an update
+
+  kind-stays : (e : Effect) → Kind c t u e → ((place : ℕ) → e .answer ≡ answer.Table place → ⊥)
+      → ((table id place : ℕ) (how : Commit) → e .answer ≡ answer.Update table id place how → ⊥) → e .store ≡ t
+  unfolding refuse note peerError defineAt commitAt
+  kind-stays e (kinds.refused n h) f g = refl
+  kind-stays e (kinds.noted d a reply h) f g = refl
+  kind-stays e (kinds.failed type) f g = refl
+  kind-stays e (kinds.defined id x place h) f g = absurd (f place refl)
+  kind-stays e (kinds.committed fields body place how k) f g = absurd (g _ _ place how refl)
+
+  pub store-stays : (e : Effect) → judge c t u ≡ settled e → ((place : ℕ) → e .answer ≡ answer.Table place → ⊥)
+      → ((table id place : ℕ) (how : Commit) → e .answer ≡ answer.Update table id place how → ⊥) → e .store ≡ t
+  store-stays e q = kind-stays e (kind-of c t u e q)
+
+  -- ---- held tables stay held
+
+  kind-grows : (e : Effect) → Kind c t u e → (i : ℕ) → heldAt (t .tables) i ≡ true → heldAt (e .store .tables) i ≡ true
+  unfolding refuse note peerError defineAt commitAt putTable putEntry
+  kind-grows e (kinds.refused n h) i k = k
+  kind-grows e (kinds.noted d a reply h) i k = k
+  kind-grows e (kinds.failed type) i k = k
+  kind-grows e (kinds.defined id x place h) i k = put-held (t .tables) place x h i k
+  kind-grows e (kinds.committed fields body place how w) i k = k
+
+  pub settled-grows : (e : Effect) → judge c t u ≡ settled e → (i : ℕ) → heldAt (t .tables) i ≡ true → heldAt (e .store .tables) i ≡ true
+  settled-grows e q = kind-grows e (kind-of c t u e q)
+
+-- ---- an update
+
+pub record Updated (c : Connection) (t : Store) (u : List ℕ) (table id place : ℕ) (e : Effect) : Type 0 where
+  pub kind : ℕ
+  pub start : ℕ
+  pub end : ℕ
+  pub framed : judgeFrame u ≡ frame.Body kind start end
+  pub type : (kind ≡ 128) ⊎ (kind ≡ 129)
+  pub current : c .current ≡ table + 1
+  pub fields : Update
+  pub after : ℕ
+  pub read : fieldsOf c t table kind (bodyIn u start end) ≡ got fields after
+  pub own-id : fields .id ≡ id
+  pub inside : place < length (t .entries)
+  pub store : e .store ≡ putEntry t place (updatedEntry (bodyIn u start end) table fields)
+  pub reply : e .reply ≡ acknowledge (bindingAt (committed c table id) table .id) (bindingAt (committed c table id) table .previous)
+
+module _ (c : Connection) (t : Store) (u : List ℕ) (table id place : ℕ) (how : Commit) where
+  noted-update : (a : Answer) → Noted a → a ≡ answer.Update table id place how → ⊥
+  noted-update a h q = subst Noted q h
+
+  kind-updated : (e : Effect) → Kind c t u e → e .answer ≡ answer.Update table id place how → Updated c t u table id place e
+  unfolding refuse note peerError defineAt commitAt
+  kind-updated e (kinds.refused n h) q = absurd (let z : _≡_ {A = ℕ} 0 1 = cc in omega arith)
+  kind-updated e (kinds.noted d a reply h) q = absurd (noted-update a h q)
+  kind-updated e (kinds.failed type) q = absurd (let z : _≡_ {A = ℕ} 0 1 = cc in omega arith)
+  kind-updated e (kinds.defined i x p h) q = absurd (let z : _≡_ {A = ℕ} 0 1 = cc in omega arith)
+  kind-updated e (kinds.committed fields body p h k) q =
+      let now = c .current - 1 in
+      let a : c .current - 1 ≡ table = cc in
+      let b : fields .id ≡ id = cc in
+      let d : p ≡ place = cc in
+      let z = eqb-false (c .current) 0 (k .current) in
+      let w : c .current ≡ (c .current - 1) + 1 = omega (arith, z) in
+      record {
+        kind = k .kind;
+        start = k .start;
+        end = k .end;
+        framed = k .framed;
+        type = k .type;
+        current = w ∙ ap (λ (n : ℕ). n + 1) a;
+        fields = fields;
+        after = k .after;
+        read = subst (λ (x : List ℕ). fieldsOf c t table (k .kind) x ≡ got fields (k .after)) (k .body-is)
+            (subst (λ (n : ℕ). fieldsOf c t n (k .kind) body ≡ got fields (k .after)) a (k .read));
+        own-id = b;
+        inside = subst (λ (n : ℕ). n < length (t .entries)) d (k .inside);
+        store =
+            ap (λ (n : ℕ). putEntry t n (updatedEntry body now fields)) d
+            ∙ (ap (λ (n : ℕ). putEntry t place (updatedEntry body n fields)) a ∙ ap (λ (x : List ℕ). putEntry t place (updatedEntry x table fields)) (k .body-is));
+        reply =
+            ap (λ (n : ℕ). acknowledge (bindingAt (committed c now n) now .id) (bindingAt (committed c now n) now .previous)) b
+            ∙ ap (λ (n : ℕ). acknowledge (bindingAt (committed c n id) n .id) (bindingAt (committed c n id) n .previous)) a;
+      }
+
+  pub updated : (e : Effect) → judge c t u ≡ settled e → e .answer ≡ answer.Update table id place how → Updated c t u table id place e
+  updated e q = kind-updated e (kind-of c t u e q)
