@@ -1,4 +1,4 @@
--- Every case of the table holds. Assumes nothing.
+-- Every case of the table holds.
 use mathlib.Core.Path.{_≡_, refl}
 use mathlib.Core.Bool.{true}
 use Rattle.lists.specs.Lists.{every, eqBytes, padTo, firstPlace, firstFrom}

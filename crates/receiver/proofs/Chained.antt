@@ -1,4 +1,4 @@
--- A list of real calls is the model's list of calls on the state that the first record and store hold. Assumes nothing.
+-- A list of real calls is the model's list of calls on the state that the first record and store hold.
 use Prim.Native.Nat.{ℕ, zero, suc, _+_, _^_, _≤_, _<_}
 use native.Mathlib.Omega.{arith}
 use mathlib.Core.Path.{_≡_, refl, sym, ap, subst, _∙_}

@@ -1,4 +1,4 @@
--- Demand 3 for a lawful receiver whose replies are short and whose acknowledgements follow the ledger. Assumes nothing.
+-- Demand 3 for a lawful receiver whose replies are short and whose acknowledgements follow the ledger.
 use Prim.Native.Nat.{ℕ, zero, suc, _+_, _≤_, _<_}
 use native.Mathlib.Omega.{arith}
 use mathlib.Core.Path.{_≡_, refl, sym, ap, subst, _∙_}

@@ -1,4 +1,4 @@
--- Demand 3, for every sound record and store and every list of calls that kept their promise. Assumes nothing.
+-- Demand 3, for every sound record and store and every list of calls that kept their promise.
 use mathlib.Core.Path.{_≡_, refl}
 use mathlib.Core.List.{List}
 use mathlib.Core.Bool.{true}

@@ -1,4 +1,4 @@
--- The first field of a body, seen from the whole message. Assumes nothing.
+-- The first field of a body, seen from the whole message.
 use Prim.Native.Nat.{ℕ, zero, suc, _+_, _-_, _^_, _≤_, _<_}
 use native.Mathlib.Omega.{arith}
 use mathlib.Core.Path.{_≡_, refl, sym, ap, subst, _∙_}

@@ -1,4 +1,4 @@
--- The ledger follows the record: after each message it says of every place what the record says, and the reply carries it. Assumes nothing.
+-- The ledger follows the record: after each message it says of every place what the record says, and the reply carries it.
 use Prim.Native.Nat.{ℕ, zero, suc, _+_, _-_, _≤_, _<_, _^_}
 use native.Mathlib.Omega.{arith}
 use mathlib.Core.Path.{_≡_, refl, sym, ap, subst, _∙_}

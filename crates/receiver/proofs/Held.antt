@@ -1,4 +1,4 @@
--- A record and the state that it holds. Assumes nothing.
+-- A record and the state that it holds.
 use Prim.Native.Nat.{ℕ, zero, suc, _≤_}
 use native.Mathlib.Omega.{arith}
 use mathlib.Core.Path.{_≡_, refl, sym, ap, _∙_}

@@ -1,4 +1,4 @@
--- The byte model meets the laws that are asked of a receiver. Assumes nothing.
+-- The byte model meets the laws that are asked of a receiver.
 use Prim.Native.Nat.{ℕ, zero, suc, _+_, _^_, _≤_, _<_}
 use native.Mathlib.Omega.{arith}
 use mathlib.Core.Path.{_≡_, refl, sym, ap, subst, _∙_}

@@ -1,5 +1,5 @@
 -- What every answer of the byte model has from a sound record and store: its reply is short, record and store stay sound, and the ledger
--- follows. Assumes nothing.
+-- follows.
 use Prim.Native.Nat.{ℕ, zero, suc, _+_, _-_, _^_, _≤_, _<_}
 use native.Mathlib.Omega.{arith}
 use mathlib.Core.Path.{_≡_, refl, sym, ap, subst, _∙_}

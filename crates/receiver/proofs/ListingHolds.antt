@@ -1,4 +1,4 @@
--- The byte model of the listing's stream gives the listing's answers and replies, and ends in its state. Assumes nothing.
+-- The byte model of the listing's stream gives the listing's answers and replies, and ends in its state.
 use mathlib.Core.Path.{_≡_, refl}
 use mathlib.Core.List.{flatten}
 use Rattle.lists.specs.Lists.{among, every, eqBytes, padTo, firstPlace, firstFrom}

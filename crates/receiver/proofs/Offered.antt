@@ -1,4 +1,4 @@
--- For every cutting of every stream there is a list of calls that offers it. Assumes nothing.
+-- For every cutting of every stream there is a list of calls that offers it.
 use Prim.Native.Nat.{ℕ, zero, suc, _+_, _≤_, _<_}
 use native.Mathlib.Omega.{arith}
 use mathlib.Core.Path.{_≡_, refl, sym, ap, subst, _∙_}

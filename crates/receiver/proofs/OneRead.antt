@@ -1,4 +1,4 @@
--- One reading call that kept its promise is the model's call on the state that record and store hold. Assumes nothing.
+-- One reading call that kept its promise is the model's call on the state that record and store hold.
 use Prim.Native.Nat.{ℕ, zero, suc, _≤_, _<_}
 use native.Mathlib.Omega.{arith}
 use mathlib.Core.Path.{_≡_, refl, sym, ap, _∙_}

@@ -1,4 +1,4 @@
--- Taking a piece in one go is what the byte model does byte by byte. Assumes nothing.
+-- Taking a piece in one go is what the byte model does byte by byte.
 use Prim.Native.Nat.{ℕ, zero, suc, _+_, _≤_, _<_}
 use native.Mathlib.Omega.{arith}
 use mathlib.Core.Path.{_≡_, refl, sym, ap, subst, _∙_}
