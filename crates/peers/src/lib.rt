@@ -11,6 +11,7 @@ ghost use lib.ListN.{length};
 ghost use Rattle.store.specs.Store.{emptyStore};
 ghost use Rattle.opening.specs.Opening.{answerer, caller, «open», openRoom, openedOf};
 ghost use Rattle.peers.specs.Raw.{rawOutcome, rawOpened};
+ghost use Rattle.peers.specs.Reading.{RawPromise};
 
 // What a call gives back: the bytes taken, the reply's length, the answer's number, and its values: the first `count` of `values`, zeros
 // after them.
@@ -28,6 +29,13 @@ pub struct RawOutcome {
 pub struct RawOpened {
     pub session: Session,
     pub outcome: RawOutcome,
+}
+
+// What the reading call by value gives back: the outcome, and the record and the store that it leaves.
+pub struct RawStep {
+    pub outcome: RawOutcome,
+    pub session: Session,
+    pub store: Store,
 }
 
 // An outcome with numbers for its answer.
@@ -85,4 +93,35 @@ pub extern "C" fn peers_open_caller(
     ensures content { λ _. ⌜ now (room .exit) ≡ openRoom (caller process relative) (now (local .entry)) (now (remote .entry)) (now (room .entry)) ⌝ }
 {
     raw_opened(opening::open_caller(local, remote, process, relative, room))
+}
+
+// The reading call by value, with numbers for its answer.
+pub fn read_raw(session: Session, store: Store, piece: &[u8], reply: &mut [u8]) -> RawStep
+    ensures { λ r. ⌜ RawPromise session store (record { piece = now (piece .entry); room = now (reply .entry); outcome = r .outcome; session = r .session; store = r .store; final = now (reply .exit) }) ⌝ }
+{
+    let step = reading::read(session, store, piece, reply);
+    let outcome = raw_outcome(step.outcome);
+    let next = step.session;
+    let held = step.store;
+    RawStep {
+        outcome,
+        session: next,
+        store: held,
+    }
+}
+
+// The reading call: record and store are lent, and hold the new state afterwards.
+#[no_mangle]
+pub extern "C" fn peers_read(
+    session: &mut Session,
+    store: &mut Store,
+    piece: &[u8],
+    reply: &mut [u8],
+) -> RawOutcome
+    ensures { λ r. ⌜ RawPromise (now (session .entry)) (now (store .entry)) (record { piece = now (piece .entry); room = now (reply .entry); outcome = r; session = now (session .exit); store = now (store .exit); final = now (reply .exit) }) ⌝ }
+{
+    let step = read_raw(*session, *store, piece, reply);
+    *session = step.session;
+    *store = step.store;
+    step.outcome
 }
