@@ -98,9 +98,13 @@ fn slots_ok(types: u32, values: [u64; VALUES]) -> bool
 {
     let mut i = 0;
     while i < VALUES {
-        let t = slot_type(i);
-        if !slot_ok(types, t, values[i]) {
-            return false;
+        let v = values[i];
+        // a value below 2^32 fits every type
+        if VALUE_END <= v {
+            let t = slot_type(i);
+            if !slot_ok(types, t, v) {
+                return false;
+            }
         }
         i += 1;
     }

@@ -172,6 +172,9 @@ module _ {types : ℕ} {vs : List ℕ} {i : ℕ} (r : Slots types vs i) where
           rest = slots-step ∙ and-true b (slotsOk types (drop (i + 1) slotTypes) (drop (i + 1) vs)) (not-false b h);
         }
 
+  pub slots-narrow : i < 34 → getD vs i 0 < 4294967296 → Slots types vs (i + 1)
+  slots-narrow l h = slots-next l refl (value-narrow types (getD slotTypes i 0) (getD vs i 0) h) refl
+
   pub slots-end : 34 ≤ i → true ≡ slotsOk types slotTypes vs
   unfolding slotsOk
   slots-end l = sym (r .rest ∙ rw (drop-of-length-le slotTypes {i = i} (omega (arith, slot-count))))

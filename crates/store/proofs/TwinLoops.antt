@@ -21,7 +21,7 @@ use Rattle.store.specs.Sound.{sameName, sameKey}
 use Rattle.store.specs.Shape.{TableShape, EntryShape}
 use Rattle.store.proofs.Lookup.{blankTable, blankEntry, Keys, not-of, by-bytes, long-key, prefix-length, prefix-within}
 
-take-min : (xs : List ℕ) (n m : ℕ) → length xs ≡ m → take (min n m) xs ≡ take n xs
+pub take-min : (xs : List ℕ) (n m : ℕ) → length xs ≡ m → take (min n m) xs ≡ take n xs
 take-min xs n m e =
     ⊎-elim
     (λ l. let z : min n m ≡ n = omega arith in ap (λ (k : ℕ). take k xs) z)

@@ -1,9 +1,12 @@
 // Soundness of a store: of each table and entry, and no two of one name or key.
 ghost use mathlib.Core.Path.{_≡_};
-ghost use Prim.Native.Nat.{min};
+ghost use mathlib.Core.List.{map};
+ghost use mathlib.Core.Bool.{true};
+ghost use Prim.Native.Nat.{_<_, _%_, min};
 ghost use Rattle.lists.specs.Lists.{every, distinct};
-ghost use Rattle.store.specs.Store.{entryKeyed};
+ghost use Rattle.store.specs.Store.{entryKeyed, keyOf};
 ghost use Rattle.store.specs.Sound.{soundTable, soundEntry, sameName, sameKey, soundStore};
+ghost use Rattle.store_soundness.specs.Marks.{markEnd, markFrom, entryMark, sameMark};
 use lookup::entry_of;
 use lookup::table_named;
 use place_soundness::held_entry_ok;
@@ -60,25 +63,94 @@ fn names_distinct(tables: [Table; TABLES]) -> bool
     true
 }
 
-fn sound_entries(store: Store) -> bool
-    ensures { λ r. ⌜ r ≡ every (soundEntry (store .tables)) (store .entries) ⌝ }
+// Marks of held entries are below this; it is a power of 2.
+const MARK_END: u64 = 2147483648;
+
+// A byte as a u64, with its bound.
+fn wide(b: u8) -> u64
+    ensures { λ r. ⌜ (r ≡ b) × (r < 256) ⌝ }
 {
-    let tables = store.tables;
-    let entries = store.entries;
+    b as u64
+}
+
+fn mark_bytes(start: u64, bytes: &[u8]) -> u64
+    requires { ⌜ start < markEnd ⌝ }
+    ensures { λ r. ⌜ r ≡ markFrom start (now (bytes .entry)) ⌝ }
+{
+    let mut mark = start;
+    let mut i: usize = 0;
+    while i < bytes.len() {
+        mark = (mark * 65599 + wide(bytes[i])) % MARK_END;
+        i += 1;
+    }
+    mark
+}
+
+// The mark of a held entry.
+fn held_mark(e: Entry) -> u64
+    ensures { λ r. ⌜ r ≡ markFrom (e .table % markEnd) (keyOf e) ⌝ }
+{
+    let key = e.key;
+    let n = shorter(e.key_len, KEY_MAX);
+    mark_bytes(e.table as u64 % MARK_END, &key[..n])
+}
+
+// Whether every entry is sound, and if so the marks of all.
+struct Tested {
+    sound: bool,
+    marks: [u64; ENTRIES],
+}
+
+fn test_entries(store: Store) -> Tested
+    ensures sound { λ r. ⌜ r .sound ≡ every (soundEntry (store .tables)) (store .entries) ⌝ }
+    ensures marks { λ r. ⌜ (r .sound ≡ true → r .marks ≡ map entryMark (store .entries)) ⌝ }
+{
+    let mut marks = [MARK_END; ENTRIES];
     let mut i = 0;
     while i < ENTRIES {
-        let e = entries[i];
+        let e = store.entries[i];
         if e.held != 0 {
             let place = e.table;
             if e.held != 1 {
-                return false;
+                return Tested {
+                    sound: false,
+                    marks,
+                };
             }
             if TABLES <= place {
-                return false;
+                return Tested {
+                    sound: false,
+                    marks,
+                };
             }
-            let t = tables[place];
+            let t = store.tables[place];
             if !held_entry_ok(t, e) {
-                return false;
+                return Tested {
+                    sound: false,
+                    marks,
+                };
+            }
+            marks[i] = held_mark(e);
+        }
+        i += 1;
+    }
+    Tested { sound: true, marks }
+}
+
+// Whether no two held entries have one mark.
+fn marks_distinct(marks: [u64; ENTRIES]) -> bool
+    ensures { λ r. ⌜ r ≡ distinct sameMark marks ⌝ }
+{
+    let mut i = 0;
+    while i < ENTRIES {
+        let mark = marks[i];
+        if mark < MARK_END {
+            let mut j = i + 1;
+            while j < ENTRIES {
+                if marks[j] == mark {
+                    return false;
+                }
+                j += 1;
             }
         }
         i += 1;
@@ -137,8 +209,13 @@ pub fn sound_store(store: Store) -> bool
     if !names_distinct(tables) {
         return false;
     }
-    if !sound_entries(store) {
+    let tested = test_entries(store);
+    if !tested.sound {
         return false;
+    }
+    let marks = tested.marks;
+    if marks_distinct(marks) {
+        return true;
     }
     let entries = store.entries;
     keys_distinct(entries)

@@ -1,5 +1,6 @@
-use Rattle.store.proofs.Tested.{slots, Slots}
+use Rattle.store.proofs.Tested.{slots, Slots, slots-next, slots-narrow}
 use Prim.Native.Nat.{_-_}
+use mathlib.Core.Logic.{⊎-elim}
 use Rattle.place_soundness.proofs.slots_ok.Statement.{statement}
 use Rattle.place_soundness.proofs.slots_ok.Tie as tie
 
@@ -12,14 +13,14 @@ abbrev μ-loop : tie.MeasureT-loop
 loop-holds : tie.Need-loop-holds Inv-loop μ-loop
 loop-holds c = search slots
 
+mul-v : tie.Need-mul-v Inv-loop μ-loop
+mul-v c = search slots
+
+array-read-v : tie.Need-array-read-v Inv-loop μ-loop
+array-read-v c = search slots
+
 slot-type-requires : tie.Need-slot-type-requires Inv-loop μ-loop
 slot-type-requires c κs = search slots
-
-mul-slot-ok : tie.Need-mul-slot-ok Inv-loop μ-loop
-mul-slot-ok c = search slots
-
-array-read-slot-ok : tie.Need-array-read-slot-ok Inv-loop μ-loop
-array-read-slot-ok c = search slots
 
 slot-ok-requires : tie.Need-slot-ok-requires Inv-loop μ-loop
 slot-ok-requires c κs = search slots
@@ -34,7 +35,13 @@ loop-less : tie.Need-loop-less Inv-loop μ-loop
 loop-less c = search slots
 
 loop-again : tie.Need-loop-again Inv-loop μ-loop
-loop-again c = search slots
+loop-again c =
+    let a = c .before in
+    let r = a .before .loop .inv in
+    ⊎-elim
+    (λ w. slots-next r (a .loop-test .taken) (w .1 .ensures) (w .2 .ensures) (w .3 .left))
+    (λ w. slots-narrow r (a .loop-test .taken) (w .left))
+    (c .if1 .came)
 
 returns-2 : tie.Need-returns-2 Inv-loop μ-loop
 returns-2 c = search slots
@@ -46,9 +53,9 @@ slots-ok-spec =
     Inv-loop
     μ-loop
     loop-holds
+    mul-v
+    array-read-v
     slot-type-requires
-    mul-slot-ok
-    array-read-slot-ok
     slot-ok-requires
     returns
     add-i

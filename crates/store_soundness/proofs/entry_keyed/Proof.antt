@@ -1,5 +1,4 @@
 use Rattle.store.proofs.TwinLoops.{keying}
-use borrow.Author.Needs.{needs}
 use Rattle.store_soundness.proofs.entry_keyed.Statement.{statement}
 use Rattle.store_soundness.proofs.entry_keyed.Tie as tie
 

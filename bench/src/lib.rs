@@ -1,0 +1,10 @@
+//! The library beside a plain Rust receiver over the same structs and beside the second program's, on the same streams.
+
+#![forbid(unsafe_code)]
+
+pub mod measure;
+pub mod plain;
+pub mod receivers;
+pub mod streams;
+
+pub use peers::layout;

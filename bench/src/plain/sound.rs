@@ -1,0 +1,143 @@
+//! Soundness of record and store.
+
+use super::frame::{self, Frame};
+use super::handshake::{hello_waits, is_name};
+use super::message::{has, is_wide, key_length_fits, SLOT_TYPES};
+use crate::layout::{Binding, Connection, Entry, Session, Store, Table, TABLES, UNFINISHED_MAX};
+
+/// Whether record and store are what the rules allow together.
+pub fn is_sound(session: &Session, store: &Store) -> bool {
+    store_is_sound(store) && (is_refused_opening(session) || record_is_sound(session, store))
+}
+
+// ---- the store
+
+fn store_is_sound(store: &Store) -> bool {
+    store.tables.iter().all(table_is_sound)
+        && names_are_distinct(&store.tables)
+        && store.entries.iter().all(|e| entry_is_sound(store, e))
+        && keys_are_distinct(&store.entries)
+}
+
+fn table_is_sound(table: &Table) -> bool {
+    match table.held {
+        0 => true,
+        1 => {
+            (1..=32).contains(&table.name_len)
+                && key_length_fits(table.key_type, table.key_len)
+                && table.data_types < 1 << 19
+                && table.timed <= 1
+        }
+        _ => false,
+    }
+}
+
+fn names_are_distinct(tables: &[Table]) -> bool {
+    let same = |a: &Table, b: &Table| {
+        a.held == 1 && b.held == 1 && a.name[..a.name_len] == b.name[..b.name_len]
+    };
+    let twin = |(at, a): (usize, &Table)| tables[at + 1..].iter().any(|b| same(a, b));
+    !tables.iter().enumerate().any(twin)
+}
+
+fn entry_is_sound(store: &Store, entry: &Entry) -> bool {
+    match entry.held {
+        0 => true,
+        1 => store
+            .tables
+            .get(entry.table)
+            .is_some_and(|table| table.held == 1 && entry_fits(table, entry)),
+        _ => false,
+    }
+}
+
+fn entry_fits(table: &Table, entry: &Entry) -> bool {
+    let length_fits = match table.key_type {
+        3 => entry.key_len <= table.key_len,
+        _ => entry.key_len == table.key_len,
+    };
+    let slot_fits = |(&value, &t): (&u64, &u8)| {
+        value <= u32::MAX.into() || is_wide(t) || !has(table.data_types, t)
+    };
+    length_fits
+        && entry.key[entry.key_len..].iter().all(|&b| b == 0)
+        && entry.values.iter().zip(&SLOT_TYPES).all(slot_fits)
+}
+
+/// Key bytes past the length are zero, so whole arrays are compared.
+fn keys_are_distinct(entries: &[Entry]) -> bool {
+    let same = |a: &Entry, b: &Entry| {
+        b.held == 1 && a.table == b.table && a.key_len == b.key_len && a.key == b.key
+    };
+    let twin =
+        |(at, a): (usize, &Entry)| a.held == 1 && entries[at + 1..].iter().any(|b| same(a, b));
+    !entries.iter().enumerate().any(twin)
+}
+
+// ---- the record
+
+fn is_refused_opening(session: &Session) -> bool {
+    let c = &session.connection;
+    c.closed == 1
+        && matches!(c.number, 1 | 3)
+        && session.len == 0
+        && c.phase == 0
+        && c.current == 0
+        && c.local_len == 0
+        && c.remote_len == 0
+        && c.bindings.iter().all(|b| b.bound == 0 && b.updated == 0)
+}
+
+fn record_is_sound(session: &Session, store: &Store) -> bool {
+    let c = &session.connection;
+    c.phase <= 2
+        && number_fits(c)
+        && name_fits(&c.local, c.local_len)
+        && name_fits(&c.remote, c.remote_len)
+        && bindings_are_sound(&c.bindings, store)
+        && current_is_sound(c, store)
+        && unfinished_is_sound(session)
+}
+
+fn number_fits(c: &Connection) -> bool {
+    match c.closed {
+        0 => c.number == 0,
+        1 => matches!(c.number, 0 | 1 | 3 | 10..=15 | 20..=29),
+        _ => false,
+    }
+}
+
+fn name_fits(bytes: &[u8], len: usize) -> bool {
+    bytes.get(..len).is_some_and(is_name)
+}
+
+fn bindings_are_sound(bindings: &[Binding; TABLES], store: &Store) -> bool {
+    let marked = |b: &Binding| b.bound == 1 || b.updated == 1;
+    let placed =
+        |(b, t): (&Binding, &Table)| b.bound <= 1 && b.updated <= 1 && (t.held == 1 || !marked(b));
+    let same = |a: &Binding, b: &Binding| a.bound == 1 && b.bound == 1 && a.id == b.id;
+    let twin = |(at, a): (usize, &Binding)| bindings[at + 1..].iter().any(|b| same(a, b));
+    bindings.iter().zip(&store.tables).all(placed) && !bindings.iter().enumerate().any(twin)
+}
+
+fn current_is_sound(c: &Connection, store: &Store) -> bool {
+    let Some(place) = c.current.checked_sub(1) else {
+        return true;
+    };
+    place < TABLES && store.tables[place].held == 1 && c.bindings[place].bound == 1
+}
+
+fn unfinished_is_sound(session: &Session) -> bool {
+    if session.len > UNFINISHED_MAX {
+        return false;
+    }
+    if session.connection.closed == 1 {
+        return session.len == 0;
+    }
+    let bytes = &session.buffer[..session.len];
+    match session.connection.phase {
+        0 => hello_waits(bytes),
+        1 => bytes.len() < 4,
+        _ => matches!(frame::judge(bytes), Frame::Waiting),
+    }
+}

@@ -1,0 +1,221 @@
+//! The three receivers behind one trait.
+
+use crate::layout;
+use crate::plain;
+use second::record::Record;
+pub use second::record::Role;
+
+/// The room of a call.
+pub const ROOM: usize = 12;
+
+/// What a call told: bytes taken, the answer's number and values, and the reply.
+pub type Told = (usize, u32, Vec<u64>, Vec<u8>);
+
+/// A session of `east` with `west`, and a store.
+pub trait Receiver: Clone {
+    /// Its name in the report.
+    const NAME: &'static str;
+
+    /// A new session on an empty store.
+    fn open(role: Role) -> Self;
+
+    /// A new session on the store as it stands.
+    fn reconnect(&mut self, role: Role);
+
+    /// One reading call: the bytes taken.
+    fn read(&mut self, piece: &[u8], room: &mut [u8; ROOM]) -> usize;
+
+    /// One reading call, with all that it told.
+    fn told(&mut self, piece: &[u8], room: &mut [u8]) -> Told;
+
+    /// Offers bytes until all are taken: the number of calls.
+    fn take_all(&mut self, bytes: &[u8]) -> usize {
+        let mut room = [0; ROOM];
+        let mut calls = 0;
+        let mut rest = bytes;
+        while !rest.is_empty() {
+            let taken = self.read(rest, &mut room);
+            assert!(taken > 0, "{} took nothing", Self::NAME);
+            rest = &rest[taken..];
+            calls += 1;
+        }
+        calls
+    }
+}
+
+/// The static library, through its wrapper.
+#[derive(Clone)]
+pub struct Library {
+    /// The record.
+    pub session: peers::Session,
+    /// The store.
+    pub store: Box<peers::Store>,
+}
+
+/// A session opened by the library.
+fn session(role: Role) -> peers::Session {
+    let opened = match role {
+        Role::Answerer => peers::Session::answerer(b"east", b"west"),
+        Role::Caller => {
+            peers::Session::caller(b"east", b"west", 7, 0, &mut [0; 101]).map(|(s, _)| s)
+        }
+    };
+    opened.expect("the names are good")
+}
+
+/// The number and values of an answer.
+fn numbers(answer: peers::Answer) -> (u32, Vec<u64>) {
+    use peers::Answer;
+    match answer {
+        Answer::More => (100, vec![]),
+        Answer::Hello { process, relative } => (101, vec![process.into(), relative.into()]),
+        Answer::Status => (102, vec![]),
+        Answer::Request => (103, vec![]),
+        Answer::Finished => (104, vec![]),
+        Answer::Partial => (105, vec![]),
+        Answer::Confirmed => (106, vec![]),
+        Answer::Heartbeat => (107, vec![]),
+        Answer::Error { kind } => (108, vec![kind.into()]),
+        Answer::Table { place } => (109, vec![place as u64]),
+        Answer::Switch { place } => (110, vec![place as u64]),
+        Answer::Update {
+            table,
+            id,
+            entry,
+            commit,
+        } => {
+            let replaced = u64::from(commit == peers::Commit::Replaced);
+            (111, vec![table as u64, id.into(), entry as u64, replaced])
+        }
+        Answer::Acknowledgement { id, update } => (112, vec![id.into(), update.into()]),
+        Answer::Skipped { kind } => (113, vec![kind.into()]),
+        Answer::Refused(refusal) => (refusal.number().into(), vec![]),
+    }
+}
+
+impl Receiver for Library {
+    const NAME: &'static str = "library";
+
+    fn open(role: Role) -> Library {
+        Library {
+            session: session(role),
+            store: peers::Store::boxed(),
+        }
+    }
+
+    fn reconnect(&mut self, role: Role) {
+        self.session = session(role);
+    }
+
+    fn read(&mut self, piece: &[u8], room: &mut [u8; ROOM]) -> usize {
+        self.session.read(&mut self.store, piece, room).taken
+    }
+
+    fn told(&mut self, piece: &[u8], room: &mut [u8]) -> Told {
+        let step = self.session.read(&mut self.store, piece, room);
+        let (number, values) = numbers(step.answer);
+        (step.taken, number, values, step.reply.to_vec())
+    }
+}
+
+/// The plain receiver.
+#[derive(Clone)]
+pub struct Plain {
+    /// The record.
+    pub session: layout::Session,
+    /// The store.
+    pub store: Box<layout::Store>,
+}
+
+impl Receiver for Plain {
+    const NAME: &'static str = "plain";
+
+    fn open(role: Role) -> Plain {
+        Plain {
+            session: *session(role).layout(),
+            store: Box::new(*peers::Store::boxed().layout()),
+        }
+    }
+
+    fn reconnect(&mut self, role: Role) {
+        self.session = *session(role).layout();
+    }
+
+    fn read(&mut self, piece: &[u8], room: &mut [u8; ROOM]) -> usize {
+        plain::read(&mut self.session, &mut self.store, piece, room).taken
+    }
+
+    fn told(&mut self, piece: &[u8], room: &mut [u8]) -> Told {
+        let outcome = plain::read(&mut self.session, &mut self.store, piece, room);
+        let values = outcome.values[..outcome.count].to_vec();
+        let reply = room[..outcome.reply_len].to_vec();
+        (outcome.taken, outcome.number, values, reply)
+    }
+}
+
+/// The second program's receiver.
+#[derive(Clone)]
+pub struct Second {
+    record: Record,
+    store: Box<second::store::Store>,
+}
+
+/// The number and values of the second program's answer.
+fn second_numbers(answer: second::answer::Answer) -> (u32, Vec<u64>) {
+    use second::answer::{Answer, Commit};
+    match answer {
+        Answer::More => (100, vec![]),
+        Answer::Hello { process, relative } => (101, vec![process.into(), relative.into()]),
+        Answer::Status => (102, vec![]),
+        Answer::Request => (103, vec![]),
+        Answer::Finished => (104, vec![]),
+        Answer::Partial => (105, vec![]),
+        Answer::Confirm => (106, vec![]),
+        Answer::Heartbeat => (107, vec![]),
+        Answer::Error { kind } => (108, vec![kind.into()]),
+        Answer::Table { place } => (109, vec![place as u64]),
+        Answer::Switch { place } => (110, vec![place as u64]),
+        Answer::Update {
+            table,
+            id,
+            entry,
+            commit,
+        } => {
+            let replaced = u64::from(commit == Commit::Replaced);
+            (111, vec![table as u64, id.into(), entry as u64, replaced])
+        }
+        Answer::Acknowledged { id, update } => (112, vec![id.into(), update.into()]),
+        Answer::Skipped { kind } => (113, vec![kind.into()]),
+        Answer::Refused { number } => (number.into(), vec![]),
+    }
+}
+
+impl Receiver for Second {
+    const NAME: &'static str = "second";
+
+    fn open(role: Role) -> Second {
+        Second {
+            record: Record::opened(role, b"east", b"west"),
+            store: Box::default(),
+        }
+    }
+
+    fn reconnect(&mut self, role: Role) {
+        self.record = Record::opened(role, b"east", b"west");
+    }
+
+    fn read(&mut self, piece: &[u8], room: &mut [u8; ROOM]) -> usize {
+        second::call::read(&mut self.record, &mut self.store, piece, room).taken
+    }
+
+    fn told(&mut self, piece: &[u8], room: &mut [u8]) -> Told {
+        let outcome = second::call::read(&mut self.record, &mut self.store, piece, room);
+        let (number, values) = second_numbers(outcome.answer);
+        (
+            outcome.taken,
+            number,
+            values,
+            room[..outcome.reply].to_vec(),
+        )
+    }
+}

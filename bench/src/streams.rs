@@ -1,0 +1,67 @@
+//! Streams to measure on.
+
+/// The hello of `west` to `east`.
+pub const HELLO: &[u8] = b"HAProxyS 2.1\neast\nwest 7 0\n";
+
+/// An encoded integer.
+pub fn int(value: u64) -> Vec<u8> {
+    if value < 240 {
+        return vec![value as u8];
+    }
+    let mut bytes = vec![240 + (value % 16) as u8];
+    let mut rest = (value - 240) / 16;
+    while rest >= 128 {
+        bytes.push(128 + (rest % 128) as u8);
+        rest = (rest - 128) / 128;
+    }
+    bytes.push(rest as u8);
+    bytes
+}
+
+/// A stick table message.
+pub fn message(kind: u8, body: &[u8]) -> Vec<u8> {
+    [&[10, kind], &int(body.len() as u64)[..], body].concat()
+}
+
+/// A definition of a table of strings with connection and request counters and rates, as rate limiting has it.
+pub fn definition(id: u32) -> Vec<u8> {
+    let mut body = int(id.into());
+    body.extend([1, b'a' + id as u8, 3, 64]);
+    body.extend(int(1 << 4 | 1 << 5 | 1 << 9 | 1 << 10));
+    for time in [60_000, 5, 10_000, 10, 10_000] {
+        body.extend(int(time));
+    }
+    message(130, &body)
+}
+
+/// The key of an entry: an address as text.
+pub fn key(number: u32) -> Vec<u8> {
+    format!("2001:db8:0:{:x}::{:x}", number % 7, number).into_bytes()
+}
+
+/// An update of a key in the current table.
+pub fn update(id: u32, number: u32) -> Vec<u8> {
+    let key = key(number);
+    let mut body = id.to_be_bytes().to_vec();
+    body.push(key.len() as u8);
+    body.extend(key);
+    for value in [17, 900, 4, 3, u64::from(id) % 10_000, 2_000, 70, 65] {
+        body.extend(int(value));
+    }
+    message(128, &body)
+}
+
+/// Messages that open a session, define a table and fill so many entries.
+pub fn filling(entries: u32) -> Vec<u8> {
+    let mut bytes = HELLO.to_vec();
+    bytes.extend(definition(1));
+    bytes.extend((0..entries).flat_map(|n| update(n, n)));
+    bytes
+}
+
+/// Updates of keys that are held, spread over all of them.
+pub fn updates(count: u32, entries: u32) -> Vec<Vec<u8>> {
+    (0..count)
+        .map(|n| update(1000 + n, n.wrapping_mul(37) % entries))
+        .collect()
+}

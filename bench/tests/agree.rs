@@ -1,0 +1,88 @@
+//! The three receivers tell the same on the same calls, and the library and the plain one leave the same record and store.
+
+use bench::receivers::{Library, Plain, Receiver, Role, Second};
+use bench::streams::{filling, message, updates};
+use second::generate;
+use second::replay::{command, Command};
+
+/// The content of a room before a call.
+const FILL: u8 = 0xAA;
+
+/// The receivers side by side.
+struct All {
+    library: Library,
+    plain: Plain,
+    second: Second,
+}
+
+impl All {
+    fn open(role: Role) -> All {
+        All {
+            library: Library::open(role),
+            plain: Plain::open(role),
+            second: Second::open(role),
+        }
+    }
+
+    fn reconnect(&mut self, role: Role) {
+        self.library.reconnect(role);
+        self.plain.reconnect(role);
+        self.second.reconnect(role);
+    }
+
+    /// One call of each: the bytes taken.
+    fn call(&mut self, piece: &[u8], room: usize) -> usize {
+        let mut rooms = [vec![FILL; room], vec![FILL; room], vec![FILL; room]];
+        let [a, b, c] = &mut rooms;
+        let library = self.library.told(piece, a);
+        assert_eq!(library, self.plain.told(piece, b));
+        assert_eq!(library, self.second.told(piece, c));
+        assert!(rooms[0] == rooms[1] && rooms[0] == rooms[2]);
+        self.states_agree();
+        library.0
+    }
+
+    fn states_agree(&self) {
+        assert!(*self.library.session.layout() == self.plain.session);
+        assert!(self.library.store.layout() == &*self.plain.store);
+    }
+}
+
+#[test]
+fn on_the_benchmark_streams() {
+    let mut all = All::open(Role::Answerer);
+    let mut bytes = filling(128);
+    bytes.extend(updates(200, 128).concat());
+    bytes.extend(message(200, &[7; 1024]));
+    let mut rest = &bytes[..];
+    while !rest.is_empty() {
+        let taken = all.call(rest, 12);
+        rest = &rest[taken..];
+    }
+}
+
+#[test]
+fn on_generated_scripts() {
+    let calls: usize = (1..=1700).map(|seed| replay(&generate::stream(seed))).sum();
+    assert!(calls > 40_000, "{calls} calls");
+}
+
+/// Makes the calls of a script: the number of them.
+fn replay(script: &[u8]) -> usize {
+    let mut all = All::open(Role::Answerer);
+    let mut calls = 0;
+    let mut rest = script;
+    while let Some((next, after)) = command(rest) {
+        rest = after;
+        match next {
+            Command::Open(role) => all = All::open(role),
+            Command::Reconnect(role) => all.reconnect(role),
+            Command::Dump => {}
+            Command::Call { room, piece } => {
+                all.call(piece, room.into());
+                calls += 1;
+            }
+        }
+    }
+    calls
+}

@@ -1,0 +1,20 @@
+//! Links the static library: from the folder that `PEERS_LIB_DIR` names, else from where `rt staticlib peers` leaves it.
+
+use std::env;
+use std::path::{Path, PathBuf};
+
+fn main() {
+    let own = PathBuf::from(env::var_os("CARGO_MANIFEST_DIR").expect("cargo names this folder"));
+    let built = own.join("../target/staticlib");
+    let folder = env::var_os("PEERS_LIB_DIR").map_or(built, PathBuf::from);
+    let archive = folder.join("libpeers.a");
+    assert!(
+        Path::new(&archive).is_file(),
+        "no {}: run `rt staticlib peers` at the top of the repository, or set PEERS_LIB_DIR",
+        archive.display()
+    );
+    println!("cargo:rerun-if-env-changed=PEERS_LIB_DIR");
+    println!("cargo:rerun-if-changed={}", archive.display());
+    println!("cargo:rustc-link-search=native={}", folder.display());
+    println!("cargo:rustc-link-lib=static=peers");
+}

@@ -1,0 +1,31 @@
+/* Reads one peer's bytes from standard input as `east`, accepting `west`, and prints the entries that it holds at the end. */
+#include "peers.h"
+#include <stdio.h>
+
+static struct peers_store store; /* zeros: empty */
+
+static void print_entry(const struct peers_entry *entry) {
+    const struct peers_table *table = &store.tables[entry->table];
+    printf("%.*s", (int)table->name_len, (const char *)table->name);
+    for (size_t i = 0; i < entry->key_len; i++) printf("%s%02X", i ? "" : " ", entry->key[i]);
+    if (table->data_types & 1u << PEERS_GPC0) printf(" gpc0 %llu", (unsigned long long)entry->values[PEERS_SLOT_GPC0]);
+    printf("\n");
+}
+
+int main(void) {
+    uint8_t piece[4096], room[PEERS_OPENING_ROOM];
+    struct peers_opened opened = peers_open_answerer((const uint8_t *)"east", 4, (const uint8_t *)"west", 4, room, sizeof room);
+    struct peers_session session = opened.session;
+    size_t len;
+    while (!session.connection.closed && (len = fread(piece, 1, sizeof piece, stdin)) > 0) {
+        for (size_t at = 0; at < len && !session.connection.closed;) {
+            struct peers_outcome outcome = peers_read(&session, &store, piece + at, len - at, room, sizeof room);
+            at += outcome.taken;
+            /* a host sends the first outcome.reply_len bytes of the room to the peer here */
+            if (outcome.number < PEERS_MORE) printf("refused with %u\n", (unsigned)outcome.number);
+        }
+    }
+    for (size_t i = 0; i < PEERS_ENTRIES; i++)
+        if (store.entries[i].held) print_entry(&store.entries[i]);
+    return 0;
+}

@@ -1,0 +1,184 @@
+/* Memory with edges, calls and messages. */
+#define _GNU_SOURCE
+#include "test.h"
+#include <sys/mman.h>
+#include <unistd.h>
+
+enum edge edge;
+
+static size_t pages(size_t size) {
+    size_t page = (size_t)sysconf(_SC_PAGESIZE);
+    return (size + page - 1) / page * page;
+}
+
+void *lend(size_t size) {
+    size_t page = (size_t)sysconf(_SC_PAGESIZE), inner = pages(size);
+    uint8_t *all = mmap(NULL, inner + 2 * page, PROT_READ | PROT_WRITE, MAP_PRIVATE | MAP_ANONYMOUS, -1, 0);
+    CHECK(all != MAP_FAILED);
+    CHECK(mprotect(all, page, PROT_NONE) == 0);
+    CHECK(mprotect(all + page + inner, page, PROT_NONE) == 0);
+    return edge == EDGE_AFTER ? all + page + inner - size : all + page;
+}
+
+void give_back(void *memory, size_t size) {
+    size_t page = (size_t)sysconf(_SC_PAGESIZE), inner = pages(size);
+    uint8_t *start = edge == EDGE_AFTER ? (uint8_t *)memory + size - inner : memory;
+    CHECK(munmap(start - page, inner + 2 * page) == 0);
+}
+
+struct state lend_state(void) {
+    struct state state = {lend(sizeof(struct peers_session)), lend(sizeof(struct peers_store))};
+    return state;
+}
+
+void give_back_state(struct state state) {
+    give_back(state.session, sizeof *state.session);
+    give_back(state.store, sizeof *state.store);
+}
+
+static void copy_table(struct peers_table *to, const struct peers_table *from) {
+    to->held = from->held;
+    to->key_type = from->key_type;
+    to->timed = from->timed;
+    to->data_types = from->data_types;
+    to->name_len = from->name_len;
+    to->key_len = from->key_len;
+    to->expiry = from->expiry;
+    memcpy(to->periods, from->periods, sizeof to->periods);
+    memcpy(to->name, from->name, sizeof to->name);
+}
+
+static void copy_entry(struct peers_entry *to, const struct peers_entry *from) {
+    to->held = from->held;
+    to->server_id = from->server_id;
+    to->table = from->table;
+    to->key_len = from->key_len;
+    memcpy(to->key, from->key, sizeof to->key);
+    memcpy(to->values, from->values, sizeof to->values);
+}
+
+static void copy_connection(struct peers_connection *to, const struct peers_connection *from) {
+    to->phase = from->phase;
+    to->closed = from->closed;
+    to->number = from->number;
+    to->current = from->current;
+    to->local_len = from->local_len;
+    to->remote_len = from->remote_len;
+    memcpy(to->local, from->local, sizeof to->local);
+    memcpy(to->remote, from->remote, sizeof to->remote);
+    for (size_t i = 0; i < PEERS_TABLES; i++) {
+        to->bindings[i].bound = from->bindings[i].bound;
+        to->bindings[i].updated = from->bindings[i].updated;
+        to->bindings[i].id = from->bindings[i].id;
+        to->bindings[i].previous = from->bindings[i].previous;
+    }
+}
+
+void copy_session(struct peers_session *to, const struct peers_session *from) {
+    memset(to, 0, sizeof *to);
+    copy_connection(&to->connection, &from->connection);
+    to->len = from->len;
+    memcpy(to->buffer, from->buffer, sizeof to->buffer);
+}
+
+void copy_store(struct peers_store *to, const struct peers_store *from) {
+    memset(to, 0, sizeof *to);
+    for (size_t i = 0; i < PEERS_TABLES; i++) copy_table(&to->tables[i], &from->tables[i]);
+    for (size_t i = 0; i < PEERS_ENTRIES; i++) copy_entry(&to->entries[i], &from->entries[i]);
+}
+
+static void take_opened(struct state state, struct peers_opened opened) {
+    CHECK(opened.outcome.number == PEERS_MORE && opened.outcome.taken == 0 && opened.outcome.count == 0);
+    *state.session = opened.session;
+    *state.store = peers_empty_store();
+}
+
+void open_answerer(struct state state) {
+    uint8_t room[PEERS_OPENING_ROOM];
+    take_opened(state, peers_open_answerer((const uint8_t *)"east", 4, (const uint8_t *)"west", 4, room, sizeof room));
+}
+
+void open_caller(struct state state) {
+    uint8_t room[PEERS_OPENING_ROOM];
+    take_opened(state, peers_open_caller((const uint8_t *)"east", 4, (const uint8_t *)"west", 4, 7, 0, room, sizeof room));
+}
+
+void establish(struct state state) {
+    static const char hello[] = "HAProxyS 2.1\neast\nwest 7 0\n";
+    uint8_t reply[12];
+    open_answerer(state);
+    CHECK(call(state, (const uint8_t *)hello, sizeof hello - 1, 12, reply).number == PEERS_HELLO);
+}
+
+struct peers_outcome call(struct state state, const uint8_t *piece, size_t len, size_t room, uint8_t reply[12]) {
+    uint8_t *lent_piece = lend(len), *lent_room = lend(room);
+    memcpy(lent_piece, piece, len);
+    memset(lent_room, FILL, room);
+    struct peers_outcome outcome = peers_read(state.session, state.store, lent_piece, len, lent_room, room);
+    CHECK(outcome.taken <= len && outcome.reply_len <= 12 && outcome.reply_len <= room && outcome.count <= 4);
+    CHECK(memcmp(lent_piece, piece, len) == 0);
+    memcpy(reply, lent_room, outcome.reply_len);
+    for (size_t i = outcome.reply_len; i < room; i++) CHECK(lent_room[i] == FILL);
+    for (size_t i = outcome.count; i < 4; i++) CHECK(outcome.values[i] == 0);
+    give_back(lent_piece, len);
+    give_back(lent_room, room);
+    return outcome;
+}
+
+void offer(struct state state, const uint8_t *bytes, size_t len, void (*told)(const struct peers_outcome *, const uint8_t *)) {
+    size_t at = 0;
+    while (at < len && state.session->connection.closed == 0) {
+        uint8_t reply[12];
+        struct peers_outcome outcome = call(state, bytes + at, len - at, 15, reply);
+        CHECK(outcome.taken > 0);
+        at += outcome.taken;
+        if (outcome.number != PEERS_MORE) told(&outcome, reply);
+    }
+}
+
+size_t put_int(uint8_t *to, uint64_t value) {
+    size_t len = 1;
+    if (value < 240) {
+        to[0] = (uint8_t)value;
+        return 1;
+    }
+    to[0] = (uint8_t)(240 + value % 16);
+    for (value = (value - 240) / 16; value >= 128; value = (value - 128) / 128) to[len++] = (uint8_t)(128 + value % 128);
+    to[len++] = (uint8_t)value;
+    return len;
+}
+
+size_t put_message(uint8_t *to, uint8_t kind, const uint8_t *body, size_t len) {
+    to[0] = 10;
+    to[1] = kind;
+    size_t at = 2 + put_int(to + 2, len);
+    memcpy(to + at, body, len);
+    return at + len;
+}
+
+static void accept(struct state state, uint8_t kind, const uint8_t *body, size_t len, uint32_t number) {
+    uint8_t message[1028], reply[12];
+    size_t whole = put_message(message, kind, body, len);
+    struct peers_outcome outcome = call(state, message, whole, 12, reply);
+    CHECK(outcome.number == number && outcome.taken == whole);
+}
+
+void define(struct state state, uint32_t id, const char *name, uint8_t key_type, uint8_t key_len, uint32_t types) {
+    uint8_t body[100];
+    size_t len = put_int(body, id), name_len = strlen(name);
+    body[len++] = (uint8_t)name_len;
+    memcpy(body + len, name, name_len);
+    len += name_len;
+    body[len++] = key_type;
+    body[len++] = key_len;
+    len += put_int(body + len, types);
+    accept(state, 130, body, len, PEERS_TABLE);
+}
+
+void update(struct state state, uint32_t id, const void *key, size_t key_len, const uint64_t *values, size_t count) {
+    uint8_t body[1024] = {(uint8_t)(id >> 24), (uint8_t)(id >> 16), (uint8_t)(id >> 8), (uint8_t)id};
+    size_t len = 4 + key_len;
+    memcpy(body + 4, key, key_len);
+    for (size_t i = 0; i < count; i++) len += put_int(body + len, values[i]);
+    accept(state, 128, body, len, PEERS_UPDATE);
+}

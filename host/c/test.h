@@ -1,0 +1,66 @@
+/* What the C tests share. */
+#ifndef TEST_H
+#define TEST_H
+
+#include "peers.h"
+#include <stdbool.h>
+#include <stdio.h>
+#include <stdlib.h>
+#include <string.h>
+
+#define FILL 0xAA
+
+#define CHECK(condition) \
+    do { \
+        if (!(condition)) { \
+            fprintf(stderr, "%s:%d: %s\n", __FILE__, __LINE__, #condition); \
+            exit(1); \
+        } \
+    } while (0)
+
+/* Where lent memory lies: it ends where a page begins that can't be touched, or begins where one ends. */
+enum edge { EDGE_AFTER, EDGE_BEFORE };
+extern enum edge edge;
+
+/* Memory with a page that can't be touched at its edge. */
+void *lend(size_t size);
+void give_back(void *memory, size_t size);
+
+/* A session and a store in such memory. */
+struct state {
+    struct peers_session *session;
+    struct peers_store *store;
+};
+
+struct state lend_state(void);
+void give_back_state(struct state state);
+
+/* Copies all fields, and puts zeros between them: opening leaves there what it likes. */
+void copy_session(struct peers_session *to, const struct peers_session *from);
+void copy_store(struct peers_store *to, const struct peers_store *from);
+
+/* States to start from, in the memory of `state`. */
+void open_answerer(struct state state);
+void open_caller(struct state state);
+void establish(struct state state);
+
+/* One call, with piece and room in such memory. The reply is left in `reply`, and the room past it must stay. */
+struct peers_outcome call(struct state state, const uint8_t *piece, size_t len, size_t room, uint8_t reply[12]);
+
+/* Offers bytes until all are taken or the session is closed; every answer but "more wanted" goes to `told`. */
+void offer(struct state state, const uint8_t *bytes, size_t len, void (*told)(const struct peers_outcome *, const uint8_t *));
+
+/* Messages. */
+size_t put_int(uint8_t *to, uint64_t value);
+size_t put_message(uint8_t *to, uint8_t kind, const uint8_t *body, size_t len);
+void define(struct state state, uint32_t id, const char *name, uint8_t key_type, uint8_t key_len, uint32_t types);
+void update(struct state state, uint32_t id, const void *key, size_t key_len, const uint64_t *values, size_t count);
+
+/* Groups of tests. */
+void test_layout(const char *file);
+void test_opening(void);
+void test_listing(void);
+void test_unsound(void);
+void test_random(void);
+
+#endif

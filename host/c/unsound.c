@@ -1,0 +1,404 @@
+/*
+ * Each kind of fault of a record or a store, one at a time, and what stands next to it on the other side of its boundary. A fault is
+ * refused with 4; a call on either side that takes nothing leaves every byte as it was.
+ */
+#include "test.h"
+
+#define ALL 0x7FFFFu
+
+/* What the cases change. */
+static struct peers_session *s;
+static struct peers_store *t;
+
+/* The state that a case starts from. */
+static struct peers_session base_session;
+static struct peers_store base_store;
+
+static void from_base(void) {
+    copy_session(s, &base_session);
+    copy_store(t, &base_store);
+}
+
+static void keep_base(void) {
+    copy_session(&base_session, s);
+    copy_store(&base_store, t);
+}
+
+/* The answer of a call on the changed state; every byte must be as it was. */
+static uint32_t answer(const uint8_t *piece, size_t len) {
+    static struct peers_session session;
+    static struct peers_store store;
+    struct state state = {s, t};
+    uint8_t reply[12];
+    memcpy(&session, s, sizeof session);
+    memcpy(&store, t, sizeof store);
+    struct peers_outcome outcome = call(state, piece, len, 12, reply);
+    CHECK(outcome.taken == 0 && outcome.reply_len == 0 && outcome.count == 0);
+    CHECK(memcmp(&session, s, sizeof session) == 0);
+    CHECK(memcmp(&store, t, sizeof store) == 0);
+    return outcome.number;
+}
+
+static bool is_sound(void) {
+    uint32_t number = answer((const uint8_t *)"", 0);
+    return number == (s->connection.closed ? PEERS_REFUSED_CLOSED : PEERS_MORE);
+}
+
+static bool is_refused(void) {
+    static const uint8_t heartbeat[] = {0, 4};
+    return answer((const uint8_t *)"", 0) == PEERS_REFUSED_UNSOUND && answer(heartbeat, 2) == PEERS_REFUSED_UNSOUND;
+}
+
+#define SOUND(change) \
+    do { \
+        from_base(); \
+        change; \
+        CHECK(is_sound()); \
+    } while (0)
+
+#define FAULT(change) \
+    do { \
+        from_base(); \
+        change; \
+        CHECK(is_refused()); \
+    } while (0)
+
+/* ---- states to start from */
+
+/* Table 0: integers with gpc0, gpc0 rate, bytes in and out, entries 0 and 1. 1: strings up to 8 with all data types, entries 2 and 3.
+ * 2: IPv6, entry 4. 3: 64 bytes, entry 5. 4 to 6: integers without entries. 7, current: strings up to 64, entry 6. */
+static void eight_tables(struct state state) {
+    uint64_t values[35];
+    uint8_t key[65];
+    for (size_t i = 0; i < 35; i++) values[i] = i;
+    establish(state);
+    define(state, 10, "integers", PEERS_KEY_INTEGER, 4, 1u << 2 | 1u << 3 | 1u << 13 | 1u << 15);
+    update(state, 1, "\0\0\0\1", 4, values, 6);
+    update(state, 2, "\0\0\0\2", 4, values, 6);
+    define(state, 11, "strings", PEERS_KEY_STRING, 8, ALL);
+    update(state, 3, "\2ab", 3, values, 35);
+    update(state, 4, "\3abc", 4, values, 35);
+    define(state, 12, "addresses", PEERS_KEY_IPV6, 16, 0);
+    memset(key, 6, sizeof key);
+    update(state, 5, key, 16, values, 0);
+    define(state, 13, "cookies", PEERS_KEY_BINARY, 64, 0);
+    update(state, 6, key, 64, values, 0);
+    define(state, 14, "a", PEERS_KEY_INTEGER, 4, 0);
+    define(state, 15, "b", PEERS_KEY_INTEGER, 4, 0);
+    define(state, 16, "c", PEERS_KEY_INTEGER, 4, 0);
+    define(state, 17, "last", PEERS_KEY_STRING, 64, 0);
+    key[0] = 64;
+    update(state, 7, key, 65, values, 0);
+    keep_base();
+}
+
+static void one_table(struct state state) {
+    establish(state);
+    define(state, 1, "t", PEERS_KEY_INTEGER, 4, 0);
+    update(state, 1, "keys", 4, NULL, 0);
+    keep_base();
+}
+
+static void full(struct state state) {
+    establish(state);
+    define(state, 1, "t", PEERS_KEY_STRING, 64, 0);
+    for (uint8_t key = 0; key < 128; key++) update(state, key, (const uint8_t[]){2, key, 1}, 3, NULL, 0);
+    keep_base();
+}
+
+/* ---- tables */
+
+static void tables(void) {
+    SOUND((void)0);
+    SOUND(t->tables[4].name_len = 32);
+    SOUND(t->tables[7].name_len = 1);
+    SOUND(t->tables[7].name[4] = 255);
+    FAULT(t->tables[4].name_len = 33);
+    FAULT(t->tables[7].name_len = 0);
+    FAULT(t->tables[0].name_len = SIZE_MAX);
+    FAULT(t->tables[0].held = 2);
+    FAULT(t->tables[7].held = 255);
+    SOUND(t->tables[4].data_types = ALL);
+    FAULT(t->tables[4].data_types = ALL + 1);
+    FAULT(t->tables[4].data_types = UINT32_MAX);
+    SOUND(t->tables[4].timed = 1);
+    FAULT(t->tables[4].timed = 2);
+    FAULT(t->tables[4].timed = 255);
+    SOUND(t->tables[4].expiry = UINT32_MAX; t->tables[4].periods[7] = UINT32_MAX);
+}
+
+static void key_types(void) {
+    static const struct {
+        uint8_t type;
+        size_t least, most;
+    } types[] = {{0, 4, 4}, {1, 4, 4}, {2, 16, 16}, {3, 1, 64}, {4, 1, 64}};
+    for (size_t i = 0; i < 5; i++) {
+        SOUND(t->tables[4].key_type = types[i].type; t->tables[4].key_len = types[i].least);
+        SOUND(t->tables[4].key_type = types[i].type; t->tables[4].key_len = types[i].most);
+        FAULT(t->tables[4].key_type = types[i].type; t->tables[4].key_len = types[i].least - 1);
+        FAULT(t->tables[4].key_type = types[i].type; t->tables[4].key_len = types[i].most + 1);
+        FAULT(t->tables[4].key_type = types[i].type; t->tables[4].key_len = SIZE_MAX);
+    }
+    FAULT(t->tables[4].key_type = 5);
+    FAULT(t->tables[4].key_type = 255);
+}
+
+static void names(void) {
+    SOUND(memcpy(t->tables[4].name, "bx", 2); t->tables[4].name_len = 2);
+    SOUND(t->tables[4].name[0] = 'd');
+    FAULT(t->tables[4].name[0] = 'b');
+    FAULT(t->tables[6].name[0] = 'a');
+    FAULT(memcpy(t->tables[0].name, t->tables[7].name, 32); t->tables[0].name_len = t->tables[7].name_len);
+    FAULT(t->tables[4].name[0] = 'b'; t->tables[5].name[1] = 9);
+}
+
+/* ---- entries */
+
+static void entries(void) {
+    SOUND(t->entries[0].held = 0);
+    FAULT(t->entries[0].held = 2);
+    FAULT(t->entries[127].held = 2);
+    FAULT(t->entries[127].held = 255);
+    SOUND(t->entries[0].table = 4);
+    SOUND(t->entries[2].table = 7);
+    FAULT(t->entries[0].table = 8);
+    FAULT(t->entries[0].table = SIZE_MAX);
+    FAULT(t->entries[0].table = 2);
+    SOUND(t->entries[2].key_len = 0; memset(t->entries[2].key, 0, 64));
+    SOUND(t->entries[2].key_len = 8);
+    FAULT(t->entries[2].key_len = 9);
+    FAULT(t->entries[2].key_len = SIZE_MAX);
+    FAULT(t->entries[0].key_len = 3; t->entries[0].key[3] = 0);
+    FAULT(t->entries[0].key_len = 5);
+    FAULT(t->entries[4].key_len = 15; t->entries[4].key[15] = 0);
+    FAULT(t->entries[4].key_len = 17);
+    FAULT(t->entries[5].key_len = 63; t->entries[5].key[63] = 0);
+    FAULT(t->entries[5].key_len = 65);
+    FAULT(t->entries[6].key_len = 65);
+    SOUND(t->entries[0].key[3] = 255);
+    FAULT(t->entries[0].key[4] = 1);
+    FAULT(t->entries[0].key[63] = 128);
+    FAULT(t->entries[2].key[2] = 1);
+    FAULT(t->entries[4].key[16] = 255);
+}
+
+static void values(void) {
+    for (size_t slot = 0; slot < PEERS_VALUES; slot++) {
+        SOUND(t->entries[2].values[slot] = UINT32_MAX);
+        if (slot == PEERS_SLOT_BYTES_IN_CNT || slot == PEERS_SLOT_BYTES_OUT_CNT) SOUND(t->entries[2].values[slot] = UINT64_MAX);
+        else FAULT(t->entries[2].values[slot] = (uint64_t)UINT32_MAX + 1);
+        /* table 3 has no values */
+        SOUND(t->entries[5].values[slot] = UINT64_MAX);
+    }
+    SOUND(t->entries[2].server_id = INT32_MIN);
+    SOUND(t->entries[2].server_id = INT32_MAX);
+}
+
+static void twins(void) {
+    SOUND(t->entries[0].key[3] = 3);
+    SOUND(memcpy(t->entries[3].key, t->entries[2].key, 64));
+    SOUND(t->entries[0].key[3] = 2; t->entries[0].table = 4);
+    SOUND(t->entries[0].key[3] = 2; t->entries[0].held = 0);
+    FAULT(t->entries[0].key[3] = 2);
+    FAULT(t->entries[127] = t->entries[0]);
+    FAULT(t->entries[7] = t->entries[6]);
+    FAULT(memcpy(t->entries[3].key, t->entries[2].key, 64); t->entries[3].key_len = 2);
+}
+
+static void twins_in_a_full_store(void) {
+    SOUND((void)0);
+    FAULT(t->entries[127].key[0] = 0);
+    FAULT(t->entries[0].key[0] = 1);
+    FAULT(t->entries[127].key[0] = 126);
+    FAULT(t->entries[64].key[0] = 63);
+}
+
+/* ---- the record */
+
+static void connection(void) {
+    struct peers_connection *c = &s->connection;
+    for (unsigned phase = 0; phase < 256; phase++) {
+        if (phase <= PEERS_ESTABLISHED) SOUND(c->phase = (uint8_t)phase);
+        else FAULT(c->phase = (uint8_t)phase);
+    }
+    for (unsigned number = 0; number < 256; number++) {
+        bool closes = number == 0 || number == 1 || number == 3 || (10 <= number && number <= 15) || (20 <= number && number <= 29);
+        if (closes) SOUND(c->closed = 1; c->number = (uint8_t)number);
+        else FAULT(c->closed = 1; c->number = (uint8_t)number);
+        if (number > 0) FAULT(c->number = (uint8_t)number);
+        if (number > 1) FAULT(c->closed = (uint8_t)number);
+    }
+    SOUND(c->current = 0);
+    SOUND(c->current = 1);
+    FAULT(c->current = 9);
+    FAULT(c->current = SIZE_MAX);
+}
+
+static void peer_names(void) {
+    struct peers_connection *c = &s->connection;
+    SOUND(c->local_len = 1);
+    SOUND(c->remote_len = 1);
+    SOUND(memset(c->local, 33, 32); c->local_len = 32);
+    SOUND(memset(c->remote, 126, 32); c->remote_len = 32);
+    SOUND(c->local[4] = 255);
+    FAULT(c->local_len = 0);
+    FAULT(c->remote_len = 0);
+    FAULT(memset(c->local, 33, 32); c->local_len = 33);
+    FAULT(memset(c->remote, 126, 32); c->remote_len = 33);
+    FAULT(c->local_len = SIZE_MAX);
+    FAULT(c->remote_len = SIZE_MAX);
+    FAULT(c->local[0] = 32);
+    FAULT(c->local[3] = 127);
+    FAULT(c->remote[0] = 127);
+    FAULT(c->remote[3] = 32);
+}
+
+static void bindings(void) {
+    struct peers_binding *b = s->connection.bindings;
+    SOUND(b[0].bound = 0);
+    SOUND(b[0].updated = 0);
+    SOUND(b[0].previous = UINT32_MAX);
+    FAULT(b[0].bound = 2);
+    FAULT(b[7].bound = 255);
+    FAULT(b[0].updated = 2);
+    FAULT(b[7].updated = 255);
+    SOUND(b[0].id = 18);
+    SOUND(b[0].id = 17; b[0].bound = 0);
+    FAULT(b[0].id = 17);
+    FAULT(b[0].id = 11);
+    FAULT(b[7].id = 16);
+    /* the current table without an ID */
+    FAULT(b[7].bound = 0);
+}
+
+/* With one table held, at place 0. */
+static void tables_not_held(void) {
+    struct peers_binding *b = s->connection.bindings;
+    SOUND(memset(&t->tables[1], 255, sizeof t->tables[1]); t->tables[1].held = 0);
+    SOUND(memset(&t->entries[1], 255, sizeof t->entries[1]); t->entries[1].held = 0);
+    SOUND(b[1].id = 5; b[7].previous = 5);
+    FAULT(b[1].bound = 1);
+    FAULT(b[7].bound = 1);
+    FAULT(b[1].updated = 1);
+    FAULT(b[7].updated = 1);
+    FAULT(s->connection.current = 2);
+    FAULT(s->connection.current = 8);
+    FAULT(t->entries[0].table = 1);
+    FAULT(t->entries[0].table = 7);
+    FAULT(t->tables[0].held = 0; s->connection.current = 0; b[0].bound = 0; b[0].updated = 0);
+    SOUND(t->tables[0].held = 0; s->connection.current = 0; b[0].bound = 0; b[0].updated = 0; t->entries[0].held = 0);
+}
+
+/* ---- unfinished bytes */
+
+static void hold(const void *bytes, size_t len) {
+    memcpy(s->buffer, bytes, len);
+    s->len = len;
+}
+
+static void unfinished_message(void) {
+    static const uint8_t overflow[] = {10, 128, 255, 255, 255, 255, 255, 255, 255, 255, 255, 255};
+    uint8_t longest[1028] = {10, 200, 0xF0, 0x31};
+    SOUND(hold(longest, 1027));
+    FAULT(hold(longest, 1027); s->len = 1028);
+    FAULT(hold(longest, 1027); s->len = SIZE_MAX);
+    SOUND(memset(s->buffer, 255, sizeof s->buffer));
+    SOUND(hold("\0", 1));
+    SOUND(hold("\x4D", 1));
+    FAULT(hold("\0\0", 2));
+    FAULT(hold("\0\4", 2));
+    FAULT(hold("\0\5", 2));
+    FAULT(hold("\1\0", 2));
+    FAULT(hold("\1\2", 2));
+    SOUND(hold("\x0A\x80", 2));
+    FAULT(hold("\x0A\x7F", 2));
+    SOUND(hold(overflow, 11));
+    FAULT(hold(overflow, 12));
+    SOUND(hold("\x0A\x80\xF0\x31", 4));
+    FAULT(hold("\x0A\x80\xF1\x31", 4));
+    FAULT(hold("\x0A\x80\0", 3));
+    SOUND(hold("\x0A\x80\2\1", 4));
+    FAULT(hold("\x0A\x80\2\1\1", 5));
+    /* a first part ends a message */
+    FAULT(hold("\0\4\x0A", 3));
+    FAULT(hold("\x0A\x80\0\x0A\x80", 5));
+    /* a closed record */
+    SOUND(s->connection.closed = 1);
+    FAULT(s->connection.closed = 1; hold("\0", 1));
+}
+
+static void unfinished_hello(void) {
+    char longest[195];
+    memset(longest, 'x', sizeof longest);
+    longest[64] = longest[129] = '\n';
+    SOUND((void)0);
+    SOUND(hold(longest, 194));
+    FAULT(hold(longest, 195));
+    SOUND(hold("\n\n", 2));
+    FAULT(hold("\n\n\n", 3));
+    FAULT(hold("a\nb\nc\nd", 7));
+    SOUND(hold(longest, 64));
+    longest[64] = 'x';
+    FAULT(hold(longest, 65));
+}
+
+static void unfinished_status(void) {
+    SOUND((void)0);
+    SOUND(hold("xyz", 3));
+    FAULT(hold("200\n", 4));
+    FAULT(hold("xyz\n", 4));
+    FAULT(hold("200\nx", 5));
+}
+
+/* ---- the record of a refused opening */
+
+static void refused_opening(void) {
+    struct peers_connection *c = &s->connection;
+    SOUND((void)0);
+    SOUND(c->number = 1);
+    FAULT(c->number = 0);
+    FAULT(c->number = 2);
+    FAULT(c->number = 10);
+    FAULT(c->closed = 0);
+    FAULT(c->closed = 0; c->number = 0);
+    FAULT(c->phase = 1);
+    FAULT(c->current = 1);
+    FAULT(c->local_len = 1);
+    FAULT(c->remote_len = 1);
+    FAULT(c->bindings[7].bound = 1);
+    FAULT(c->bindings[0].updated = 1);
+    FAULT(hold("\0", 1));
+    FAULT(t->tables[0].held = 2);
+}
+
+void test_unsound(void) {
+    struct state state = lend_state();
+    uint8_t room[PEERS_OPENING_ROOM];
+    s = state.session;
+    t = state.store;
+    eight_tables(state);
+    tables();
+    key_types();
+    names();
+    entries();
+    values();
+    twins();
+    connection();
+    peer_names();
+    bindings();
+    one_table(state);
+    tables_not_held();
+    unfinished_message();
+    full(state);
+    twins_in_a_full_store();
+    open_answerer(state);
+    keep_base();
+    unfinished_hello();
+    open_caller(state);
+    keep_base();
+    unfinished_status();
+    *s = peers_open_answerer((const uint8_t *)"", 0, (const uint8_t *)"", 0, room, sizeof room).session;
+    keep_base();
+    refused_opening();
+    give_back_state(state);
+}

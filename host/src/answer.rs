@@ -1,0 +1,227 @@
+//! What a call answers.
+
+use crate::layout::Outcome;
+use std::fmt;
+
+/// How an update was committed.
+#[derive(Clone, Copy, Debug, PartialEq, Eq, Hash)]
+pub enum Commit {
+    /// The key wasn't held: the entry is new.
+    New,
+    /// The key was held: its values were replaced.
+    Replaced,
+}
+
+/// The answer of a call.
+#[derive(Clone, Copy, Debug, PartialEq, Eq, Hash)]
+pub enum Answer {
+    /// More bytes are wanted.
+    More,
+    /// The peer's hello was accepted.
+    Hello {
+        /// The peer's process number.
+        process: u32,
+        /// The peer's relative process number.
+        relative: u32,
+    },
+    /// The peer's status is 200.
+    Status,
+    /// The peer asks for a resynchronisation.
+    Request,
+    /// The peer's resynchronisation is finished.
+    Finished,
+    /// The peer's resynchronisation is finished in part.
+    Partial,
+    /// The peer confirms the end of a resynchronisation.
+    Confirmed,
+    /// A heartbeat.
+    Heartbeat,
+    /// The peer's error message: the session is closed with 0.
+    Error {
+        /// Its type: 0 protocol error, 1 size limit.
+        kind: u8,
+    },
+    /// A definition: this table is current.
+    Table {
+        /// The table's place.
+        place: usize,
+    },
+    /// A switch: this table is current.
+    Switch {
+        /// The table's place.
+        place: usize,
+    },
+    /// An update was committed; the reply is its acknowledgement.
+    Update {
+        /// The table's place.
+        table: usize,
+        /// The update ID.
+        id: u32,
+        /// The entry's place.
+        entry: usize,
+        /// New or replaced.
+        commit: Commit,
+    },
+    /// An acknowledgement.
+    Acknowledgement {
+        /// The table's ID.
+        id: u32,
+        /// The update ID.
+        update: u32,
+    },
+    /// A message of another type, skipped by its length.
+    Skipped {
+        /// Its type.
+        kind: u8,
+    },
+    /// A refusal.
+    Refused(Refusal),
+}
+
+/// Why a call refused.
+///
+/// The first four change nothing (opening gives no session); the others close the session.
+#[derive(Clone, Copy, Debug, PartialEq, Eq, Hash)]
+#[repr(u8)]
+pub enum Refusal {
+    /// Too little room for a reply.
+    Room = 1,
+    /// The session is closed.
+    Closed = 2,
+    /// Opening: a name outside the rule.
+    Name = 3,
+    /// Record or store hold what the rules don't allow.
+    Unsound = 4,
+    /// The hello is malformed.
+    Hello = 10,
+    /// The hello's version is unknown.
+    Version = 11,
+    /// The hello is for another peer.
+    Addressed = 12,
+    /// The hello is from another peer.
+    Sender = 13,
+    /// The peer refused us.
+    Status = 14,
+    /// The status is malformed.
+    StatusForm = 15,
+    /// Unknown class or type.
+    Header = 20,
+    /// The body's length overflows.
+    Length = 21,
+    /// The body is over 1,024 bytes.
+    Size = 22,
+    /// The body ends before a field is whole.
+    Cut = 23,
+    /// A field overflows or is out of range.
+    Range = 24,
+    /// The held table of this name is another.
+    Disagrees = 25,
+    /// A new name, and all table places are held.
+    Tables = 26,
+    /// No current table, or a switch to an unbound ID.
+    Unbound = 27,
+    /// An incremental update without a previous ID.
+    Previous = 28,
+    /// A new key, and all entry places are held.
+    Entries = 29,
+}
+
+impl Refusal {
+    /// All refusals, ascending.
+    pub const ALL: [Refusal; 20] = [
+        Refusal::Room,
+        Refusal::Closed,
+        Refusal::Name,
+        Refusal::Unsound,
+        Refusal::Hello,
+        Refusal::Version,
+        Refusal::Addressed,
+        Refusal::Sender,
+        Refusal::Status,
+        Refusal::StatusForm,
+        Refusal::Header,
+        Refusal::Length,
+        Refusal::Size,
+        Refusal::Cut,
+        Refusal::Range,
+        Refusal::Disagrees,
+        Refusal::Tables,
+        Refusal::Unbound,
+        Refusal::Previous,
+        Refusal::Entries,
+    ];
+
+    /// Its number.
+    pub fn number(self) -> u8 {
+        self as u8
+    }
+
+    /// The refusal of a number, if there is one.
+    pub fn of(number: u8) -> Option<Refusal> {
+        Refusal::ALL.into_iter().find(|r| r.number() == number)
+    }
+}
+
+impl fmt::Display for Refusal {
+    fn fmt(&self, f: &mut fmt::Formatter<'_>) -> fmt::Result {
+        write!(f, "refused with {}: {:?}", self.number(), self)
+    }
+}
+
+impl std::error::Error for Refusal {}
+
+impl Answer {
+    /// The answer of a number and its values. The library gives no other numbers, and values that fit.
+    pub(crate) fn of(outcome: &Outcome) -> Answer {
+        let values = &outcome.values;
+        match outcome.number {
+            100 => Answer::More,
+            101 => Answer::Hello {
+                process: values[0] as u32,
+                relative: values[1] as u32,
+            },
+            102 => Answer::Status,
+            103 => Answer::Request,
+            104 => Answer::Finished,
+            105 => Answer::Partial,
+            106 => Answer::Confirmed,
+            107 => Answer::Heartbeat,
+            108 => Answer::Error {
+                kind: values[0] as u8,
+            },
+            109 => Answer::Table {
+                place: values[0] as usize,
+            },
+            110 => Answer::Switch {
+                place: values[0] as usize,
+            },
+            111 => Answer::update(values),
+            112 => Answer::Acknowledgement {
+                id: values[0] as u32,
+                update: values[1] as u32,
+            },
+            113 => Answer::Skipped {
+                kind: values[0] as u8,
+            },
+            number => Answer::refused(number),
+        }
+    }
+
+    fn update(values: &[u64; 4]) -> Answer {
+        Answer::Update {
+            table: values[0] as usize,
+            id: values[1] as u32,
+            entry: values[2] as usize,
+            commit: if values[3] == 0 {
+                Commit::New
+            } else {
+                Commit::Replaced
+            },
+        }
+    }
+
+    fn refused(number: u32) -> Answer {
+        let refusal = u8::try_from(number).ok().and_then(Refusal::of);
+        Answer::Refused(refusal.expect("the library gives no other number"))
+    }
+}

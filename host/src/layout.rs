@@ -1,0 +1,146 @@
+//! The structs that the library reads and writes, field for field as in `include/peers.h`.
+//!
+//! Every content is allowed: what the rules don't allow is refused with [`crate::Refusal::Unsound`].
+
+/// Places for tables.
+pub const TABLES: usize = 8;
+/// Places for entries.
+pub const ENTRIES: usize = 128;
+/// The most bytes of a table's or a peer's name.
+pub const NAME_MAX: usize = 32;
+/// The most bytes of a key.
+pub const KEY_MAX: usize = 64;
+/// How many data types are rates.
+pub const RATES: usize = 8;
+/// Integers of an entry, the server ID aside.
+pub const VALUES: usize = 34;
+/// The most unfinished bytes.
+pub const UNFINISHED_MAX: usize = 1027;
+
+/// A table place.
+#[repr(C)]
+#[derive(Clone, Copy, Debug, PartialEq, Eq)]
+pub struct Table {
+    /// 1 for a held table, 0 for a free place.
+    pub held: u8,
+    /// The key type's number.
+    pub key_type: u8,
+    /// 1 where expiry and periods are known.
+    pub timed: u8,
+    /// Bits 0 to 18.
+    pub data_types: u32,
+    /// The length of the name.
+    pub name_len: usize,
+    /// The length of the keys; for strings the largest.
+    pub key_len: usize,
+    /// The expiry in milliseconds.
+    pub expiry: u32,
+    /// The periods in milliseconds, by rate.
+    pub periods: [u32; RATES],
+    /// The name, at the front.
+    pub name: [u8; NAME_MAX],
+}
+
+/// An entry place.
+#[repr(C)]
+#[derive(Clone, Copy, Debug, PartialEq, Eq)]
+pub struct Entry {
+    /// 1 for a held entry, 0 for a free place.
+    pub held: u8,
+    /// The server ID, if the table has it.
+    pub server_id: i32,
+    /// The table's place.
+    pub table: usize,
+    /// The length of the key.
+    pub key_len: usize,
+    /// The key, at the front.
+    pub key: [u8; KEY_MAX],
+    /// The integers of the table's data types, by slot.
+    pub values: [u64; VALUES],
+}
+
+/// The store.
+#[repr(C)]
+#[derive(Clone, Copy, Debug, PartialEq, Eq)]
+pub struct Store {
+    /// The table places.
+    pub tables: [Table; TABLES],
+    /// The entry places.
+    pub entries: [Entry; ENTRIES],
+}
+
+/// What the session knows of the table at the same place of the store.
+#[repr(C)]
+#[derive(Clone, Copy, Debug, PartialEq, Eq)]
+pub struct Binding {
+    /// 1 where `id` is bound to the table.
+    pub bound: u8,
+    /// 1 where the table had an update in this session.
+    pub updated: u8,
+    /// The sender's ID of the table.
+    pub id: u32,
+    /// The last committed update ID.
+    pub previous: u32,
+}
+
+/// The session record but for its unfinished bytes.
+#[repr(C)]
+#[derive(Clone, Copy, Debug, PartialEq, Eq)]
+pub struct Connection {
+    /// 0 awaiting a hello, 1 awaiting a status, 2 past the handshake.
+    pub phase: u8,
+    /// 1 for a closed session.
+    pub closed: u8,
+    /// What a closed session was closed with.
+    pub number: u8,
+    /// 0 without a current table, else its place plus 1.
+    pub current: usize,
+    /// The length of our name.
+    pub local_len: usize,
+    /// The length of the accepted peer's name.
+    pub remote_len: usize,
+    /// Our name, at the front.
+    pub local: [u8; NAME_MAX],
+    /// The accepted peer's name, at the front.
+    pub remote: [u8; NAME_MAX],
+    /// IDs by table place.
+    pub bindings: [Binding; TABLES],
+}
+
+/// The session record.
+#[repr(C)]
+#[derive(Clone, Copy, Debug, PartialEq, Eq)]
+pub struct Session {
+    /// All but the unfinished bytes.
+    pub connection: Connection,
+    /// How many bytes of `buffer` are unfinished.
+    pub len: usize,
+    /// The unfinished bytes, at the front.
+    pub buffer: [u8; UNFINISHED_MAX],
+}
+
+/// What a call gives back.
+#[repr(C)]
+#[derive(Clone, Copy, Debug, PartialEq, Eq)]
+pub struct Outcome {
+    /// Bytes of the piece that were taken.
+    pub taken: usize,
+    /// The length of the reply.
+    pub reply_len: usize,
+    /// The answer's number.
+    pub number: u32,
+    /// How many values the answer has.
+    pub count: usize,
+    /// The answer's values, zeros after them.
+    pub values: [u64; 4],
+}
+
+/// What opening gives back.
+#[repr(C)]
+#[derive(Clone, Copy, Debug, PartialEq, Eq)]
+pub struct Opened {
+    /// The record.
+    pub session: Session,
+    /// The outcome, with no bytes taken.
+    pub outcome: Outcome,
+}

@@ -1,0 +1,34 @@
+//! A receiver of stick tables over the HAProxy peers protocol, 2.1.
+//!
+//! The host owns sockets and timers. It keeps one [`Session`] for each connection and one [`Store`], and gives
+//! [`Session::read`] the bytes as they come:
+//!
+//! ```ignore
+//! let mut store = Store::boxed();
+//! let mut session = Session::answerer(b"east", b"west")?;
+//! let mut room = [0; peers::READING_ROOM];
+//! while !rest.is_empty() && session.closed_with().is_none() {
+//!     let step = session.read(&mut store, rest, &mut room);
+//!     socket.write_all(step.reply)?;
+//!     rest = &rest[step.taken..];
+//! }
+//! ```
+//!
+//! The work is done by the static library `libpeers.a`, each of whose functions is proved to meet its contract.
+//! Nothing is global: calls on different sessions and stores can run at the same time.
+
+#![deny(missing_docs)]
+#![deny(unsafe_code)]
+
+mod answer;
+mod data;
+#[allow(unsafe_code)]
+mod ffi;
+pub mod layout;
+mod session;
+mod store;
+
+pub use answer::{Answer, Commit, Refusal};
+pub use data::{DataType, KeyType};
+pub use session::{Session, Step, OPENING_ROOM, READING_ROOM};
+pub use store::{Entry, Store, Table, Value};

@@ -1,0 +1,128 @@
+//! The session record, opening and reading.
+
+use crate::answer::{Answer, Refusal};
+use crate::ffi;
+use crate::layout;
+use crate::store::Store;
+
+/// Room that opening asks for.
+pub const OPENING_ROOM: usize = 101;
+/// Room that a reading call asks for.
+pub const READING_ROOM: usize = 12;
+
+/// The record of one connection.
+#[derive(Clone, Debug, PartialEq, Eq)]
+pub struct Session {
+    record: layout::Session,
+}
+
+/// What a reading call gives back.
+#[derive(Clone, Copy, Debug, PartialEq, Eq)]
+pub struct Step<'a> {
+    /// Bytes of the piece that were taken. The others are offered again.
+    pub taken: usize,
+    /// The bytes that go to the peer, at the front of the room.
+    pub reply: &'a [u8],
+    /// The answer.
+    pub answer: Answer,
+}
+
+impl Session {
+    /// Opens a session that reads the peer's hello, where our name is `local` and the one accepted peer's is `remote`: each 1 to 32
+    /// bytes from 33 to 126.
+    ///
+    /// # Errors
+    ///
+    /// [`Refusal::Name`].
+    pub fn answerer(local: &[u8], remote: &[u8]) -> Result<Session, Refusal> {
+        let mut room = [0; OPENING_ROOM];
+        opened(ffi::open_answerer(local, remote, &mut room)).map(|(session, _)| session)
+    }
+
+    /// Opens a session that reads the peer's status, and gives the hello for the peer with our two process numbers, at the front of
+    /// the room.
+    ///
+    /// # Errors
+    ///
+    /// [`Refusal::Room`] for a room under [`OPENING_ROOM`], else [`Refusal::Name`]; the room is then as it was.
+    pub fn caller<'a>(
+        local: &[u8],
+        remote: &[u8],
+        process: u32,
+        relative: u32,
+        room: &'a mut [u8],
+    ) -> Result<(Session, &'a [u8]), Refusal> {
+        let (session, len) = opened(ffi::open_caller(local, remote, process, relative, room))?;
+        Ok((session, &room[..len]))
+    }
+
+    /// Takes bytes up to the end of one message, or up to the byte that shows a refusal, or all of them.
+    ///
+    /// The room is [`READING_ROOM`] bytes or more; past the reply it stays as it was.
+    pub fn read<'a>(&mut self, store: &mut Store, piece: &[u8], room: &'a mut [u8]) -> Step<'a> {
+        let outcome = ffi::read(&mut self.record, store.layout_mut(), piece, room);
+        Step {
+            taken: outcome.taken,
+            reply: &room[..outcome.reply_len],
+            answer: Answer::of(&outcome),
+        }
+    }
+
+    /// What a closed session was closed with: 0 after the peer's error message, else a refusal's number.
+    pub fn closed_with(&self) -> Option<u8> {
+        let connection = &self.record.connection;
+        (connection.closed == 1).then_some(connection.number)
+    }
+
+    /// Whether the handshake is done.
+    pub fn is_established(&self) -> bool {
+        self.record.connection.phase == 2
+    }
+
+    /// The place of the current table.
+    pub fn current(&self) -> Option<usize> {
+        self.record.connection.current.checked_sub(1)
+    }
+
+    /// The sender's ID of the table at a place.
+    pub fn bound_id(&self, place: usize) -> Option<u32> {
+        let binding = self.record.connection.bindings.get(place)?;
+        (binding.bound == 1).then_some(binding.id)
+    }
+
+    /// The last committed update ID of the table at a place, in this session.
+    pub fn last_update(&self, place: usize) -> Option<u32> {
+        let binding = self.record.connection.bindings.get(place)?;
+        (binding.updated == 1).then_some(binding.previous)
+    }
+
+    /// The bytes of a message that isn't whole.
+    pub fn unfinished(&self) -> &[u8] {
+        let buffer = &self.record.buffer;
+        &buffer[..self.record.len.min(buffer.len())]
+    }
+
+    /// The record as the library has it.
+    pub fn layout(&self) -> &layout::Session {
+        &self.record
+    }
+
+    /// The record as the library has it, to be changed: any content is allowed.
+    pub fn layout_mut(&mut self) -> &mut layout::Session {
+        &mut self.record
+    }
+}
+
+impl From<layout::Session> for Session {
+    fn from(record: layout::Session) -> Session {
+        Session { record }
+    }
+}
+
+/// The session and the length of the reply, or the refusal.
+fn opened(opened: layout::Opened) -> Result<(Session, usize), Refusal> {
+    match Answer::of(&opened.outcome) {
+        Answer::Refused(refusal) => Err(refusal),
+        _ => Ok((opened.session.into(), opened.outcome.reply_len)),
+    }
+}

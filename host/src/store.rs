@@ -1,0 +1,210 @@
+//! The store: tables and entries, with names for what they hold.
+
+use crate::data::{DataType, KeyType};
+use crate::ffi;
+use crate::layout;
+
+/// The tables and entries that sessions fill. It takes 46 KB: keep it in a box or in a place of its own.
+#[derive(Clone, PartialEq, Eq)]
+pub struct Store {
+    store: layout::Store,
+}
+
+/// A held table.
+#[derive(Clone, Copy, Debug)]
+pub struct Table<'a> {
+    place: usize,
+    table: &'a layout::Table,
+}
+
+/// A held entry, with its table.
+#[derive(Clone, Copy, Debug)]
+pub struct Entry<'a> {
+    place: usize,
+    entry: &'a layout::Entry,
+    table: Table<'a>,
+}
+
+/// A value of an entry.
+#[derive(Clone, Copy, Debug, PartialEq, Eq, Hash)]
+pub enum Value {
+    /// The server ID.
+    Server(i32),
+    /// A counter or a tag.
+    Number(u64),
+    /// A rate.
+    Rate {
+        /// Elapsed milliseconds of the current period.
+        elapsed: u64,
+        /// The count of the current period.
+        current: u64,
+        /// The count of the previous period.
+        previous: u64,
+    },
+}
+
+impl Store {
+    /// An empty store.
+    pub fn new() -> Store {
+        Store {
+            store: ffi::empty_store(),
+        }
+    }
+
+    /// An empty store in a box.
+    pub fn boxed() -> Box<Store> {
+        Box::new(Store::new())
+    }
+
+    /// The held tables, by place.
+    pub fn tables(&self) -> impl Iterator<Item = Table<'_>> {
+        (0..layout::TABLES).filter_map(|place| self.table(place))
+    }
+
+    /// The held table at a place.
+    pub fn table(&self, place: usize) -> Option<Table<'_>> {
+        let table = self.store.tables.get(place)?;
+        (table.held == 1).then_some(Table { place, table })
+    }
+
+    /// The held table of a name.
+    pub fn named(&self, name: &[u8]) -> Option<Table<'_>> {
+        self.tables().find(|table| table.name() == name)
+    }
+
+    /// The held entries, by place.
+    pub fn entries(&self) -> impl Iterator<Item = Entry<'_>> {
+        (0..layout::ENTRIES).filter_map(|place| self.entry(place))
+    }
+
+    /// The held entry at a place.
+    pub fn entry(&self, place: usize) -> Option<Entry<'_>> {
+        let entry = self.store.entries.get(place)?;
+        let table = self.table(entry.table)?;
+        (entry.held == 1).then_some(Entry {
+            place,
+            entry,
+            table,
+        })
+    }
+
+    /// The store as the library has it.
+    pub fn layout(&self) -> &layout::Store {
+        &self.store
+    }
+
+    /// The store as the library has it, to be changed: any content is allowed.
+    pub fn layout_mut(&mut self) -> &mut layout::Store {
+        &mut self.store
+    }
+}
+
+impl Default for Store {
+    fn default() -> Store {
+        Store::new()
+    }
+}
+
+impl From<layout::Store> for Store {
+    fn from(store: layout::Store) -> Store {
+        Store { store }
+    }
+}
+
+impl std::fmt::Debug for Store {
+    fn fmt(&self, f: &mut std::fmt::Formatter<'_>) -> std::fmt::Result {
+        f.debug_struct("Store")
+            .field("tables", &self.tables().collect::<Vec<_>>())
+            .field("entries", &self.entries().count())
+            .finish()
+    }
+}
+
+impl<'a> Table<'a> {
+    /// Its place, which answers name.
+    pub fn place(&self) -> usize {
+        self.place
+    }
+
+    /// Its name.
+    pub fn name(&self) -> &'a [u8] {
+        front(&self.table.name, self.table.name_len)
+    }
+
+    /// The type of its keys; a sound store's tables have one.
+    pub fn key_type(&self) -> Option<KeyType> {
+        KeyType::of(self.table.key_type)
+    }
+
+    /// The length of its keys; for strings the largest.
+    pub fn key_len(&self) -> usize {
+        self.table.key_len
+    }
+
+    /// Whether its entries have values of a data type.
+    pub fn has(&self, data_type: DataType) -> bool {
+        self.table.data_types & (1 << data_type.number()) != 0
+    }
+
+    /// The data types of its entries, ascending.
+    pub fn data_types(self) -> impl Iterator<Item = DataType> + 'a {
+        DataType::ALL.into_iter().filter(move |t| self.has(*t))
+    }
+
+    /// The expiry in milliseconds, if its last definition had one.
+    pub fn expiry(&self) -> Option<u32> {
+        (self.table.timed == 1).then_some(self.table.expiry)
+    }
+
+    /// The period of a rate in milliseconds, if its last definition had one.
+    pub fn period(&self, data_type: DataType) -> Option<u32> {
+        let place = data_type.period_place()?;
+        let known = self.table.timed == 1 && self.has(data_type);
+        known.then_some(self.table.periods[place])
+    }
+}
+
+impl<'a> Entry<'a> {
+    /// Its place, which answers name.
+    pub fn place(&self) -> usize {
+        self.place
+    }
+
+    /// Its table.
+    pub fn table(&self) -> Table<'a> {
+        self.table
+    }
+
+    /// Its key.
+    pub fn key(&self) -> &'a [u8] {
+        front(&self.entry.key, self.entry.key_len)
+    }
+
+    /// Its value of a data type, if its table has that type.
+    pub fn value(&self, data_type: DataType) -> Option<Value> {
+        self.table.has(data_type).then(|| self.held(data_type))
+    }
+
+    /// Its data types with their values, ascending.
+    pub fn values(self) -> impl Iterator<Item = (DataType, Value)> + 'a {
+        self.table.data_types().map(move |t| (t, self.held(t)))
+    }
+
+    fn held(&self, data_type: DataType) -> Value {
+        let values = &self.entry.values;
+        match data_type.slot() {
+            None => Value::Server(self.entry.server_id),
+            Some(slot) if data_type.is_rate() => Value::Rate {
+                elapsed: values[slot],
+                current: values[slot + 1],
+                previous: values[slot + 2],
+            },
+            Some(slot) => Value::Number(values[slot]),
+        }
+    }
+}
+
+/// The first bytes of an array; all of it where the length is past it.
+fn front(bytes: &[u8], len: usize) -> &[u8] {
+    &bytes[..len.min(bytes.len())]
+}

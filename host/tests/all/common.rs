@@ -1,0 +1,140 @@
+//! Messages to send, and sessions to send them to.
+
+use peers::{Answer, Session, Store, READING_ROOM};
+
+/// The content of a room before a call.
+pub const FILL: u8 = 0xAA;
+
+/// The hello of `west` to `east`.
+pub const HELLO: &[u8] = b"HAProxyS 2.1\neast\nwest 7 0\n";
+
+/// The stream of the listing.
+pub fn listing() -> Vec<u8> {
+    let mut bytes = HELLO.to_vec();
+    bytes.extend([
+        0x0A, 0x82, 0x0A, 1, 2, 0x74, 0x31, 0, 4, 4, 0xF0, 0x97, 0x1C,
+    ]);
+    bytes.extend([
+        0x0A, 0x80, 0x0B, 0xFF, 0xFF, 0xFF, 0xFF, 0, 0, 0, 0x2A, 0xF4, 0x94, 1,
+    ]);
+    bytes.extend([0x0A, 0x81, 5, 0, 0, 0, 0x2A, 5]);
+    bytes.extend([0, 1]);
+    bytes
+}
+
+/// An encoded integer.
+pub fn int(value: u64) -> Vec<u8> {
+    if value < 240 {
+        return vec![value as u8];
+    }
+    let mut bytes = vec![240 + (value % 16) as u8];
+    let mut rest = (value - 240) / 16;
+    while rest >= 128 {
+        bytes.push(128 + (rest % 128) as u8);
+        rest = (rest - 128) / 128;
+    }
+    bytes.push(rest as u8);
+    bytes
+}
+
+/// A stick table message.
+pub fn message(kind: u8, body: &[u8]) -> Vec<u8> {
+    [&[10, kind], &int(body.len() as u64)[..], body].concat()
+}
+
+/// A definition, with what follows the data types.
+pub fn define(
+    id: u32,
+    name: &[u8],
+    key_type: u8,
+    key_len: u8,
+    types: u32,
+    times: &[u64],
+) -> Vec<u8> {
+    let mut body = int(id.into());
+    body.push(name.len() as u8);
+    body.extend(name);
+    body.extend([key_type, key_len]);
+    body.extend(int(types.into()));
+    body.extend(times.iter().flat_map(|&time| int(time)));
+    message(130, &body)
+}
+
+/// An update with a key as it stands in the body.
+pub fn update(id: u32, key: &[u8], values: &[u64]) -> Vec<u8> {
+    let mut body = id.to_be_bytes().to_vec();
+    body.extend(key);
+    body.extend(values.iter().flat_map(|&value| int(value)));
+    message(128, &body)
+}
+
+/// What one session and one store came to.
+#[derive(Clone, PartialEq, Eq, Debug)]
+pub struct State {
+    pub session: Session,
+    pub store: Box<Store>,
+}
+
+/// An answer with its reply.
+pub type Told = (Answer, Vec<u8>);
+
+impl State {
+    /// An answerer `east` that accepts `west`, and an empty store.
+    pub fn answerer() -> State {
+        State {
+            session: Session::answerer(b"east", b"west").expect("the names are good"),
+            store: Store::boxed(),
+        }
+    }
+
+    /// A caller `east` of `west`, and an empty store.
+    pub fn caller() -> State {
+        let mut room = [0; 101];
+        let (session, _) =
+            Session::caller(b"east", b"west", 7, 0, &mut room).expect("the names are good");
+        State {
+            session,
+            store: Store::boxed(),
+        }
+    }
+
+    /// An answerer past its handshake.
+    pub fn established() -> State {
+        let mut state = State::answerer();
+        assert_eq!(state.offer(HELLO).len(), 1);
+        state
+    }
+
+    /// One call; the room past the reply must stay.
+    pub fn call(&mut self, piece: &[u8]) -> (usize, Told) {
+        let mut room = [FILL; READING_ROOM + 3];
+        let step = self.session.read(&mut self.store, piece, &mut room);
+        let (taken, told) = (step.taken, (step.answer, step.reply.to_vec()));
+        assert!(room[told.1.len()..].iter().all(|&byte| byte == FILL));
+        (taken, told)
+    }
+
+    /// Offers bytes until all are taken or the session is closed; the answers but "more wanted".
+    pub fn offer(&mut self, bytes: &[u8]) -> Vec<Told> {
+        let mut told = Vec::new();
+        let mut rest = bytes;
+        while !rest.is_empty() && self.session.closed_with().is_none() {
+            let (taken, answered) = self.call(rest);
+            assert!(taken > 0, "an open session takes a byte");
+            rest = &rest[taken..];
+            if answered.0 != Answer::More {
+                told.push(answered);
+            }
+        }
+        told
+    }
+
+    /// Offers messages, each of which must be accepted.
+    pub fn accept(&mut self, messages: &[Vec<u8>]) {
+        for message in messages {
+            let told = self.offer(message);
+            assert_eq!(told.len(), 1);
+            assert_eq!(self.session.closed_with(), None, "{told:?}");
+        }
+    }
+}

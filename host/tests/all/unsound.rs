@@ -1,0 +1,782 @@
+//! Each kind of fault of a record or a store, one at a time, and what stands next to it on the other side of its boundary.
+//! A fault is refused with 4; a call on either side that takes nothing leaves every byte as it was.
+
+use crate::common::{define, message, update, State};
+use peers::layout::{Entry, Session, Store, Table};
+use peers::{Answer, Refusal};
+
+/// A change of the record and the store.
+type Change = fn(&mut Session, &mut Store);
+
+/// All data types.
+const ALL: u32 = 0x7_FFFF;
+
+/// Eight tables, with entries at the places that the tests change:
+///
+/// | table | keys | data types | entries |
+/// |---|---|---|---|
+/// | 0 | integer | bytes in and out, gpc0, gpc0 rate | 0 and 1 |
+/// | 1 | string, up to 8 | all | 2 and 3 |
+/// | 2 | IPv6 | none | 4 |
+/// | 3 | binary, 64 | none | 5 |
+/// | 4 to 6 | integer | none | none |
+/// | 7, current | string, up to 64 | none | 6 |
+fn eight_tables() -> State {
+    let all: Vec<u64> = (0..35).collect();
+    let mut state = State::established();
+    state.accept(&[
+        define(
+            10,
+            b"integers",
+            0,
+            4,
+            1 << 2 | 1 << 3 | 1 << 13 | 1 << 15,
+            &[],
+        ),
+        update(1, &[0, 0, 0, 1], &[1, 2, 3, 4, 5, 6]),
+        update(2, &[0, 0, 0, 2], &[1, 2, 3, 4, 5, 6]),
+        define(11, b"strings", 3, 8, ALL, &[]),
+        update(3, b"\x02ab", &all),
+        update(4, b"\x03abc", &all),
+        define(12, b"addresses", 2, 16, 0, &[]),
+        update(5, &[6; 16], &[]),
+        define(13, b"cookies", 4, 64, 0, &[]),
+        update(6, &[7; 64], &[]),
+        define(14, b"a", 0, 4, 0, &[]),
+        define(15, b"b", 0, 4, 0, &[]),
+        define(16, b"c", 0, 4, 0, &[]),
+        define(17, b"last", 3, 64, 0, &[]),
+        update(7, &[&[64][..], &[8; 64]].concat(), &[]),
+    ]);
+    state
+}
+
+/// One table and 128 entries.
+fn full() -> State {
+    let mut state = State::established();
+    state.accept(&[define(1, b"t", 3, 64, 0, &[])]);
+    for key in 0..128 {
+        state.accept(&[update(key, &[2, key as u8, 1], &[])]);
+    }
+    state
+}
+
+/// A closed record.
+fn closed() -> State {
+    let mut state = State::established();
+    state.offer(&[1, 0]);
+    state
+}
+
+/// The record of a refused opening, and an empty store.
+fn refused_opening() -> State {
+    let mut state = State::answerer();
+    let record = state.session.layout_mut();
+    record.connection.local_len = 0;
+    record.connection.remote_len = 0;
+    record.connection.local = [0; 32];
+    record.connection.remote = [0; 32];
+    record.connection.closed = 1;
+    record.connection.number = 3;
+    state
+}
+
+/// The answer of a call with this piece after a change; every byte must be as it was.
+fn answer(base: &State, change: Change, piece: &[u8]) -> Answer {
+    let mut state = base.clone();
+    change(state.session.layout_mut(), state.store.layout_mut());
+    let before = state.clone();
+    let (taken, (answer, reply)) = state.call(piece);
+    assert_eq!((taken, &reply[..]), (0, &b""[..]));
+    assert!(state == before, "record or store changed");
+    answer
+}
+
+/// Changes after which record and store are sound.
+fn sound(base: &State, changes: &[Change]) {
+    for (n, change) in changes.iter().enumerate() {
+        let answer = answer(base, *change, b"");
+        let expected = [Answer::More, Answer::Refused(Refusal::Closed)];
+        assert!(expected.contains(&answer), "sound change {n}: {answer:?}");
+    }
+}
+
+/// Changes after which they are not.
+fn faults(base: &State, changes: &[Change]) {
+    let pieces = [&b""[..], &[0, 4], &message(200, b"x")];
+    for (n, change) in changes.iter().enumerate() {
+        for piece in pieces {
+            let answer = answer(base, *change, piece);
+            assert_eq!(answer, Answer::Refused(Refusal::Unsound), "fault {n}");
+        }
+    }
+}
+
+#[test]
+fn nothing_changed() {
+    for base in [eight_tables(), full(), closed(), refused_opening()] {
+        sound(&base, &[|_, _| {}]);
+    }
+    sound(&State::answerer(), &[|_, _| {}]);
+    sound(&State::caller(), &[|_, _| {}]);
+}
+
+// ---- tables
+
+/// A free table place with anything in it.
+fn garbage_table(held: u8) -> Table {
+    Table {
+        held,
+        key_type: 77,
+        timed: 9,
+        data_types: u32::MAX,
+        name_len: usize::MAX,
+        key_len: usize::MAX,
+        expiry: 1,
+        periods: [3; 8],
+        name: [0xFF; 32],
+    }
+}
+
+#[test]
+fn held_mark_of_a_table() {
+    let base = State::established();
+    sound(
+        &base,
+        &[
+            |_, t| t.tables[0] = garbage_table(0),
+            |_, t| t.tables[7] = garbage_table(0),
+        ],
+    );
+    faults(
+        &base,
+        &[
+            |_, t| t.tables[0].held = 2,
+            |_, t| t.tables[7].held = 2,
+            |_, t| t.tables[0].held = 255,
+            |_, t| t.tables[3] = garbage_table(1),
+        ],
+    );
+}
+
+#[test]
+fn name_length() {
+    sound(
+        &eight_tables(),
+        &[
+            |_, t| t.tables[7].name_len = 1,
+            |_, t| t.tables[7].name_len = 32,
+            |_, t| t.tables[7].name[4] = 0xFF,
+        ],
+    );
+    faults(
+        &eight_tables(),
+        &[
+            |_, t| t.tables[7].name_len = 0,
+            |_, t| t.tables[7].name_len = 33,
+            |_, t| t.tables[0].name_len = 0,
+            |_, t| t.tables[0].name_len = usize::MAX,
+        ],
+    );
+}
+
+#[test]
+fn key_type_and_key_length() {
+    sound(
+        &eight_tables(),
+        &[
+            |_, t| (t.tables[4].key_type, t.tables[4].key_len) = (0, 4),
+            |_, t| (t.tables[4].key_type, t.tables[4].key_len) = (1, 4),
+            |_, t| (t.tables[4].key_type, t.tables[4].key_len) = (2, 16),
+            |_, t| (t.tables[4].key_type, t.tables[4].key_len) = (3, 1),
+            |_, t| (t.tables[4].key_type, t.tables[4].key_len) = (3, 64),
+            |_, t| (t.tables[4].key_type, t.tables[4].key_len) = (4, 1),
+            |_, t| (t.tables[4].key_type, t.tables[4].key_len) = (4, 64),
+        ],
+    );
+    faults(
+        &eight_tables(),
+        &[
+            |_, t| (t.tables[4].key_type, t.tables[4].key_len) = (0, 3),
+            |_, t| (t.tables[4].key_type, t.tables[4].key_len) = (0, 5),
+            |_, t| (t.tables[4].key_type, t.tables[4].key_len) = (1, 3),
+            |_, t| (t.tables[4].key_type, t.tables[4].key_len) = (1, 5),
+            |_, t| (t.tables[4].key_type, t.tables[4].key_len) = (2, 15),
+            |_, t| (t.tables[4].key_type, t.tables[4].key_len) = (2, 17),
+            |_, t| (t.tables[4].key_type, t.tables[4].key_len) = (3, 0),
+            |_, t| (t.tables[4].key_type, t.tables[4].key_len) = (3, 65),
+            |_, t| (t.tables[4].key_type, t.tables[4].key_len) = (4, 0),
+            |_, t| (t.tables[4].key_type, t.tables[4].key_len) = (4, 65),
+            |_, t| (t.tables[4].key_type, t.tables[4].key_len) = (4, usize::MAX),
+            |_, t| (t.tables[4].key_type, t.tables[4].key_len) = (5, 4),
+            |_, t| (t.tables[4].key_type, t.tables[4].key_len) = (255, 4),
+        ],
+    );
+}
+
+#[test]
+fn data_types() {
+    sound(
+        &eight_tables(),
+        &[
+            |_, t| t.tables[4].data_types = 0,
+            |_, t| t.tables[4].data_types = ALL,
+        ],
+    );
+    faults(
+        &eight_tables(),
+        &[
+            |_, t| t.tables[4].data_types = ALL + 1,
+            |_, t| t.tables[4].data_types = 1 << 31,
+            |_, t| t.tables[4].data_types = u32::MAX,
+        ],
+    );
+}
+
+#[test]
+fn timed_mark() {
+    sound(
+        &eight_tables(),
+        &[
+            |_, t| t.tables[4].timed = 0,
+            |_, t| t.tables[4].timed = 1,
+            |_, t| t.tables[4].expiry = u32::MAX,
+            |_, t| t.tables[4].periods = [u32::MAX; 8],
+        ],
+    );
+    faults(
+        &eight_tables(),
+        &[|_, t| t.tables[4].timed = 2, |_, t| t.tables[4].timed = 255],
+    );
+}
+
+#[test]
+fn two_tables_with_one_name() {
+    sound(
+        &eight_tables(),
+        &[
+            // a longer name, another last byte, bytes past the name
+            |_, t| {
+                t.tables[4].name[..2].copy_from_slice(b"bx");
+                t.tables[4].name_len = 2;
+            },
+            |_, t| t.tables[4].name[0] = b'd',
+            |_, t| (t.tables[4].name, t.tables[5].name) = ([1; 32], [2; 32]),
+        ],
+    );
+    faults(
+        &eight_tables(),
+        &[
+            |_, t| t.tables[4].name = t.tables[5].name,
+            |_, t| t.tables[6].name[0] = b'a',
+            |_, t| {
+                (t.tables[0].name, t.tables[0].name_len) = (t.tables[7].name, t.tables[7].name_len)
+            },
+            // the bytes past the name don't tell them apart
+            |_, t| (t.tables[4].name, t.tables[5].name[1]) = (t.tables[5].name, 9),
+        ],
+    );
+}
+
+// ---- entries
+
+/// A free entry place with anything in it.
+fn garbage_entry(held: u8) -> Entry {
+    Entry {
+        held,
+        server_id: -1,
+        table: usize::MAX,
+        key_len: usize::MAX,
+        key: [0xFF; 64],
+        values: [u64::MAX; 34],
+    }
+}
+
+#[test]
+fn held_mark_of_an_entry() {
+    sound(
+        &eight_tables(),
+        &[
+            |_, t| t.entries[7] = garbage_entry(0),
+            |_, t| t.entries[127] = garbage_entry(0),
+            |_, t| t.entries[0].held = 0,
+        ],
+    );
+    faults(
+        &eight_tables(),
+        &[
+            |_, t| t.entries[7].held = 2,
+            |_, t| t.entries[127].held = 2,
+            |_, t| t.entries[0].held = 2,
+            |_, t| t.entries[0].held = 255,
+            |_, t| t.entries[127] = garbage_entry(1),
+        ],
+    );
+}
+
+#[test]
+fn table_of_an_entry() {
+    sound(
+        &eight_tables(),
+        &[
+            |_, t| t.entries[0].table = 4,
+            |_, t| t.entries[0].table = 6,
+            |_, t| t.entries[2].table = 7,
+        ],
+    );
+    faults(
+        &eight_tables(),
+        &[
+            |_, t| t.entries[0].table = 8,
+            |_, t| t.entries[0].table = usize::MAX,
+            // another kind of key
+            |_, t| t.entries[0].table = 2,
+        ],
+    );
+    // the table isn't held, and the record marks it nowhere
+    let mut base = State::established();
+    base.accept(&[define(1, b"t", 0, 4, 0, &[]), update(1, b"keys", &[])]);
+    sound(&base, &[|_, t| t.entries[0].table = 0]);
+    faults(
+        &base,
+        &[
+            |_, t| t.entries[0].table = 1,
+            |_, t| t.entries[0].table = 7,
+            |s, t| {
+                t.tables[0].held = 0;
+                s.connection.current = 0;
+                s.connection.bindings[0].bound = 0;
+                s.connection.bindings[0].updated = 0;
+            },
+        ],
+    );
+}
+
+#[test]
+fn key_length_of_an_entry() {
+    sound(
+        &eight_tables(),
+        &[
+            |_, t| (t.entries[2].key_len, t.entries[2].key) = (0, [0; 64]),
+            |_, t| t.entries[2].key_len = 8,
+            |_, t| t.entries[6].key_len = 64,
+        ],
+    );
+    faults(
+        &eight_tables(),
+        &[
+            |_, t| t.entries[2].key_len = 9,
+            |_, t| t.entries[2].key_len = usize::MAX,
+            |_, t| (t.entries[0].key_len, t.entries[0].key) = (3, [0; 64]),
+            |_, t| t.entries[0].key_len = 5,
+            |_, t| (t.entries[4].key_len, t.entries[4].key[15]) = (15, 0),
+            |_, t| t.entries[4].key_len = 17,
+            |_, t| (t.entries[5].key_len, t.entries[5].key[63]) = (63, 0),
+            |_, t| t.entries[5].key_len = 65,
+            |_, t| t.entries[6].key_len = 65,
+        ],
+    );
+}
+
+#[test]
+fn key_bytes_past_the_length() {
+    sound(
+        &eight_tables(),
+        &[
+            |_, t| t.entries[0].key[3] = 255,
+            |_, t| t.entries[2].key[1] = 0,
+            |_, t| t.entries[5].key[63] = 0,
+        ],
+    );
+    faults(
+        &eight_tables(),
+        &[
+            |_, t| t.entries[0].key[4] = 1,
+            |_, t| t.entries[0].key[63] = 128,
+            |_, t| t.entries[2].key[2] = 1,
+            |_, t| t.entries[2].key[63] = 1,
+            |_, t| t.entries[4].key[16] = 255,
+        ],
+    );
+}
+
+#[test]
+fn values_of_32_bits() {
+    // entry 2's table has every data type: slots 22 and 26 are bytes in and out
+    for slot in 0..34 {
+        let wide = [22, 26].contains(&slot);
+        let mut state = eight_tables();
+        let values = &mut state.store.layout_mut().entries[2].values;
+        values[slot] = u64::from(u32::MAX);
+        sound(&state, &[|_, _| {}]);
+        let values = &mut state.store.layout_mut().entries[2].values;
+        values[slot] = 1 << 32;
+        match wide {
+            true => sound(&state, &[|_, _| {}]),
+            false => faults(&state, &[|_, _| {}]),
+        }
+    }
+}
+
+#[test]
+fn values_of_64_bits_and_of_no_type() {
+    sound(
+        &eight_tables(),
+        &[
+            |_, t| t.entries[0].values[22] = u64::MAX,
+            |_, t| t.entries[0].values[26] = u64::MAX,
+            |_, t| t.entries[0].server_id = i32::MIN,
+            |_, t| t.entries[2].server_id = i32::MIN,
+            |_, t| t.entries[2].server_id = i32::MAX,
+            // table 0 has no gpt0, table 3 no values
+            |_, t| t.entries[0].values[0] = u64::MAX,
+            |_, t| t.entries[5].values = [u64::MAX; 34],
+        ],
+    );
+    faults(
+        &eight_tables(),
+        &[
+            |_, t| t.entries[0].values[1] = u64::MAX,
+            |_, t| t.entries[0].values[2] = 1 << 32,
+            |_, t| t.entries[0].values[3] = 1 << 32,
+            |_, t| t.entries[0].values[4] = 1 << 32,
+        ],
+    );
+}
+
+#[test]
+fn two_entries_with_one_table_and_key() {
+    sound(
+        &eight_tables(),
+        &[
+            // another last byte, a longer key whose added byte is zero, another table
+            |_, t| t.entries[0].key[3] = 3,
+            |_, t| (t.entries[3].key, t.entries[3].key_len) = (t.entries[2].key, 3),
+            |_, t| (t.entries[0].key, t.entries[0].table) = (t.entries[1].key, 4),
+            |_, t| (t.entries[0].key, t.entries[0].held) = (t.entries[1].key, 0),
+        ],
+    );
+    faults(
+        &eight_tables(),
+        &[
+            |_, t| t.entries[0].key = t.entries[1].key,
+            |_, t| t.entries[127] = t.entries[0],
+            |_, t| (t.entries[3].key, t.entries[3].key_len) = (t.entries[2].key, 2),
+            |_, t| t.entries[7] = t.entries[6],
+        ],
+    );
+    faults(
+        &full(),
+        &[
+            |_, t| t.entries[127].key = t.entries[0].key,
+            |_, t| t.entries[0].key = t.entries[1].key,
+            |_, t| t.entries[127].key = t.entries[126].key,
+            |_, t| t.entries[64].key = t.entries[63].key,
+        ],
+    );
+}
+
+// ---- the record
+
+#[test]
+fn phase() {
+    sound(
+        &eight_tables(),
+        &[
+            |s, _| s.connection.phase = 0,
+            |s, _| s.connection.phase = 1,
+            |s, _| s.connection.phase = 2,
+        ],
+    );
+    faults(
+        &eight_tables(),
+        &[
+            |s, _| s.connection.phase = 3,
+            |s, _| s.connection.phase = 255,
+        ],
+    );
+}
+
+#[test]
+fn closed_mark_and_number() {
+    let mut state = eight_tables();
+    for number in 0..=255 {
+        let connection = &mut state.session.layout_mut().connection;
+        (connection.closed, connection.number) = (1, number);
+        match number {
+            0 | 1 | 3 | 10..=15 | 20..=29 => sound(&state, &[|_, _| {}]),
+            _ => faults(&state, &[|_, _| {}]),
+        }
+    }
+    faults(
+        &eight_tables(),
+        &[
+            |s, _| s.connection.closed = 2,
+            |s, _| s.connection.closed = 255,
+            |s, _| s.connection.number = 1,
+            |s, _| s.connection.number = 10,
+            |s, _| s.connection.number = 255,
+        ],
+    );
+}
+
+#[test]
+fn names() {
+    sound(
+        &eight_tables(),
+        &[
+            |s, _| s.connection.local_len = 1,
+            |s, _| s.connection.remote_len = 1,
+            |s, _| (s.connection.local, s.connection.local_len) = ([33; 32], 32),
+            |s, _| (s.connection.remote, s.connection.remote_len) = ([126; 32], 32),
+            |s, _| s.connection.local[4] = 0xFF,
+            |s, _| s.connection.remote[31] = 0xFF,
+        ],
+    );
+    faults(
+        &eight_tables(),
+        &[
+            |s, _| s.connection.local_len = 0,
+            |s, _| s.connection.remote_len = 0,
+            |s, _| (s.connection.local, s.connection.local_len) = ([33; 32], 33),
+            |s, _| (s.connection.remote, s.connection.remote_len) = ([126; 32], 33),
+            |s, _| s.connection.local_len = usize::MAX,
+            |s, _| s.connection.remote_len = usize::MAX,
+            |s, _| s.connection.local[0] = 32,
+            |s, _| s.connection.local[3] = 127,
+            |s, _| s.connection.remote[0] = 127,
+            |s, _| s.connection.remote[3] = 32,
+        ],
+    );
+}
+
+#[test]
+fn marks_of_a_binding() {
+    sound(
+        &eight_tables(),
+        &[
+            |s, _| s.connection.bindings[0].bound = 0,
+            |s, _| s.connection.bindings[0].updated = 0,
+            |s, _| s.connection.bindings[0].id = u32::MAX,
+            |s, _| s.connection.bindings[0].previous = u32::MAX,
+        ],
+    );
+    faults(
+        &eight_tables(),
+        &[
+            |s, _| s.connection.bindings[0].bound = 2,
+            |s, _| s.connection.bindings[7].bound = 255,
+            |s, _| s.connection.bindings[0].updated = 2,
+            |s, _| s.connection.bindings[7].updated = 255,
+        ],
+    );
+}
+
+#[test]
+fn bound_and_previous_ids_of_a_table_that_is_not_held() {
+    let mut base = State::established();
+    base.accept(&[define(1, b"t", 0, 4, 0, &[])]);
+    sound(
+        &base,
+        &[
+            |s, _| s.connection.bindings[0].updated = 1,
+            |s, _| s.connection.bindings[1].id = 5,
+            |s, _| s.connection.bindings[7].previous = 5,
+        ],
+    );
+    faults(
+        &base,
+        &[
+            |s, _| (s.connection.bindings[1].bound, s.connection.bindings[1].id) = (1, 5),
+            |s, _| (s.connection.bindings[7].bound, s.connection.bindings[7].id) = (1, 5),
+            |s, _| s.connection.bindings[1].updated = 1,
+            |s, _| s.connection.bindings[7].updated = 1,
+        ],
+    );
+}
+
+#[test]
+fn one_id_bound_twice() {
+    sound(
+        &eight_tables(),
+        &[
+            |s, _| (s.connection.bindings[0].id, s.connection.bindings[0].bound) = (17, 0),
+            |s, _| s.connection.bindings[0].id = 18,
+        ],
+    );
+    faults(
+        &eight_tables(),
+        &[
+            |s, _| s.connection.bindings[0].id = 17,
+            |s, _| s.connection.bindings[0].id = 11,
+            |s, _| s.connection.bindings[7].id = 16,
+        ],
+    );
+}
+
+#[test]
+fn current_table() {
+    sound(
+        &eight_tables(),
+        &[
+            |s, _| s.connection.current = 0,
+            |s, _| s.connection.current = 1,
+            |s, _| s.connection.current = 8,
+        ],
+    );
+    faults(
+        &eight_tables(),
+        &[
+            |s, _| s.connection.current = 9,
+            |s, _| s.connection.current = usize::MAX,
+            // the current table has no ID
+            |s, _| s.connection.bindings[7].bound = 0,
+        ],
+    );
+    let mut base = State::established();
+    base.accept(&[define(1, b"t", 0, 4, 0, &[])]);
+    faults(
+        &base,
+        &[
+            |s, _| s.connection.current = 2,
+            |s, _| s.connection.current = 8,
+        ],
+    );
+}
+
+// ---- unfinished bytes
+
+/// A record of this phase with unfinished bytes.
+fn holding(mut state: State, bytes: &[u8]) -> State {
+    let record = state.session.layout_mut();
+    record.buffer[..bytes.len()].copy_from_slice(bytes);
+    record.len = bytes.len();
+    state
+}
+
+fn waiting(state: State, bytes: &[u8]) {
+    sound(&holding(state, bytes), &[|_, _| {}]);
+}
+
+fn ended(state: State, bytes: &[u8]) {
+    faults(&holding(state, bytes), &[|_, _| {}]);
+}
+
+#[test]
+fn unfinished_length() {
+    let longest = &message(200, &[1; 1024])[..1027];
+    waiting(State::established(), longest);
+    let state = holding(State::established(), longest);
+    faults(
+        &state,
+        &[
+            |s, _| s.len = 1028,
+            |s, _| s.len = 1029,
+            |s, _| s.len = usize::MAX,
+        ],
+    );
+    // bytes past the length are not looked at
+    sound(&State::established(), &[|s, _| s.buffer = [0xFF; 1027]]);
+}
+
+#[test]
+fn unfinished_message() {
+    let open = State::established;
+    for bytes in [&[0][..], &[1], &[10], &[77], &[10, 128], &[10, 255]] {
+        waiting(open(), bytes);
+    }
+    for bytes in [
+        &[0, 0][..],
+        &[0, 4],
+        &[0, 5],
+        &[1, 0],
+        &[1, 2],
+        &[10, 127],
+        &[77, 0],
+    ] {
+        ended(open(), bytes);
+    }
+    // the length: overflow at its tenth byte, the limit at its last
+    let overflow = [&[10, 128, 0xFF][..], &[0xFF; 9]].concat();
+    waiting(open(), &overflow[..11]);
+    ended(open(), &overflow);
+    waiting(open(), &[10, 128, 0xF1]);
+    waiting(open(), &[10, 128, 0xF0, 0x31]);
+    ended(open(), &[10, 128, 0xF1, 0x31]);
+    // the body: whole, or one byte short
+    ended(open(), &[10, 128, 0]);
+    waiting(open(), &[10, 128, 2, 1]);
+    ended(open(), &[10, 128, 2, 1, 1]);
+}
+
+#[test]
+fn unfinished_bytes_of_which_a_first_part_ends_a_message() {
+    ended(State::established(), &[0, 4, 10]);
+    ended(State::established(), &[0, 5, 10, 128]);
+    ended(State::established(), &[10, 128, 0, 10, 128]);
+    ended(State::caller(), b"200\nx");
+    ended(State::answerer(), b"a\nb\nc\nd");
+}
+
+#[test]
+fn unfinished_hello() {
+    let line = [&[b'x'; 64][..], b"\n"].concat();
+    let longest = [&line[..], &line, &[b'x'; 64]].concat();
+    assert_eq!(longest.len(), 194);
+    waiting(State::answerer(), &longest);
+    waiting(State::answerer(), b"\n\n");
+    waiting(State::answerer(), &line[..64]);
+    ended(State::answerer(), &[b'x'; 65]);
+    ended(State::answerer(), &[&line[..], &[b'x'; 65]].concat());
+    ended(State::answerer(), &[&longest[..], b"x"].concat());
+    ended(State::answerer(), &[&longest[..], b"\n"].concat());
+    ended(State::answerer(), b"\n\n\n");
+}
+
+#[test]
+fn unfinished_status() {
+    waiting(State::caller(), b"xyz");
+    waiting(State::caller(), b"200");
+    ended(State::caller(), b"200\n");
+    ended(State::caller(), b"xyz\n");
+}
+
+#[test]
+fn unfinished_bytes_in_a_closed_record() {
+    waiting(closed(), b"");
+    ended(closed(), &[10]);
+    ended(closed(), &[0]);
+    ended(refused_opening(), &[0]);
+}
+
+// ---- the record of a refused opening
+
+#[test]
+fn record_of_a_refused_opening() {
+    sound(
+        &refused_opening(),
+        &[
+            |s, _| s.connection.number = 1,
+            |s, _| s.connection.number = 3,
+            |_, t| t.tables[0] = garbage_table(0),
+        ],
+    );
+    faults(
+        &refused_opening(),
+        &[
+            |s, _| s.connection.number = 0,
+            |s, _| s.connection.number = 2,
+            |s, _| s.connection.number = 10,
+            |s, _| (s.connection.closed, s.connection.number) = (0, 0),
+            |s, _| s.connection.closed = 0,
+            |s, _| s.connection.closed = 2,
+            |s, _| s.connection.phase = 1,
+            |s, _| s.connection.current = 1,
+            |s, _| s.connection.local_len = 1,
+            |s, _| s.connection.remote_len = 1,
+            |s, _| s.connection.bindings[7].bound = 1,
+            |s, _| s.connection.bindings[0].updated = 1,
+            |_, t| t.tables[0].held = 2,
+        ],
+    );
+}

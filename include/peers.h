@@ -1,0 +1,250 @@
+/*
+ * libpeers: a receiver of stick tables over the HAProxy peers protocol, 2.1.
+ *
+ * The host owns sockets and timers. It keeps one struct peers_session for each connection and one struct peers_store, and lends
+ * both to peers_read with the bytes that came. Every call is defined on every content of what is lent, ends, allocates nothing and
+ * keeps nothing between calls.
+ *
+ * The host's duties: each pointer points to as much memory as its type or the length after it says (an empty one too points to
+ * somewhere); what is lent to one call doesn't overlap; no other thread touches it during the call.
+ */
+#ifndef PEERS_H
+#define PEERS_H
+
+#include <stddef.h>
+#include <stdint.h>
+
+#ifdef __cplusplus
+extern "C" {
+#endif
+
+/* ---- limits */
+
+#define PEERS_TABLES 8           /* places for tables */
+#define PEERS_ENTRIES 128        /* places for entries */
+#define PEERS_NAME_MAX 32        /* bytes of a table's or a peer's name */
+#define PEERS_KEY_MAX 64         /* bytes of a key */
+#define PEERS_RATES 8            /* data types that are rates */
+#define PEERS_VALUES 34          /* integers of an entry, the server ID aside */
+#define PEERS_UNFINISHED_MAX 1027 /* unfinished bytes */
+#define PEERS_OPENING_ROOM 101   /* room that opening asks for */
+#define PEERS_READING_ROOM 12    /* room that a reading call asks for */
+
+/* ---- the store: fields are read directly; a store of zeros is empty */
+
+enum peers_key_type {
+    PEERS_KEY_INTEGER = 0,
+    PEERS_KEY_IPV4 = 1,
+    PEERS_KEY_IPV6 = 2,
+    PEERS_KEY_STRING = 3,
+    PEERS_KEY_BINARY = 4
+};
+
+/* Data type t is bit t of a table's data types. */
+enum peers_data_type {
+    PEERS_SERVER_ID = 0,
+    PEERS_GPT0 = 1,
+    PEERS_GPC0 = 2,
+    PEERS_GPC0_RATE = 3,
+    PEERS_CONN_CNT = 4,
+    PEERS_CONN_RATE = 5,
+    PEERS_CONN_CUR = 6,
+    PEERS_SESS_CNT = 7,
+    PEERS_SESS_RATE = 8,
+    PEERS_HTTP_REQ_CNT = 9,
+    PEERS_HTTP_REQ_RATE = 10,
+    PEERS_HTTP_ERR_CNT = 11,
+    PEERS_HTTP_ERR_RATE = 12,
+    PEERS_BYTES_IN_CNT = 13,
+    PEERS_BYTES_IN_RATE = 14,
+    PEERS_BYTES_OUT_CNT = 15,
+    PEERS_BYTES_OUT_RATE = 16,
+    PEERS_GPC1 = 17,
+    PEERS_GPC1_RATE = 18
+};
+
+/* The place in an entry's values of each data type but the server ID. A rate has three: elapsed milliseconds, current count, previous
+ * count. */
+enum peers_slot {
+    PEERS_SLOT_GPT0 = 0,
+    PEERS_SLOT_GPC0 = 1,
+    PEERS_SLOT_GPC0_RATE = 2,
+    PEERS_SLOT_CONN_CNT = 5,
+    PEERS_SLOT_CONN_RATE = 6,
+    PEERS_SLOT_CONN_CUR = 9,
+    PEERS_SLOT_SESS_CNT = 10,
+    PEERS_SLOT_SESS_RATE = 11,
+    PEERS_SLOT_HTTP_REQ_CNT = 14,
+    PEERS_SLOT_HTTP_REQ_RATE = 15,
+    PEERS_SLOT_HTTP_ERR_CNT = 18,
+    PEERS_SLOT_HTTP_ERR_RATE = 19,
+    PEERS_SLOT_BYTES_IN_CNT = 22,
+    PEERS_SLOT_BYTES_IN_RATE = 23,
+    PEERS_SLOT_BYTES_OUT_CNT = 26,
+    PEERS_SLOT_BYTES_OUT_RATE = 27,
+    PEERS_SLOT_GPC1 = 30,
+    PEERS_SLOT_GPC1_RATE = 31
+};
+
+/* The place in a table's periods of each rate. */
+enum peers_period {
+    PEERS_PERIOD_GPC0_RATE = 0,
+    PEERS_PERIOD_CONN_RATE = 1,
+    PEERS_PERIOD_SESS_RATE = 2,
+    PEERS_PERIOD_HTTP_REQ_RATE = 3,
+    PEERS_PERIOD_HTTP_ERR_RATE = 4,
+    PEERS_PERIOD_BYTES_IN_RATE = 5,
+    PEERS_PERIOD_BYTES_OUT_RATE = 6,
+    PEERS_PERIOD_GPC1_RATE = 7
+};
+
+struct peers_table {
+    uint8_t held;        /* 1 for a held table, 0 for a free place */
+    uint8_t key_type;    /* enum peers_key_type */
+    uint8_t timed;       /* 1 where expiry and periods are known */
+    uint32_t data_types; /* bits 0 to 18 */
+    size_t name_len;
+    size_t key_len;      /* for strings the largest */
+    uint32_t expiry;     /* milliseconds */
+    uint32_t periods[PEERS_RATES]; /* milliseconds, of the rates among the data types */
+    uint8_t name[PEERS_NAME_MAX];
+};
+
+struct peers_entry {
+    uint8_t held;      /* 1 for a held entry, 0 for a free place */
+    int32_t server_id; /* if the table has PEERS_SERVER_ID */
+    size_t table;      /* the table's place */
+    size_t key_len;
+    uint8_t key[PEERS_KEY_MAX];
+    uint64_t values[PEERS_VALUES]; /* of the table's data types, by enum peers_slot */
+};
+
+struct peers_store {
+    struct peers_table tables[PEERS_TABLES];
+    struct peers_entry entries[PEERS_ENTRIES];
+};
+
+/* ---- the session record */
+
+enum peers_phase {
+    PEERS_AWAITING_HELLO = 0,
+    PEERS_AWAITING_STATUS = 1,
+    PEERS_ESTABLISHED = 2
+};
+
+/* What the session knows of the table at the same place of the store. */
+struct peers_binding {
+    uint8_t bound;     /* 1 where `id` is bound to the table */
+    uint8_t updated;   /* 1 where the table had an update in this session */
+    uint32_t id;       /* the sender's ID of the table */
+    uint32_t previous; /* the last committed update ID */
+};
+
+struct peers_connection {
+    uint8_t phase;  /* enum peers_phase */
+    uint8_t closed; /* 1 for a closed session */
+    uint8_t number; /* what it was closed with: 0 after the peer's error message, else enum peers_refusal */
+    size_t current; /* 0 without a current table, else its place plus 1 */
+    size_t local_len;
+    size_t remote_len;
+    uint8_t local[PEERS_NAME_MAX];  /* our name */
+    uint8_t remote[PEERS_NAME_MAX]; /* the accepted peer's name */
+    struct peers_binding bindings[PEERS_TABLES];
+};
+
+struct peers_session {
+    struct peers_connection connection;
+    size_t len; /* how many bytes of `buffer` are unfinished */
+    uint8_t buffer[PEERS_UNFINISHED_MAX];
+};
+
+/* ---- answers */
+
+/* An answer's number, with its values in their order. A refusal's number is its own: enum peers_refusal. */
+enum peers_answer {
+    PEERS_MORE = 100,           /* more bytes are wanted */
+    PEERS_HELLO = 101,          /* the peer's process number, its relative process number */
+    PEERS_STATUS = 102,
+    PEERS_REQUEST = 103,
+    PEERS_FINISHED = 104,
+    PEERS_PARTIAL = 105,
+    PEERS_CONFIRMED = 106,
+    PEERS_HEARTBEAT = 107,
+    PEERS_ERROR = 108,          /* its type; the session is closed with 0 */
+    PEERS_TABLE = 109,          /* the table's place */
+    PEERS_SWITCH = 110,         /* the table's place */
+    PEERS_UPDATE = 111,         /* the table's place, the update ID, the entry's place, 0 for a new entry or 1 for a replaced one */
+    PEERS_ACKNOWLEDGEMENT = 112, /* the table's ID, the update ID */
+    PEERS_SKIPPED = 113         /* its type */
+};
+
+enum peers_refusal {
+    PEERS_REFUSED_ROOM = 1,       /* too little room; nothing changed */
+    PEERS_REFUSED_CLOSED = 2,     /* the session is closed; nothing changed */
+    PEERS_REFUSED_NAME = 3,       /* opening: a name outside the rule */
+    PEERS_REFUSED_UNSOUND = 4,    /* record or store hold what the rules don't allow; nothing changed */
+    PEERS_REFUSED_HELLO = 10,     /* from here on the session is closed with this number */
+    PEERS_REFUSED_VERSION = 11,
+    PEERS_REFUSED_ADDRESSED = 12, /* the hello is for another peer */
+    PEERS_REFUSED_SENDER = 13,    /* the hello is from another peer */
+    PEERS_REFUSED_STATUS = 14,    /* the peer refused us */
+    PEERS_REFUSED_STATUS_FORM = 15,
+    PEERS_REFUSED_HEADER = 20,    /* unknown class or type */
+    PEERS_REFUSED_LENGTH = 21,    /* the body's length overflows */
+    PEERS_REFUSED_SIZE = 22,      /* the body is over 1,024 bytes */
+    PEERS_REFUSED_CUT = 23,       /* the body ends before a field is whole */
+    PEERS_REFUSED_RANGE = 24,     /* a field overflows or is out of range */
+    PEERS_REFUSED_DISAGREES = 25, /* the held table of this name is another */
+    PEERS_REFUSED_TABLES = 26,    /* a new name, and all table places are held */
+    PEERS_REFUSED_UNBOUND = 27,   /* no current table, or a switch to an unbound ID */
+    PEERS_REFUSED_PREVIOUS = 28,  /* an incremental update without a previous ID */
+    PEERS_REFUSED_ENTRIES = 29    /* a new key, and all entry places are held */
+};
+
+/* What a call gives back. */
+struct peers_outcome {
+    size_t taken;       /* bytes of the piece that were taken */
+    size_t reply_len;   /* bytes at the front of the room that go to the peer */
+    uint32_t number;    /* the answer: enum peers_answer, or enum peers_refusal */
+    size_t count;       /* how many values the answer has */
+    uint64_t values[4]; /* zeros after them */
+};
+
+struct peers_opened {
+    struct peers_session session;
+    struct peers_outcome outcome;
+};
+
+/* ---- calls */
+
+/* A store without tables and entries. */
+struct peers_store peers_empty_store(void);
+
+/*
+ * Opens a session that reads the peer's hello. `local` is our name and `remote` the one accepted peer's, each 1 to 32 bytes from 33 to
+ * 126. The room is PEERS_OPENING_ROOM bytes or more, and stays as it is.
+ * Answers PEERS_MORE, or PEERS_REFUSED_ROOM or PEERS_REFUSED_NAME with a closed session.
+ */
+struct peers_opened peers_open_answerer(const uint8_t *local, size_t local_len, const uint8_t *remote, size_t remote_len,
+                                        uint8_t *room, size_t room_len);
+
+/*
+ * Opens a session that reads the peer's status. The hello for the peer, with our two process numbers, is left at the front of the room.
+ * Names, room and answers are as above.
+ */
+struct peers_opened peers_open_caller(const uint8_t *local, size_t local_len, const uint8_t *remote, size_t remote_len,
+                                      uint32_t process, uint32_t relative, uint8_t *room, size_t room_len);
+
+/*
+ * Takes bytes up to the end of one message, or up to the byte that shows a refusal, or all of them, and leaves the new state in session
+ * and store. The reply goes to the front of `reply`, PEERS_READING_ROOM bytes or more; the rest of it stays as it is.
+ * The host offers untaken bytes again until all are taken or the session is closed.
+ */
+struct peers_outcome peers_read(struct peers_session *session, struct peers_store *store, const uint8_t *piece, size_t piece_len,
+                                uint8_t *reply, size_t reply_len);
+
+#ifdef __cplusplus
+}
+#endif
+
+#endif
