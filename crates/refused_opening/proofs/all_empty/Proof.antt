@@ -1,11 +1,11 @@
-use Rattle.soundness.specs.Sound.{noMarks}
+use Rattle.soundness.specs.Sound.{emptyBinding}
 use Prim.Native.Nat.{_-_}
 use Rattle.soundness.proofs.Testing.{walking, Each}
-use Rattle.session_soundness.proofs.all_no_marks.Statement.{statement}
-use Rattle.session_soundness.proofs.all_no_marks.Tie as tie
+use Rattle.refused_opening.proofs.all_empty.Statement.{statement}
+use Rattle.refused_opening.proofs.all_empty.Tie as tie
 
 abbrev Inv-loop : tie.InvT-loop
-Inv-loop bindings i₀ i = Each noMarks bindings 0 i
+Inv-loop bindings i₀ i = Each emptyBinding bindings 0 i
 
 abbrev μ-loop : tie.MeasureT-loop
 μ-loop bindings i₀ i = 8 - i
@@ -19,8 +19,8 @@ mul-b c = search walking
 array-copy-out-b : tie.Need-array-copy-out-b Inv-loop μ-loop
 array-copy-out-b c = search walking
 
-no-marks-requires : tie.Need-no-marks-requires Inv-loop μ-loop
-no-marks-requires c κs = search walking
+is-empty-requires : tie.Need-is-empty-requires Inv-loop μ-loop
+is-empty-requires c κs = search walking
 
 returns : tie.Need-returns Inv-loop μ-loop
 returns c = search walking
@@ -37,8 +37,8 @@ loop-again c = search walking
 returns-2 : tie.Need-returns-2 Inv-loop μ-loop
 returns-2 c = search walking
 
-pub all-no-marks-spec : {M : Type 1} → statement M
-all-no-marks-spec =
+pub all-empty-spec : {M : Type 1} → statement M
+all-empty-spec =
     tie.close
     (tie.spec
     Inv-loop
@@ -46,7 +46,7 @@ all-no-marks-spec =
     loop-holds
     mul-b
     array-copy-out-b
-    no-marks-requires
+    is-empty-requires
     returns
     add-i
     loop-less
