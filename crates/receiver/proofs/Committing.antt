@@ -28,7 +28,7 @@ use Rattle.session.specs.declared.Commit.{Commit}
 use Rattle.session.specs.declared.Commit.the-variants as commit
 use Rattle.session.specs.declared.Answer.{Answer}
 use Rattle.session.specs.declared.Answer.the-variants as answer
-use Rattle.session.specs.Session.{localName, remoteName, findBound, bindingAt, isUpdated, committed}
+use Rattle.session.specs.Session.{localName, remoteName, findBound, bindingAt, isUpdated}
 use Rattle.body.specs.Fields.{Read, got, short, outside, spanIn}
 use Rattle.body.specs.Bodies.{Update, updateFields, incrementalFields, definitionFields, switchFields, acknowledgementFields}
 use Rattle.message.specs.Effects.{Effect, refuse, note, fieldsThen, control, controlAnswer, peerError, defineAt, defineNew, defineNamed, agrees, definition, switchTo, switch, acknowledgement, skipped, acknowledge, updatedEntry, commitAt, commitNew, commitUpdate, withFields, followingId, incrementalOf, update, incremental, stickTable}
@@ -45,7 +45,7 @@ pub record Committed (c : Connection) (t : Store) (kind : ℕ) (body : List ℕ)
   pub inside : place < length (t .entries)
   pub store : e .store ≡ putEntry t place (updatedEntry body table fields)
   pub current : table ≡ c .current - 1
-  pub reply : e .reply ≡ acknowledge (bindingAt (committed c table id) table .id) (bindingAt (committed c table id) table .previous)
+  pub reply : e .reply ≡ acknowledge (bindingAt c table .id) id
 
 module _ (c : Connection) (t : Store) (kind : ℕ) (body : List ℕ) where
   -- where the answer is an update, it was committed so
@@ -75,8 +75,7 @@ module _ (c : Connection) (t : Store) (kind : ℕ) (body : List ℕ) where
         store = ap (λ (n : ℕ). putEntry t n (updatedEntry body now u)) d ∙ ap (λ (n : ℕ). putEntry t place (updatedEntry body n u)) a;
         current = sym a;
         reply =
-            ap (λ (n : ℕ). acknowledge (bindingAt (committed c now n) now .id) (bindingAt (committed c now n) now .previous)) b
-            ∙ ap (λ (n : ℕ). acknowledge (bindingAt (committed c n id) n .id) (bindingAt (committed c n id) n .previous)) a;
+            ap (acknowledge (bindingAt c now .id)) b ∙ ap (λ (n : ℕ). acknowledge (bindingAt c n .id) id) a;
       }
 
   new-says : (u : Update) (after : ℕ) (f : Found) → fieldsOf c t now kind body ≡ got u after → freeEntry t ≡ f

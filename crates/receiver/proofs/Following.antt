@@ -25,7 +25,7 @@ use Rattle.session.specs.declared.Answer.the-variants as answer
 use Rattle.session.specs.Answers.{refusalReply, isSizeLimit, isProtocolError}
 use Rattle.session.specs.Session.{bindingAt, noBinding, isBound, isUpdated, boundTo, closedWith, establish, makeCurrent, currentMark, withTables, bind, bindTo, unbind, committed, commitTo}
 use Rattle.session.proofs.Changing.{mark-of}
-use Rattle.session.proofs.Bindings.{bound-here, bound-lost, bound-kept, bind-cases, commit-cases, committed-here, committed-other, committed-previous, committed-id}
+use Rattle.session.proofs.Bindings.{bound-here, bound-lost, bound-kept, bind-cases, commit-cases, committed-here, committed-other}
 use Rattle.message.specs.Effects.{Effect, refuse, note, peerError, control, controlAnswer, controlReply, defineAt, switchTo, commitAt, acknowledge}
 use Rattle.streams.specs.Model.{Ended}
 use Rattle.receiver.specs.Ledger.{Ledger, startLedger, post, defines, switches, commits, without, at, definedId, updateId, isAcknowledgement, Carried, RightReply}
@@ -288,7 +288,7 @@ module _ (c : Connection) (table id : ℕ) (h : table < 8) (long : length (c .bi
       (unfold commits in record { current = commits-current; bound = commits-bound; last = commits-last })
 
   pub carried : isBound (bindingAt c table) ≡ true
-      → Carried (commits l (l .current) (some id)) (acknowledge (bindingAt (committed c table id) table .id) (bindingAt (committed c table id) table .previous)) table id
+      → Carried (commits l (l .current) (some id)) (acknowledge (bindingAt c table .id) id) table id
   carried b = record {
     id = bindingAt c table .id;
     current = after-commit .current ∙ (sym commits-current ∙ ledger-current);
@@ -296,7 +296,7 @@ module _ (c : Connection) (table id : ℕ) (h : table < 8) (long : length (c .bi
         after-commit .bound table
         ∙ (sym (commits-bound table) ∙ (f .bound table ∙ (start-bound c table ∙ unfold boundOf in cond-true (isBound (bindingAt c table)) (some (bindingAt c table .id)) none b)));
     last = after-commit .last table ∙ (sym (commits-last table) ∙ cond-true (eqb table table) (some id) (l .last table) (eq-eqb table table refl));
-    carries = rw (committed-id c table id here, committed-previous c table id here) refl;
+    carries = refl;
   }
 
 pub commit-follow : (c : Connection) (s : Store) (table id : ℕ) (e : Entry) (place : ℕ) (how : Commit) (m : List ℕ) → table < 8

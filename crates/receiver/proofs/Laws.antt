@@ -36,7 +36,7 @@ use Rattle.session.specs.declared.Commit.the-variants as commit
 use Rattle.session.specs.declared.Answer.{Answer}
 use Rattle.session.specs.declared.Answer.the-variants as answer
 use Rattle.session.specs.Answers.{refusalReply, isSizeLimit, isProtocolError}
-use Rattle.session.specs.Session.{isClosed, localName, remoteName, establish, findBound, bindingAt, isBound, isUpdated, committed}
+use Rattle.session.specs.Session.{isClosed, localName, remoteName, establish, findBound, bindingAt, isBound, isUpdated}
 use Rattle.soundness.specs.Sound.{isClosing, refusesOpening}
 use Rattle.session.proofs.Bindings.{found-bound}
 use Rattle.soundness.proofs.Keeping.{establish-keeps}
@@ -242,7 +242,7 @@ module _ (c : Connection) (s : Store) (h : Held c s) (m : List ℕ) where
         reply-short : (p : ℕ) (how : Commit) → Kept (commitAt c s table id e p how) → length (commitAt c s table id e p how .reply) ≤ 12
         reply-short p how k =
             unfold commitAt in
-            acknowledge-short (bindingAt (committed c table id) table .id) (bindingAt (committed c table id) table .previous) (k .connectionShape .binding table small .id)
+            acknowledge-short (bindingAt c table .id) id (h .connectionShape .binding table small .id)
 
     commit-new-right : (f : Found) → Kept (commitNew c s table id e f) → Right c m (commitNew c s table id e f)
     unfolding commitNew
