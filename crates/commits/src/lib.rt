@@ -31,7 +31,7 @@ pub fn acknowledge(id: u32, update: u32) -> Reply
     }
 }
 
-// The entry goes to a place, the update's ID is the table's last committed one, and the acknowledgement is written from the new state.
+// The entry goes to a place, the update's ID is the table's last committed one, and the acknowledgement has the table's bound ID and this ID.
 pub fn commit_at(
     connection: Connection,
     store: Store,
@@ -45,9 +45,9 @@ pub fn commit_at(
 {
     let held = store::put_entry(store, place, entry);
     let committed = bindings::commit_update(connection, table, id);
-    let bindings = committed.bindings;
+    let bindings = connection.bindings;
     let b = binding_at(bindings, table);
-    let reply = acknowledge(b.id, b.previous);
+    let reply = acknowledge(b.id, id);
     Settled {
         answer: Answer::Update {
             table,

@@ -1,6 +1,6 @@
--- A law for each way through `header_of`, `judge_body`, `judge_frame` and `wanted`. Where a law has an m, it is the number that the code
+-- A law for each way through `header_of`, `judge_body` and `judge_frame`. Where a law has an m, it is the number that the code
 -- tests, and the law holds for more numbers than that one.
-use Prim.Native.Nat.{ℕ, _+_, _-_, _^_, _≤_, _<_}
+use Prim.Native.Nat.{ℕ, _+_, _^_, _≤_, _<_}
 use native.Mathlib.Omega.{arith}
 use mathlib.Core.Path.{_≡_, sym, _∙_}
 use mathlib.Core.List.{List}
@@ -19,7 +19,7 @@ use Rattle.frame.specs.declared.Header.{Header}
 use Rattle.frame.specs.declared.Header.the-variants as header
 use Rattle.frame.specs.declared.Frame.{Frame}
 use Rattle.frame.specs.declared.Frame.the-variants as frame
-use Rattle.frame.specs.Frame.{headerOf, withLength, withHeader, judgeFrame, missing, wantedOf}
+use Rattle.frame.specs.Frame.{headerOf, withLength, withHeader, judgeFrame}
 
 -- ---- the header
 module _ (class kind : ℕ) where
@@ -80,31 +80,7 @@ module _ (s : List ℕ) (i : Int) (p : i ≡ readInt s 2) where
       unfolding withLength
       body-whole h l = rw (← p, e, le-ltb 1024 n h, le-ltb (length s) (start + n) l)
 
-  -- ---- how many bytes are wanted
-  pub wants-length : i ≡ int.Short → 1 ≡ wantedOf s
-  unfolding wantedOf missing
-  wants-length e = rw (← p, e)
-
-  pub wants-over : i ≡ int.Overflow → 1 ≡ wantedOf s
-  unfolding wantedOf missing
-  wants-over e = rw (← p, e)
-
-  module _ (n start : ℕ) (e : i ≡ int.Value n start) where
-    pub wants-long : 1024 < n → 1 ≡ wantedOf s
-    unfolding wantedOf missing
-    wants-long h = rw (← p, e, lt-ltb 1024 n h)
-
-    pub wants-none : n ≤ 1024 → start + n ≤ length s → 1 ≡ wantedOf s
-    unfolding wantedOf missing
-    wants-none h l = rw (← p, e, le-ltb 1024 n h, le-leb (start + n) (length s) l)
-
-    pub wants-body : n ≤ 1024 → length s < start + n → start + n - length s ≡ wantedOf s
-    unfolding wantedOf missing
-    wants-body h l = rw (← p, e, le-ltb 1024 n h, lt-leb (start + n) (length s) l)
-
 pub ruleset bodies = (needs, end-fits, length-short, length-over, too-long, body-waits, body-whole)
-
-pub ruleset wants = (needs, end-fits, wants-length, wants-over, wants-long, wants-none, wants-body)
 
 -- ---- the frame
 pub header-waits : (s : List ℕ) → length s < 2 → frame.Waiting ≡ judgeFrame s

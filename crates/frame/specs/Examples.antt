@@ -4,7 +4,7 @@ use mathlib.Core.List.{[], _∷_}
 use lib.ListN.{replicate}
 use Rattle.wire.specs.Integer.{readInt, readFirst, withLater, laterBytes, before, weighted, fitting}
 use Rattle.frame.specs.declared.Frame.the-variants as frame
-use Rattle.frame.specs.Frame.{headerOf, withHeader, withLength, judgeFrame, missing, wantedOf}
+use Rattle.frame.specs.Frame.{headerOf, withHeader, withLength, judgeFrame}
 
 -- "`00 05` is 20"
 unknown-type : judgeFrame (0x00 ∷ 0x05 ∷ []) ≡ frame.Refused 20
@@ -38,12 +38,3 @@ empty-body = refl
 low-type : judgeFrame (0x0A ∷ 0x7F ∷ []) ≡ frame.Refused 20
 unfolding judgeFrame withHeader headerOf
 low-type = refl
-
--- ---- how many bytes are wanted
-wants-header : wantedOf (0x0A ∷ []) ≡ 1
-unfolding wantedOf missing readInt readFirst
-wants-header = refl
-
-wants-longest : wantedOf (0x0A ∷ 0x80 ∷ 0xF0 ∷ 0x31 ∷ 7 ∷ []) ≡ 1023
-unfolding wantedOf missing readInt readFirst withLater laterBytes before weighted fitting
-wants-longest = refl

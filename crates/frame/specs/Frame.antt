@@ -1,5 +1,5 @@
 -- "Messages", first part, of document 01: the header's two bytes and the encoded body length.
-use Prim.Native.Nat.{ℕ, _+_, _-_}
+use Prim.Native.Nat.{ℕ, _+_}
 use mathlib.Core.List.{List}
 use mathlib.Core.Bool.{cond, _&&_}
 use lib.Dec.{ltb, leb, eqb}
@@ -42,13 +42,3 @@ withHeader u header.Unknown = frame.Refused 20
 -- ".. refusal 20, shown at the second byte."
 unfoldable pub judgeFrame : List ℕ → Frame
 judgeFrame u = cond (ltb (length u) 2) frame.Waiting (withHeader u (headerOf (getD u 0 0) (getD u 1 0)))
-
--- How many bytes waiting bytes still want: one while the length isn't whole, then what is missing of the body. For bytes that aren't
--- waiting it has no meaning.
-unfoldable pub missing : List ℕ → Int → ℕ
-missing u int.Short = 1
-missing u int.Overflow = 1
-missing u (int.Value n start) = cond (ltb bodyMax n) 1 (cond (leb (start + n) (length u)) 1 (start + n - length u))
-
-unfoldable pub wantedOf : List ℕ → ℕ
-wantedOf u = missing u (readInt u 2)

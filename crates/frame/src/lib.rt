@@ -1,7 +1,7 @@
 // The header of a message and the length of its body, judged on the unfinished bytes.
 ghost use mathlib.Core.Path.{_≡_};
 ghost use Rattle.wire.specs.Integer.{readInt};
-ghost use Rattle.frame.specs.Frame.{headerOf, withLength, judgeFrame, wantedOf};
+ghost use Rattle.frame.specs.Frame.{headerOf, withLength, judgeFrame};
 
 // The longest body.
 pub const BODY_MAX: u64 = 1024;
@@ -81,25 +81,5 @@ pub fn judge_frame(s: &[u8]) -> Frame
         Header::Error(kind) => Frame::Error(kind),
         Header::StickTable(kind) => judge_body(s, kind),
         Header::Unknown => Frame::Refused(20),
-    }
-}
-
-// A number of bytes that a waiting message wants at the least: with fewer added it still waits.
-pub fn wanted(s: &[u8]) -> usize
-    ensures { λ r. ⌜ r ≡ wantedOf (now (s .entry)) ⌝ }
-{
-    match wire::read_int(s, 2) {
-        wire::Int::Short => 1,
-        wire::Int::Overflow => 1,
-        wire::Int::Value { value, next } => {
-            if BODY_MAX < value {
-                return 1;
-            }
-            let end = next + value as usize;
-            if end <= s.len() {
-                return 1;
-            }
-            end - s.len()
-        }
     }
 }

@@ -46,7 +46,7 @@ pub ruleset knowing = (needs, length-mapped, past-bindings, binding-there)
 -- ---- the entry put, at a place or at the lowest free one
 module _ (c : Connection) (s : Store) (table id : ℕ) (e : Entry) where
   pub commits : (place : ℕ) (how : Commit) (k : Connection) (u : Store) (b : Binding) (r : Reply)
-      → k ≡ committed c table id → u ≡ putEntry s place e → b ≡ getD (k .bindings) table noBinding → r ≡ replyOf (acknowledge (b .id) (b .previous))
+      → k ≡ committed c table id → u ≡ putEntry s place e → b ≡ getD (c .bindings) table noBinding → r ≡ replyOf (acknowledge (b .id) id)
       → settled (answer.Update table id place how) r k u ≡ settledOf (commitAt c s table id e place how)
   unfolding settledOf commitAt bindingAt
   commits place how k u b r p q h z = rw (z, h, p, q)

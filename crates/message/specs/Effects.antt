@@ -36,7 +36,8 @@ refuse c s n = record { answer = answer.Refused n; reply = refusalReply n; conne
 unfoldable pub note : Connection → Store → Answer → List ℕ → Effect
 note c s a reply = record { answer = a; reply = reply; connection = c; store = s }
 
--- fields, then what the message does; "23 | body ends before a field is whole", "24 | field overflows or is out of range"
+-- fields, then what the message does; "Bytes after the known fields are ignored.", "23 | body ends before a field is whole", "24 | field
+-- overflows or is out of range"
 module _ {A : Type 0} where
   unfoldable pub fieldsThen : Connection → Store → Read A → (A → Effect) → Effect
   fieldsThen c s (got a at) f = f a
@@ -129,7 +130,7 @@ skipped c s kind = note c s (answer.Skipped kind) []
 
 -- ---- updates
 
--- "one acknowledgement (class 10, type 133) with the table's bound ID and this update's ID"
+-- the acknowledgement with an ID and an update ID: encoded ID, 4-byte update ID
 unfoldable pub acknowledge : ℕ → ℕ → List ℕ
 acknowledge id update =
     let body = encodeInt id ++ encodeNumber update in
@@ -139,16 +140,15 @@ acknowledge id update =
 unfoldable pub updatedEntry : List ℕ → ℕ → Update → Entry
 updatedEntry body table u = makeEntry table (spanIn body (u .key)) (u .server) (u .values)
 
--- the entry is held, the update's ID is the table's last committed one, and the acknowledgement is written from the new state
+-- the entry is held, and the update's ID is the table's last committed one: "a committed update gives one acknowledgement (class 10, type 133)
+-- with the table's bound ID and this update's ID"
 unfoldable pub commitAt : Connection → Store → ℕ → ℕ → Entry → ℕ → Commit → Effect
-commitAt c s table id e place how =
-    let c′ = committed c table id in
-    record {
-      answer = answer.Update table id place how;
-      reply = acknowledge (bindingAt c′ table .id) (bindingAt c′ table .previous);
-      connection = c′;
-      store = putEntry s place e;
-    }
+commitAt c s table id e place how = record {
+  answer = answer.Update table id place how;
+  reply = acknowledge (bindingAt c table .id) id;
+  connection = committed c table id;
+  store = putEntry s place e;
+}
 
 -- "Otherwise the entry takes the lowest free place.", "29 | new key and no free entry"
 unfoldable pub commitNew : Connection → Store → ℕ → ℕ → Entry → Found → Effect

@@ -1,14 +1,15 @@
 -- The record that opening returns is sound with every sound store.
-use Prim.Native.Nat.{ℕ, _+_, _≤_, _<_}
+use Prim.Native.Nat.{ℕ, _≤_}
 use native.Mathlib.Omega.{arith}
 use mathlib.Core.Path.{_≡_, refl, sym, ap, _∙_, subst}
 use mathlib.Core.Logic.{⊎-elim}
-use mathlib.Core.Bool.{Bool, true, false, cond, _&&_}
-use mathlib.Core.List.{List, []}
-use lib.ListN.{length, getD, replicate, getD-replicate, length-replicate}
+use mathlib.Core.Bool.{true, false, _&&_}
+use mathlib.Core.List.{List, [], _∷_}
+use lib.ListN.{length, replicate, getD-replicate}
 use lib.Dec.{ltb}
-use Rattle.lists.specs.Lists.{padTo, allOf, every}
-use Rattle.lists.proofs.Cases.{by-test, never, and-first, and-second, and-intro, cond-true, cond-false, lt-or-le}
+use borrow.Author.Tests.{eqb-true}
+use Rattle.lists.specs.Lists.{padTo, allOf, every, isZero}
+use Rattle.lists.proofs.Cases.{by-test, never, and-first, and-second, and-intro, cond-true, cond-false, lt-or-le, all-first, all-rest}
 use Rattle.lists.proofs.Bytes.{pad-take}
 use Rattle.store.specs.declared.Table.{Table}
 use Rattle.store.specs.declared.Store.{Store}
@@ -16,9 +17,11 @@ use Rattle.store.specs.Sound.{soundStore}
 use Rattle.handshake.specs.Handshake.{nameOk}
 use Rattle.session.specs.declared.Binding.{Binding}
 use Rattle.session.specs.declared.Connection.{Connection}
+use Rattle.session.specs.declared.Session.{Session}
+use Rattle.session.specs.Shape.{SessionShape}
 use Rattle.session.specs.Session.{isClosed, localName, remoteName, isBound, isUpdated, boundTo, noBinding, bindingAt, holding}
 use Rattle.session.proofs.Bindings.{past-last, unbound-past}
-use Rattle.soundness.specs.Sound.{refusesOpening, noMarks, isRefusedOpening, sound, soundSession}
+use Rattle.soundness.specs.Sound.{refusesOpening, emptyBinding, emptyBuffer, isRefusedOpening, sound, soundSession}
 use Rattle.soundness.proofs.Facts.{SoundConnection}
 use Rattle.soundness.proofs.Records.{sound-both, record-refused, empty-sound}
 use Rattle.opening.specs.Opening.{Role, answerer, caller, firstPhase, newConnection, opened, refusedOpening, refuseOpening, accept, Opening, «open»}
@@ -100,8 +103,77 @@ opened-sound ts role local remote a b = empty-sound (new-facts (firstPhase role)
 -- ---- a refused one
 
 refused-is : (n : ℕ) → refusesOpening n ≡ true → isRefusedOpening (refusedOpening n) ≡ true
-unfolding isRefusedOpening refusedOpening holding newConnection allOf every noMarks noBinding
+unfolding isRefusedOpening refusedOpening holding newConnection allOf every padTo emptyBinding emptyBuffer noBinding
 refused-is n h = and-intro (refusesOpening n) true h refl
+
+-- and only its record passes that test
+all-zeros : (xs : List ℕ) → every isZero xs ≡ true → xs ≡ padTo (length xs) []
+unfolding every padTo
+all-zeros [] h = refl
+all-zeros (x ∷ xs) h =
+    let e = eqb-true x 0 (and-first (isZero x) (every isZero xs) h) in
+    let f = all-zeros xs (and-second (isZero x) (every isZero xs) h) in
+    λ i. e i ∷ f i
+
+empty-is : (b : Binding) → emptyBinding b ≡ true → b ≡ noBinding
+unfolding emptyBinding noBinding
+empty-is b h =
+    let h₂ = all-rest _ _ h in
+    let h₃ = all-rest _ _ h₂ in
+    let bound = eqb-true (b .bound) 0 (all-first _ _ h) in
+    let updated = eqb-true (b .updated) 0 (all-first _ _ h₂) in
+    let id = eqb-true (b .id) 0 (all-first _ _ h₃) in
+    let previous = eqb-true (b .previous) 0 (all-first _ _ (all-rest _ _ h₃)) in
+    λ i. record { bound = bound i; updated = updated i; id = id i; previous = previous i }
+
+all-empty : (bs : List Binding) → every emptyBinding bs ≡ true → bs ≡ replicate (length bs) noBinding
+unfolding every
+all-empty [] h = refl
+all-empty (b ∷ bs) h =
+    let e = empty-is b (and-first (emptyBinding b) (every emptyBinding bs) h) in
+    let f = all-empty bs (and-second (emptyBinding b) (every emptyBinding bs) h) in
+    λ i. e i ∷ f i
+
+sized : (n : ℕ) (xs : List ℕ) → length xs ≡ n → every isZero xs ≡ true → xs ≡ padTo n []
+sized n xs l h = all-zeros xs h ∙ ap (λ (k : ℕ). padTo k []) l
+
+pub refused-only : (s : Session) → SessionShape s → isRefusedOpening s ≡ true → s ≡ refusedOpening (s .connection .number)
+unfolding isRefusedOpening refusedOpening holding newConnection emptyBuffer
+refused-only s sh h =
+    let c = s .connection in
+    let h₃ = all-rest _ _ (all-rest _ _ h) in
+    let b = all-first _ _ h₃ in
+    let z = all-first _ _ (all-rest _ _ h₃) in
+    let z₃ = all-rest _ _ (all-rest _ _ z) in
+    let n = all-first _ _ z₃ in
+    let n₃ = all-rest _ _ (all-rest _ _ n) in
+    let closed = eqb-true (c .closed) 1 (all-first _ _ h) in
+    let len = eqb-true (s .len) 0 (and-first (isZero (s .len)) (every isZero (s .buffer)) b) in
+    let buffer = sized 1027 (s .buffer) (sh .buffer .size) (and-second (isZero (s .len)) (every isZero (s .buffer)) b) in
+    let phase = eqb-true (c .phase) 0 (all-first _ _ z) in
+    let current = eqb-true (c .current) 0 (all-first _ _ (all-rest _ _ z)) in
+    let localLength = eqb-true (c .«local_len») 0 (all-first _ _ n) in
+    let remoteLength = eqb-true (c .«remote_len») 0 (all-first _ _ (all-rest _ _ n)) in
+    let local = sized 32 (c .local) (sh .connection .local .size) (all-first _ _ n₃) in
+    let remote = sized 32 (c .remote) (sh .connection .remote .size) (all-first _ _ (all-rest _ _ n₃)) in
+    let bindings =
+    all-empty (c .bindings) (all-first _ _ (all-rest _ _ z₃)) ∙ ap (λ (k : ℕ). replicate k noBinding) (sh .connection .places)
+    in
+    λ i. record {
+      connection = record {
+        phase = phase i;
+        closed = closed i;
+        number = c .number;
+        current = current i;
+        «local_len» = localLength i;
+        «remote_len» = remoteLength i;
+        local = local i;
+        remote = remote i;
+        bindings = bindings i;
+      };
+      len = len i;
+      buffer = buffer i;
+    }
 
 pub refused-sound : (ts : List Table) (n : ℕ) → refusesOpening n ≡ true → soundSession ts (refusedOpening n) ≡ true
 refused-sound ts n h = record-refused ts (refusedOpening n) (refused-is n h)

@@ -4,14 +4,14 @@ use mathlib.Core.Path.{_≡_, refl}
 use mathlib.Core.Bool.{Bool, true, false}
 use mathlib.Core.List.{List, [], _∷_}
 use lib.ListN.{length, replicate}
-use Rattle.lists.specs.Lists.{allOf, every}
+use Rattle.lists.specs.Lists.{allOf, every, padTo}
 use Rattle.store.specs.Store.{emptyStore}
 use Rattle.handshake.specs.Bytes.{within}
 use Rattle.handshake.specs.Handshake.{nameOk}
 use Rattle.session.specs.declared.Answer.{Answer}
 use Rattle.session.specs.declared.Answer.the-variants as answer
 use Rattle.session.specs.Session.{noBinding, holding}
-use Rattle.soundness.specs.Sound.{refusesOpening, noMarks, isRefusedOpening, soundSession}
+use Rattle.soundness.specs.Sound.{refusesOpening, emptyBinding, emptyBuffer, isRefusedOpening, soundSession}
 use Rattle.opening.specs.Opening.{Role, answerer, caller, newConnection, refusedOpening, «open»}
 
 -- `east` and `west`
@@ -49,5 +49,5 @@ order = refl
 
 -- the closed record of a refusal counts as sound
 refused : soundSession (emptyStore .tables) (refusedOpening 1) ∷ soundSession (emptyStore .tables) (refusedOpening 3) ∷ [] ≡ true ∷ true ∷ []
-unfolding soundSession isRefusedOpening refusedOpening newConnection holding refusesOpening allOf every noMarks noBinding
+unfolding soundSession isRefusedOpening refusedOpening newConnection holding refusesOpening allOf every padTo emptyBinding emptyBuffer noBinding
 refused = refl

@@ -1,13 +1,13 @@
 // The reading call: one session record, one store, a piece of the stream and room for a reply.
 use lists::pad;
-use reassembly::settle;
-use reassembly::take_piece;
+use pieces::take_piece;
 use session::Answer;
 use session::Connection;
 use session::Outcome;
 use session::Session;
 use session::UNFINISHED_MAX;
-use soundness::sound_session;
+use session_soundness::sound_session;
+use settling::settle;
 use store::Store;
 ghost use mathlib.Core.Path.{_≡_};
 ghost use mathlib.Core.Bool.{true, false};

@@ -22,8 +22,7 @@ use Rattle.session.specs.declared.Connection.{Connection}
 use Rattle.session.specs.declared.Commit.{Commit}
 use Rattle.session.specs.declared.Answer.{Answer}
 use Rattle.session.specs.declared.Answer.the-variants as answer
-use Rattle.session.specs.Session.{unfinished, holding, bindingAt, committed}
-use Rattle.session.proofs.Bindings.{committed-previous, committed-id}
+use Rattle.session.specs.Session.{unfinished, holding, bindingAt}
 use Rattle.body.specs.Fields.{spanIn}
 use Rattle.message.specs.Effects.{Effect, refuse, acknowledge, updatedEntry}
 use Rattle.opening.specs.Opening.{Role, Opening, refuseOpening, accept, refusedOpening, «open», openRoom}
@@ -186,7 +185,6 @@ module _ (s : Session) (t : Store) (m : Made) (p : ReadPromise s t m) (e : Effec
       let place = k .1 .1 .0 in
       let x = updated (s .connection) t (messageOf s m) table id place (k .1 .1 .1 .0) e judged (k .1 .1 .1 .1) in
       let stored = p .store ∙ (ap (λ (k : State). k .store) (j .state) ∙ x .store) in
-      let few : table < length (s .connection .bindings) = omega (arith, x .current, held .connection .currentLimit, held .connectionShape .places) in
       record {
         table = table;
         id = id;
@@ -209,11 +207,7 @@ module _ (s : Session) (t : Store) (m : Made) (p : ReadPromise s t m) (e : Effec
         others = λ i n. ap (λ (k : Store). getD (k .entries) i noEntry) stored ∙ put-others t place _ i n;
         tables = ap (λ (k : Store). k .tables) stored ∙ put-tables t place _;
         reply =
-            reply-is s t m p
-            ∙ (j .reply
-            ∙ (x .reply
-            ∙ (ap (λ (n : ℕ). acknowledge n (bindingAt (committed (s .connection) table id) table .previous)) (committed-id (s .connection) table id few)
-            ∙ ap (acknowledge (bindingAt (s .connection) table .id)) (committed-previous (s .connection) table id few))));
+            reply-is s t m p ∙ (j .reply ∙ x .reply);
       }
 
 none-acknowledges : isAcknowledgement [] ≡ false

@@ -25,7 +25,7 @@ use Rattle.session.specs.declared.Answer.the-variants as answer
 use Rattle.session.specs.Answers.{refusalReply, isSizeLimit, isProtocolError}
 use Rattle.session.specs.Session.{bindingAt, noBinding, isBound, isUpdated, boundTo, closedWith, establish, makeCurrent, currentMark, withTables, bind, bindTo, unbind, committed, commitTo}
 use Rattle.session.proofs.Changing.{mark-of}
-use Rattle.session.proofs.Bindings.{bound-here, bound-lost, bound-kept, bind-cases, commit-cases, committed-here, committed-other, committed-previous, committed-id}
+use Rattle.session.proofs.Bindings.{bound-here, bound-lost, bound-kept, bind-cases, commit-cases, committed-here, committed-other}
 use Rattle.message.specs.Effects.{Effect, refuse, note, peerError, control, controlAnswer, controlReply, defineAt, switchTo, commitAt, acknowledge}
 use Rattle.streams.specs.Model.{Ended}
 use Rattle.receiver.specs.Ledger.{Ledger, startLedger, post, defines, switches, commits, without, at, definedId, updateId, isAcknowledgement, Carried, RightReply, NoAcknowledgement}
@@ -325,9 +325,8 @@ module _ (c : Connection) (table id : ℕ) (h : table < 8) (long : length (c .bi
       subst (λ (o : Option ℕ). Follows (committed c table id) (commits l o (some id))) (sym ledger-current)
       (unfold commits in record { current = commits-current; bound = commits-bound; last = commits-last })
 
-  pub carried : isBound (bindingAt c table) ≡ true → bindingAt (committed c table id) table .id < 2 ^ 32
-      → bindingAt (committed c table id) table .previous < 2 ^ 32
-      → Carried (commits l (l .current) (some id)) (acknowledge (bindingAt (committed c table id) table .id) (bindingAt (committed c table id) table .previous)) table id
+  pub carried : isBound (bindingAt c table) ≡ true → bindingAt c table .id < 2 ^ 32 → id < 2 ^ 32
+      → Carried (commits l (l .current) (some id)) (acknowledge (bindingAt c table .id) id) table id
   carried b i u = record {
     id = bindingAt c table .id;
     current = after-commit .current ∙ (sym commits-current ∙ ledger-current);
@@ -335,14 +334,14 @@ module _ (c : Connection) (table id : ℕ) (h : table < 8) (long : length (c .bi
         after-commit .bound table
         ∙ (sym (commits-bound table) ∙ (f .bound table ∙ (start-bound c table ∙ unfold boundOf in cond-true (isBound (bindingAt c table)) (some (bindingAt c table .id)) none b)));
     last = after-commit .last table ∙ (sym (commits-last table) ∙ cond-true (eqb table table) (some id) (l .last table) (eq-eqb table table refl));
-    small-id = subst (λ (n : ℕ). n < 2 ^ 32) (committed-id c table id here) i;
-    small-update = subst (λ (n : ℕ). n < 2 ^ 32) (committed-previous c table id here) u;
-    carries = rw (committed-id c table id here, committed-previous c table id here) refl;
+    small-id = i;
+    small-update = u;
+    carries = refl;
   }
 
 pub commit-follow : (c : Connection) (s : Store) (table id : ℕ) (e : Entry) (place : ℕ) (how : Commit) (m : List ℕ) → table < 8
     → length (c .bindings) ≡ 8 → c .current ≡ table + 1 → isBound (bindingAt c table) ≡ true
-    → bindingAt (committed c table id) table .id < 2 ^ 32 → bindingAt (committed c table id) table .previous < 2 ^ 32
+    → bindingAt c table .id < 2 ^ 32 → id < 2 ^ 32
     → ((l : Ledger) → Follows c l → updateId m (at (l .last) (l .current)) ≡ some id)
     → Follow c m (commitAt c s table id e place how)
 unfolding commitAt post

@@ -36,9 +36,9 @@ use Rattle.session.specs.declared.Commit.the-variants as commit
 use Rattle.session.specs.declared.Answer.{Answer}
 use Rattle.session.specs.declared.Answer.the-variants as answer
 use Rattle.session.specs.Answers.{refusalReply, isSizeLimit, isProtocolError}
-use Rattle.session.specs.Session.{isClosed, localName, remoteName, establish, findBound, bindingAt, isBound, isUpdated, committed}
+use Rattle.session.specs.Session.{isClosed, localName, remoteName, establish, findBound, bindingAt, isBound, isUpdated}
 use Rattle.soundness.specs.Sound.{isClosing, refusesOpening}
-use Rattle.session.proofs.Bindings.{found-bound}
+use Rattle.session.proofs.Bindings.{found-bound, committed-previous}
 use Rattle.soundness.proofs.Keeping.{establish-keeps}
 use Rattle.session.proofs.Shapes.{establish-shape}
 use Rattle.body.specs.Fields.{Read, got, short, outside, spanIn}
@@ -237,19 +237,19 @@ module _ (c : Connection) (s : Store) (h : Held c s) (m : List ℕ) where
       short = reply-short p how k;
       kept = k;
       follow = commit-follow c s table id e p how m small (h .connectionShape .places) now (h .connection .currentBound table now)
-          (id-small k) (update-small k) ids;
+          (h .connectionShape .binding table small .id) (update-small k) ids;
     }
       where
-        id-small : Kept (commitAt c s table id e p how) → bindingAt (committed c table id) table .id < 2 ^ 32
-        id-small k = unfold commitAt in k .connectionShape .binding table small .id
-
-        update-small : Kept (commitAt c s table id e p how) → bindingAt (committed c table id) table .previous < 2 ^ 32
-        update-small k = unfold commitAt in k .connectionShape .binding table small .previous
+        update-small : Kept (commitAt c s table id e p how) → id < 2 ^ 32
+        update-small k =
+            unfold commitAt in
+            subst (λ (n : ℕ). n < 2 ^ 32) (committed-previous c table id (omega (arith, small, h .connectionShape .places)))
+            (k .connectionShape .binding table small .previous)
 
         reply-short : (p : ℕ) (how : Commit) → Kept (commitAt c s table id e p how) → length (commitAt c s table id e p how .reply) ≤ 12
         reply-short p how k =
             unfold commitAt in
-            acknowledge-short (bindingAt (committed c table id) table .id) (bindingAt (committed c table id) table .previous) (k .connectionShape .binding table small .id)
+            acknowledge-short (bindingAt c table .id) id (h .connectionShape .binding table small .id)
 
     commit-new-right : (f : Found) → Kept (commitNew c s table id e f) → Right c m (commitNew c s table id e f)
     unfolding commitNew

@@ -18,7 +18,7 @@ use Rattle.session.specs.declared.Connection.{Connection}
 use Rattle.session.specs.declared.Commit.{Commit}
 use Rattle.session.specs.declared.Answer.{Answer}
 use Rattle.session.specs.declared.Answer.the-variants as answer
-use Rattle.session.specs.Session.{bindingAt, committed}
+use Rattle.session.specs.Session.{bindingAt}
 use Rattle.soundness.proofs.Facts.{heldAt}
 use Rattle.soundness.proofs.Keeping.{put-held}
 use Rattle.body.specs.Fields.{got}
@@ -131,7 +131,7 @@ pub record Updated (c : Connection) (t : Store) (u : List ℕ) (table id place :
   pub own-id : fields .id ≡ id
   pub inside : place < length (t .entries)
   pub store : e .store ≡ putEntry t place (updatedEntry (bodyIn u start end) table fields)
-  pub reply : e .reply ≡ acknowledge (bindingAt (committed c table id) table .id) (bindingAt (committed c table id) table .previous)
+  pub reply : e .reply ≡ acknowledge (bindingAt c table .id) id
 
 module _ (c : Connection) (t : Store) (u : List ℕ) (table id place : ℕ) (how : Commit) where
   noted-update : (a : Answer) → Noted a → a ≡ answer.Update table id place how → ⊥
@@ -166,9 +166,7 @@ module _ (c : Connection) (t : Store) (u : List ℕ) (table id place : ℕ) (how
         store =
             ap (λ (n : ℕ). putEntry t n (updatedEntry body now fields)) d
             ∙ (ap (λ (n : ℕ). putEntry t place (updatedEntry body n fields)) a ∙ ap (λ (x : List ℕ). putEntry t place (updatedEntry x table fields)) (k .body-is));
-        reply =
-            ap (λ (n : ℕ). acknowledge (bindingAt (committed c now n) now .id) (bindingAt (committed c now n) now .previous)) b
-            ∙ ap (λ (n : ℕ). acknowledge (bindingAt (committed c n id) n .id) (bindingAt (committed c n id) n .previous)) a;
+        reply = ap (acknowledge (bindingAt c now .id)) b ∙ ap (λ (n : ℕ). acknowledge (bindingAt c n .id) id) a;
       }
 
   pub updated : (e : Effect) → judge c t u ≡ settled e → e .answer ≡ answer.Update table id place how → Updated c t u table id place e

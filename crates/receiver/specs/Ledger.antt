@@ -99,7 +99,7 @@ defines l place id = record {
 unfoldable pub switches : Ledger → ℕ → Ledger
 switches l place = record { current = some place; bound = l .bound; last = l .last }
 
--- the current table has a new last committed update ID
+-- "An accepted update is committed.": the current table has a new last committed update ID
 unfoldable pub commits : Ledger → Option ℕ → Option ℕ → Ledger
 commits l (some place) id = record {
   current = l .current;

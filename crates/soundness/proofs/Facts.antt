@@ -3,12 +3,12 @@ use Prim.Native.Nat.{ℕ, zero, suc, _+_, _-_, _≤_, _<_}
 use native.Mathlib.Omega.{arith}
 use mathlib.Core.Path.{_≡_, refl, sym, ap, _∙_, subst}
 use mathlib.Core.Logic.{⊎-elim}
-use mathlib.Core.Bool.{Bool, true, false, cond, not, _&&_, _||_}
+use mathlib.Core.Bool.{Bool, true, false, not, _&&_, _||_}
 use mathlib.Core.List.{List, [], _∷_}
 use lib.ListN.{length, getD}
 use lib.Dec.{eqb, leb}
-use borrow.Author.Tests.{leb-true, le-leb, eqb-true, eq-eqb, ne-eqb, eqb-false, not-true}
-use Rattle.lists.specs.Lists.{allOf, every, distinct}
+use borrow.Author.Tests.{leb-true, le-leb, eqb-true, eq-eqb, eqb-false, not-true}
+use Rattle.lists.specs.Lists.{every, distinct}
 use Rattle.lists.proofs.Cases.{by-test, never, not-passed, and-first, and-second, and-intro, or-true, or-false, cond-true, cond-false, all-none, all-first, all-rest, all-intro, lt-or-le}
 use Rattle.lists.proofs.Every.{every-at, every-from}
 use Rattle.lists.proofs.Distinct.{distinct-at, distinct-from}

@@ -1,23 +1,23 @@
 -- What each change of a connection, and a table put into the store, keeps of soundness. Assumes nothing.
-use Prim.Native.Nat.{ℕ, _+_, _-_, _≤_, _<_}
+use Prim.Native.Nat.{ℕ, _+_, _≤_, _<_}
 use native.Mathlib.Omega.{arith}
 use mathlib.Core.Path.{_≡_, refl, sym, ap, _∙_, subst}
 use mathlib.Core.Logic.{⊎-elim}
-use mathlib.Core.Bool.{Bool, true, false}
+use mathlib.Core.Bool.{true}
 use mathlib.Core.List.{List}
-use lib.ListN.{length, set, getD}
+use lib.ListN.{length, set}
 use lib.Seq.{set-out, getD-set-same, getD-set-other}
-use Rattle.lists.proofs.Cases.{by-test, never, lt-or-le, eq-or-ne}
+use Rattle.lists.proofs.Cases.{never, lt-or-le, eq-or-ne}
 use Rattle.store.specs.declared.Table.{Table}
 use Rattle.store.specs.Store.{tableHeld, noTable}
 use Rattle.session.specs.declared.Binding.{Binding}
 use Rattle.session.specs.declared.Connection.{Connection}
-use Rattle.session.specs.Session.{isClosed, localName, remoteName, isBound, isUpdated, boundTo, noBinding, bindingAt, closedWith, establish, currentMark, makeCurrent, withTables, unbind, bindTo, bind, commitTo, committed}
+use Rattle.session.specs.Session.{isClosed, localName, remoteName, isBound, isUpdated, boundTo, bindingAt, closedWith, establish, makeCurrent, withTables, unbind, bindTo, bind, commitTo, committed}
 use Rattle.soundness.specs.Sound.{isClosing}
 use Rattle.session.proofs.Changing.{mark-of}
 use Rattle.session.proofs.Shapes.{mark-limit}
 use Rattle.session.proofs.Bindings.{bound-here, bound-only, bind-cases, commit-cases}
-use Rattle.soundness.proofs.Facts.{heldAt, SoundConnection, bound-to-bound, bound-to-id}
+use Rattle.soundness.proofs.Facts.{heldAt, SoundConnection, bound-to-id}
 
 -- ---- the store
 

@@ -1,18 +1,17 @@
--- The code of the soundness tests: one law for each way to a result, and the loops over the places. Assumes nothing.
+-- The code of the soundness tests: one law for each way to a result, and the loops over the places.
 use Prim.Native.Nat.{ℕ, _+_, _-_, _≤_, _<_}
 use native.Mathlib.Omega.{arith}
-use native.Mathlib.Numerals.{add-one}
-use mathlib.Core.Path.{_≡_, refl, sym, ap, _∙_, subst}
+use mathlib.Core.Path.{_≡_, refl, sym, ap, _∙_}
 use mathlib.Core.Logic.{⊎-elim}
-use mathlib.Core.Bool.{Bool, true, false, cond, not, _&&_, _||_}
+use mathlib.Core.Bool.{Bool, true, false, not, _&&_, _||_}
 use mathlib.Core.List.{List, [], _∷_, _++_}
 use lib.ListN.{length, take, drop, getD, drop-of-length-le}
-use lib.Seq.{drop-cons, length-take-le, take-all}
+use lib.Seq.{length-take-le, take-all}
 use lib.Dec.{eqb, leb, ltb}
 use borrow.Author.Needs.{needs}
 use borrow.Author.Tests.{eq-eqb, ne-eqb, le-leb, lt-leb, lt-ltb, le-ltb}
-use Rattle.lists.specs.Lists.{allOf, every, distinct}
-use Rattle.lists.proofs.Cases.{lt-or-le, and-true, and-false, or-true, or-false, cond-true, cond-false, all-none, all-true, all-false}
+use Rattle.lists.specs.Lists.{allOf, every, distinct, isZero}
+use Rattle.lists.proofs.Cases.{lt-or-le, and-true, and-false, or-true, or-false, cond-true, cond-false, all-true, all-false}
 use Rattle.lists.proofs.Every.{getD-any, drop-step, every-stop, every-next, every-end}
 use Rattle.lists.proofs.Distinct.{distinct-stop, distinct-next, distinct-end}
 use Rattle.store.specs.declared.Table.{Table}
@@ -26,7 +25,7 @@ use Rattle.session.specs.declared.Binding.{Binding}
 use Rattle.session.specs.declared.Connection.{Connection}
 use Rattle.session.specs.declared.Session.{Session}
 use Rattle.session.specs.Session.{unfinished, localName, remoteName, isClosed, isBound, isUpdated, boundTo, noBinding, bindingAt}
-use Rattle.soundness.specs.Sound.{refusesOpening, isClosing, numberOk, nameWithin, namesOk, marksOk, unmarked, placesOk, sameId, otherId, currentOk, fieldTests, bindingTests, soundConnection, nameLength, helloWaits, statusWaits, frameWaits, waits, unfinishedOk, noMarks, blankTests, isRefusedOpening, soundSession, sound}
+use Rattle.soundness.specs.Sound.{refusesOpening, isClosing, numberOk, nameWithin, namesOk, marksOk, unmarked, placesOk, sameId, otherId, currentOk, fieldTests, bindingTests, soundConnection, nameLength, helloWaits, statusWaits, frameWaits, waits, unfinishedOk, bindingZeros, emptyBinding, emptyBuffer, refusedOpeningTests, isRefusedOpening, soundSession, sound}
 use Rattle.soundness.proofs.Waiting.{waits-hello, waits-status, waits-frame, waits-whole}
 use Rattle.session.proofs.Basics.{length-mapped, blank, told}
 
@@ -382,64 +381,42 @@ pub ruleset unfinishing = (needs, part-fits, part-long, buffer-over, closed-empt
 
 -- ---- the record of a refused opening
 
-module _ (b : Binding) where
-  pub some-bound : (b .bound ≡ 0 → ⊥) → false ≡ noMarks b
-  unfolding noMarks
-  some-bound e = sym (and-false _ _ (ne-eqb (b .bound) 0 e))
+pub zero-passes : (n : ℕ) → n ≡ 0 → true ≡ eqb n 0
+zero-passes n e = sym (eq-eqb n 0 e)
 
-  pub none-bound : b .bound ≡ 0 → eqb (b .updated) 0 ≡ noMarks b
-  unfolding noMarks
-  none-bound e = sym (and-true _ _ (eq-eqb (b .bound) 0 e))
+pub other-fails : (n : ℕ) → (n ≡ 0 → ⊥) → false ≡ eqb n 0
+other-fails n e = sym (ne-eqb n 0 e)
 
-pub ruleset blanking = (needs, some-bound, none-bound)
+pub one-passes : (n : ℕ) → n ≡ 1 → true ≡ eqb n 1
+one-passes n e = sym (eq-eqb n 1 e)
 
-module _ (c : Connection) where
-  pub phase-other : (c .phase ≡ 0 → ⊥) → false ≡ allOf (blankTests c)
-  phase-other e = sym (all-false _ _ (ne-eqb (c .phase) 0 e))
+pub not-one-fails : (n : ℕ) → (n ≡ 1 → ⊥) → false ≡ eqb n 1
+not-one-fails n e = sym (ne-eqb n 1 e)
 
-  module _ (e₁ : c .phase ≡ 0) where
-    pub current-other : (c .current ≡ 0 → ⊥) → false ≡ allOf (blankTests c)
-    current-other e = sym (all-true _ _ (eq-eqb (c .phase) 0 e₁) ∙ all-false _ _ (ne-eqb (c .current) 0 e))
+pub ruleset zeros = (needs, told, zero-passes, other-fails, first-fails, second-fails, third-fails, fourth-decides)
 
-    module _ (e₂ : c .current ≡ 0) where
-      pub local-other : (c .«local_len» ≡ 0 → ⊥) → false ≡ allOf (blankTests c)
-      local-other e =
-          sym (all-true _ _ (eq-eqb (c .phase) 0 e₁) ∙ all-true _ _ (eq-eqb (c .current) 0 e₂) ∙ all-false _ _ (ne-eqb (c .«local_len») 0 e))
+pub binding-is : (b : Binding) (r : Bool) → r ≡ allOf (bindingZeros b) → r ≡ emptyBinding b
+unfolding emptyBinding
+binding-is b r e = e
 
-      module _ (e₃ : c .«local_len» ≡ 0) where
-        names-next : allOf (blankTests c) ≡ allOf (eqb (c .«remote_len») 0 ∷ every noMarks (c .bindings) ∷ [])
-        names-next =
-            all-true _ _ (eq-eqb (c .phase) 0 e₁) ∙ all-true _ _ (eq-eqb (c .current) 0 e₂) ∙ all-true _ _ (eq-eqb (c .«local_len») 0 e₃)
-
-        pub remote-other : (c .«remote_len» ≡ 0 → ⊥) → false ≡ allOf (blankTests c)
-        remote-other e = sym (names-next ∙ all-false _ _ (ne-eqb (c .«remote_len») 0 e))
-
-        pub marks-decide : (r : Bool) → c .«remote_len» ≡ 0 → r ≡ every noMarks (c .bindings) → r ≡ allOf (blankTests c)
-        marks-decide r e f = f ∙ sym (names-next ∙ all-true _ _ (eq-eqb (c .«remote_len») 0 e) ∙ all-one (every noMarks (c .bindings)))
-
-pub ruleset blanks = (needs, phase-other, current-other, local-other, remote-other, marks-decide)
+pub ruleset empty-bindings = (binding-is, zeros)
 
 module _ (s : Session) where
-  pub still-open : (s .connection .closed ≡ 1 → ⊥) → false ≡ isRefusedOpening s
+  pub bytes-left : (s .len ≡ 0 → ⊥) → false ≡ emptyBuffer s
+  unfolding emptyBuffer
+  bytes-left e = sym (and-false _ _ (ne-eqb (s .len) 0 e))
+
+  pub buffer-decides : (r : Bool) → s .len ≡ 0 → r ≡ every isZero (s .buffer) → r ≡ emptyBuffer s
+  unfolding emptyBuffer
+  buffer-decides r e f = f ∙ sym (and-true _ _ (eq-eqb (s .len) 0 e))
+
+  pub refused-is : (r : Bool) → r ≡ allOf (refusedOpeningTests s) → r ≡ isRefusedOpening s
   unfolding isRefusedOpening
-  still-open e = sym (and-false _ _ (ne-eqb (s .connection .closed) 1 e))
+  refused-is r e = e
 
-  module _ (e : s .connection .closed ≡ 1) where
-    pub other-number : false ≡ refusesOpening (s .connection .number) → false ≡ isRefusedOpening s
-    unfolding isRefusedOpening
-    other-number f = sym (and-true _ _ (eq-eqb (s .connection .closed) 1 e) ∙ and-false _ _ (sym f))
+pub ruleset empty-buffers = (needs, bytes-left, buffer-decides)
 
-    module _ (f : true ≡ refusesOpening (s .connection .number)) where
-      pub some-bytes : (s .len ≡ 0 → ⊥) → false ≡ isRefusedOpening s
-      unfolding isRefusedOpening
-      some-bytes g = sym (and-true _ _ (eq-eqb (s .connection .closed) 1 e) ∙ and-true _ _ (sym f) ∙ and-false _ _ (ne-eqb (s .len) 0 g))
-
-      pub blank-decides : (r : Bool) → s .len ≡ 0 → r ≡ allOf (blankTests (s .connection)) → r ≡ isRefusedOpening s
-      unfolding isRefusedOpening
-      blank-decides r g h =
-          h ∙ sym (and-true _ _ (eq-eqb (s .connection .closed) 1 e) ∙ and-true _ _ (sym f) ∙ and-true _ _ (eq-eqb (s .len) 0 g))
-
-pub ruleset refused = (needs, told, still-open, other-number, some-bytes, blank-decides)
+pub ruleset refused = (needs, told, refused-is, one-passes, not-one-fails, first-fails, second-fails, third-fails, fourth-decides)
 
 -- ---- the record
 

@@ -1,11 +1,11 @@
 -- Soundness of a record with a store: document 01's "Not sound means", as far as it concerns the session record. Each kind of fault is a
 -- test of its own.
-use Prim.Native.Nat.{ℕ, zero, suc, _+_, _-_}
+use Prim.Native.Nat.{ℕ, _-_}
 use mathlib.Core.List.{List, [], _∷_, _++_, map}
 use mathlib.Core.Bool.{Bool, true, false, cond, not, _&&_, _||_}
-use lib.ListN.{length, take, getD}
+use lib.ListN.{take, getD}
 use lib.Dec.{ltb, leb, eqb}
-use Rattle.lists.specs.Lists.{allOf, every, distinct}
+use Rattle.lists.specs.Lists.{allOf, every, distinct, isZero}
 use Rattle.store.specs.declared.Table.{Table}
 use Rattle.store.specs.declared.Store.{Store}
 use Rattle.store.specs.Store.{tableHeld, noTable}
@@ -131,24 +131,35 @@ bindingTests tables c =
 unfoldable pub soundConnection : List Table → Connection → Bool
 soundConnection tables c = allOf (fieldTests c ++ bindingTests tables c)
 
-unfoldable pub noMarks : Binding → Bool
-noMarks b = eqb (b .bound) 0 && eqb (b .updated) 0
+-- ---- "1 and 3 in opening return a closed record with that number, all else empty or zero, which counts as sound"
 
--- "all else empty or zero"
-abbrev pub blankTests : Connection → List Bool
-blankTests c =
-    eqb (c .phase) 0
-    ∷ eqb (c .current) 0
-    ∷ eqb (c .«local_len») 0
-    ∷ eqb (c .«remote_len») 0
-    ∷ every noMarks (c .bindings)
+abbrev pub bindingZeros : Binding → List Bool
+bindingZeros b = isZero (b .bound) ∷ isZero (b .updated) ∷ isZero (b .id) ∷ isZero (b .previous) ∷ []
+
+unfoldable pub emptyBinding : Binding → Bool
+emptyBinding b = allOf (bindingZeros b)
+
+abbrev pub nameZeros : Connection → List Bool
+nameZeros c = isZero (c .«local_len») ∷ isZero (c .«remote_len») ∷ every isZero (c .local) ∷ every isZero (c .remote) ∷ []
+
+abbrev pub connectionZeros : Connection → List Bool
+connectionZeros c = isZero (c .phase) ∷ isZero (c .current) ∷ allOf (nameZeros c) ∷ every emptyBinding (c .bindings) ∷ []
+
+unfoldable pub emptyBuffer : Session → Bool
+emptyBuffer s = isZero (s .len) && every isZero (s .buffer)
+
+abbrev pub refusedOpeningTests : Session → List Bool
+refusedOpeningTests s =
+    eqb (s .connection .closed) 1
+    ∷ refusesOpening (s .connection .number)
+    ∷ emptyBuffer s
+    ∷ allOf (connectionZeros (s .connection))
     ∷ []
 
--- "1 and 3 in opening return a closed record with that number, all else empty or zero, which counts as sound"
 unfoldable pub isRefusedOpening : Session → Bool
-isRefusedOpening s =
-    let c = s .connection in
-    eqb (c .closed) 1 && (refusesOpening (c .number) && (eqb (s .len) 0 && allOf (blankTests c)))
+isRefusedOpening s = allOf (refusedOpeningTests s)
+
+-- ---- record and store
 
 unfoldable pub soundSession : List Table → Session → Bool
 soundSession tables s = isRefusedOpening s || (soundConnection tables (s .connection) && unfinishedOk s)

@@ -1,8 +1,7 @@
 -- The layout and the tests at worked examples.
-use Prim.Native.Nat.{ℕ}
 use mathlib.Core.Path.{_≡_, refl}
-use mathlib.Core.List.{List, [], _∷_}
-use mathlib.Core.Bool.{Bool, true, false}
+use mathlib.Core.List.{[], _∷_}
+use mathlib.Core.Bool.{true, false}
 use lib.ListN.{length, getD}
 use Rattle.lists.specs.Lists.{allOf, every, distinct, among}
 use Rattle.store.specs.Limits.{slotTypes, slotsFor, integersOf, isRate, rateTypes, keyLengthOk, keyKind}

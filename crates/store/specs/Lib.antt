@@ -2,5 +2,4 @@ pub mod Limits
 pub mod Store
 pub mod Shape
 pub mod Sound
-pub mod Contents
 pub mod Examples

@@ -1,7 +1,7 @@
 -- The numbers of document 01 that concern tables and entries, and the layout of an entry's values.
-use Prim.Native.Nat.{ℕ, zero, suc, _+_, _-_, _/_, _%_, _^_}
+use Prim.Native.Nat.{ℕ, _/_, _%_, _^_}
 use mathlib.Core.List.{List, [], _∷_, _++_}
-use mathlib.Core.Bool.{Bool, true, false, cond, not, _&&_, _||_}
+use mathlib.Core.Bool.{Bool, true, false, cond, _&&_}
 use lib.ListN.{replicate}
 use lib.Dec.{ltb, leb, eqb}
 use Rattle.lists.specs.Lists.{among}
@@ -29,10 +29,6 @@ rateCount = 8
 
 abbrev pub valueCount : ℕ
 valueCount = 34
-
--- "IDs, expiry and periods are at most 2^32 - 1"
-abbrev pub max32 : ℕ
-max32 = 2 ^ 32 - 1
 
 -- ---- key types
 

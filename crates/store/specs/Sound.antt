@@ -1,15 +1,15 @@
 -- Soundness of a store: document 01's "Not sound means", as far as it concerns tables and entries. Each kind of fault is a test of its own;
 -- free places aren't looked at, nor values that a table doesn't have.
-use Prim.Native.Nat.{ℕ, zero, suc, _+_, _-_, _^_}
-use mathlib.Core.List.{List, [], _∷_, _++_}
-use mathlib.Core.Bool.{Bool, true, false, cond, not, _&&_, _||_}
-use lib.ListN.{length, take, drop, getD}
+use Prim.Native.Nat.{ℕ, _^_}
+use mathlib.Core.List.{List, [], _∷_}
+use mathlib.Core.Bool.{Bool, true, cond, not, _&&_, _||_}
+use lib.ListN.{drop, getD}
 use lib.Dec.{ltb, leb, eqb}
-use Rattle.lists.specs.Lists.{allOf, every, distinct, eqBytes, isZero}
+use Rattle.lists.specs.Lists.{allOf, every, distinct, isZero}
 use Rattle.store.specs.declared.Table.{Table}
 use Rattle.store.specs.declared.Entry.{Entry}
 use Rattle.store.specs.declared.Store.{Store}
-use Rattle.store.specs.Limits.{nameMax, keyMax, keyKind, isKnown, isString, keyLengthOk, dataTypesOk, present, isWide, slotTypes, tablePlaces}
+use Rattle.store.specs.Limits.{nameMax, keyKind, isKnown, isString, keyLengthOk, dataTypesOk, present, isWide, slotTypes, tablePlaces}
 use Rattle.store.specs.Store.{tableHeld, entryHeld, tableNamed, entryKeyed, nameOf, keyOf, noTable}
 
 -- ---- a table: "a count, length, place, field or value outside the limits here"

@@ -1,12 +1,12 @@
 -- Tables and entries: what is held, lookup, the lowest free place, and what putting one makes.
-use Prim.Native.Nat.{ℕ, zero, suc, _+_, _-_}
-use mathlib.Core.List.{List, [], _∷_, _++_}
-use mathlib.Core.Bool.{Bool, true, false, cond, not, _&&_, _||_}
-use lib.ListN.{length, take, drop, set, getD, replicate}
+use Prim.Native.Nat.{ℕ}
+use mathlib.Core.List.{List}
+use mathlib.Core.Bool.{Bool, _&&_}
+use lib.ListN.{length, take, set, replicate}
 use lib.IntN.{ℤ, pos}
-use lib.Dec.{ltb, leb, eqb}
+use lib.Dec.{eqb}
 use Rattle.lists.specs.declared.Found.{Found}
-use Rattle.lists.specs.Lists.{every, firstPlace, eqBytes, padTo}
+use Rattle.lists.specs.Lists.{firstPlace, eqBytes, padTo}
 use Rattle.store.specs.declared.Table.{Table}
 use Rattle.store.specs.declared.Entry.{Entry}
 use Rattle.store.specs.declared.Store.{Store}

@@ -3,7 +3,7 @@ ghost use mathlib.Core.Path.{_≡_};
 ghost use mathlib.Core.Bool.{_&&_};
 ghost use lib.Dec.{leb};
 ghost use lib.ListN.{getD};
-ghost use Rattle.store.specs.Limits.{keyKind, isKnown, isString, keyLengthFits, keyLengthOk, present, isRate, isWide, slotTypes, rateTypes};
+ghost use Rattle.store.specs.Limits.{keyKind, isKnown, isString, keyLengthFits, keyLengthOk, present, isWide, slotTypes, rateTypes};
 use store::KEY_MAX;
 use store::KeyKind;
 use store::RATES;
@@ -162,15 +162,6 @@ pub fn present(types: u32, t: usize) -> bool
         return false;
     }
     types / POWERS[t] % 2 == 1
-}
-
-pub fn is_rate(t: usize) -> bool
-    ensures { λ r. ⌜ r ≡ isRate t ⌝ }
-{
-    match t {
-        3 | 5 | 8 | 10 | 12 | 14 | 16 | 18 => true,
-        _ => false,
-    }
 }
 
 // Whether the values of data type t take 64 bits.

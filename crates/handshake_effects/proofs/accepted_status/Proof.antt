@@ -1,0 +1,15 @@
+use Rattle.reassembly.proofs.Settling.{accepting}
+use Rattle.handshake_effects.proofs.accepted_status.Statement.{statement}
+use Rattle.handshake_effects.proofs.accepted_status.Tie as tie
+
+establish-connection-requires : tie.Need-establish-connection-requires
+establish-connection-requires c κs = search accepting
+
+no-reply-requires : tie.Need-no-reply-requires
+no-reply-requires c κs = search accepting
+
+returns : tie.Need-returns
+returns c = search accepting
+
+pub accepted-status-spec : {M : Type 1} → statement M
+accepted-status-spec = tie.close (tie.spec establish-connection-requires no-reply-requires returns)

@@ -1,0 +1,12 @@
+use Rattle.reassembly.proofs.Settling.{accepting}
+use Rattle.handshake_effects.proofs.more.Statement.{statement}
+use Rattle.handshake_effects.proofs.more.Tie as tie
+
+no-reply-requires : tie.Need-no-reply-requires
+no-reply-requires c κs = search accepting
+
+returns : tie.Need-returns
+returns c = search accepting
+
+pub more-spec : {M : Type 1} → statement M
+more-spec = tie.close (tie.spec no-reply-requires returns)

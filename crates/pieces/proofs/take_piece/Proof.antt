@@ -1,0 +1,74 @@
+use Rattle.reassembly.proofs.Taking.{taking, Taking}
+use Prim.Native.Nat.{_-_}
+use lib.ListN.{length}
+use Rattle.pieces.proofs.take_piece.Statement.{statement}
+use Rattle.pieces.proofs.take_piece.Tie as tie
+
+abbrev Inv-loop : tie.InvT-loop
+Inv-loop piece c bytes₀ len₀ i₀ bytes len i = Taking piece c bytes₀ len₀ bytes len i
+
+abbrev μ-loop : tie.MeasureT-loop
+μ-loop piece c bytes₀ len₀ i₀ bytes len i = length piece - i
+
+unfinished-bytes-requires : tie.Need-unfinished-bytes-requires Inv-loop μ-loop
+unfinished-bytes-requires c κs = search taking
+
+unfinished-len-requires : tie.Need-unfinished-len-requires Inv-loop μ-loop
+unfinished-len-requires c κs = search taking
+
+loop-holds : tie.Need-loop-holds Inv-loop μ-loop
+loop-holds c = search taking
+
+shared-slice-read-bytes : tie.Need-shared-slice-read-bytes Inv-loop μ-loop
+shared-slice-read-bytes c = search taking
+
+array-write-bytes : tie.Need-array-write-bytes Inv-loop μ-loop
+array-write-bytes c = search taking
+
+add-len : tie.Need-add-len Inv-loop μ-loop
+add-len c = search taking
+
+add-i : tie.Need-add-i Inv-loop μ-loop
+add-i c = search taking
+
+array-share-prefix-bytes : tie.Need-array-share-prefix-bytes Inv-loop μ-loop
+array-share-prefix-bytes c = search taking
+
+slice-aggregate-bytes-wait : tie.Need-slice-aggregate-bytes-wait Inv-loop μ-loop
+slice-aggregate-bytes-wait c = search taking
+
+bytes-wait-requires : tie.Need-bytes-wait-requires Inv-loop μ-loop
+bytes-wait-requires c κs = search taking
+
+returns : tie.Need-returns Inv-loop μ-loop
+returns c = search taking
+
+loop-less : tie.Need-loop-less Inv-loop μ-loop
+loop-less c = search taking
+
+loop-again : tie.Need-loop-again Inv-loop μ-loop
+loop-again c = search taking
+
+returns-2 : tie.Need-returns-2 Inv-loop μ-loop
+returns-2 c = search taking
+
+pub take-piece-spec : {M : Type 1} → statement M
+take-piece-spec =
+    tie.close
+    (tie.spec
+    Inv-loop
+    μ-loop
+    unfinished-bytes-requires
+    unfinished-len-requires
+    loop-holds
+    shared-slice-read-bytes
+    array-write-bytes
+    add-len
+    add-i
+    array-share-prefix-bytes
+    slice-aggregate-bytes-wait
+    bytes-wait-requires
+    returns
+    loop-less
+    loop-again
+    returns-2)

@@ -1,0 +1,63 @@
+// Taking a piece: its bytes join the unfinished ones until these end a message or show a refusal.
+use lists::pad;
+use reassembly::MESSAGE_MAX;
+use reassembly::Taken;
+use session::Session;
+use session::UNFINISHED_MAX;
+use waiting::bytes_wait;
+ghost use mathlib.Core.Path.{_≡_};
+ghost use Prim.Native.Nat.{_≤_};
+ghost use lib.ListN.{length};
+ghost use Rattle.lists.specs.Lists.{padTo};
+ghost use Rattle.session.specs.Session.{unfinished};
+ghost use Rattle.reassembly.specs.Pieces.{takePiece, takenOf};
+
+// How many bytes of a record are unfinished; where its length is past the buffer, all of them.
+fn unfinished_len(session: Session) -> usize
+    ensures { λ r. ⌜ (r ≡ length (unfinished session)) × (r ≤ 1027) ⌝ }
+{
+    let len = session.len;
+    if UNFINISHED_MAX < len {
+        return UNFINISHED_MAX;
+    }
+    len
+}
+
+fn unfinished_bytes(session: Session) -> [u8; MESSAGE_MAX]
+    ensures { λ r. ⌜ r ≡ padTo 1028 (unfinished session) ⌝ }
+{
+    let len = unfinished_len(session);
+    let buffer = session.buffer;
+    let mut bytes = [0u8; MESSAGE_MAX];
+    pad(&mut bytes, &buffer[..len]);
+    bytes
+}
+
+// Takes bytes of a piece behind the unfinished ones, up to and with the first that ends a message or shows a refusal.
+pub fn take_piece(session: Session, piece: &[u8]) -> Taken
+    ensures { λ r. ⌜ r ≡ takenOf (takePiece (session .connection) (unfinished session) (now (piece .entry))) ⌝ }
+{
+    let c = session.connection;
+    let mut bytes = unfinished_bytes(session);
+    let mut len = unfinished_len(session);
+    let mut i = 0;
+    while i < piece.len() {
+        bytes[len] = piece[i];
+        len += 1;
+        i += 1;
+        if !bytes_wait(c, &bytes[..len]) {
+            return Taken {
+                bytes,
+                len,
+                count: i,
+                ended: true,
+            };
+        }
+    }
+    Taken {
+        bytes,
+        len,
+        count: i,
+        ended: false,
+    }
+}
