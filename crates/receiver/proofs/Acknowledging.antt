@@ -2,6 +2,7 @@
 use Prim.Native.Nat.{ℕ, zero, suc, _-_, _≤_, _<_, _^_}
 use native.Mathlib.Omega.{arith}
 use mathlib.Core.Path.{_≡_, refl, sym, ap, _∙_, subst}
+use mathlib.Core.Logic.{_⊎_, inl, inr}
 use mathlib.Core.Bool.{Bool, true, false, cond, _&&_}
 use mathlib.Core.List.{List, [], _∷_, _++_}
 use lib.ListN.{length, take, drop, getD, set}
@@ -9,7 +10,7 @@ use lib.Seq.{getD-set-same, getD-set-other}
 use lib.Dec.{ltb, lit<}
 use borrow.Author.Tests.{ltb-true}
 use Rattle.lists.specs.Lists.{every, front}
-use Rattle.lists.proofs.Cases.{by-test, never, and-first, and-second}
+use Rattle.lists.proofs.Cases.{by-test, cond-true, cond-false, never, and-first, and-second}
 use Rattle.lists.proofs.Every.{every-cons}
 use Rattle.store.specs.declared.Store.{Store}
 use Rattle.store.specs.declared.Entry.{Entry}
@@ -21,45 +22,93 @@ use Rattle.session.specs.declared.Connection.{Connection}
 use Rattle.session.specs.declared.Commit.{Commit}
 use Rattle.session.specs.declared.Answer.{Answer}
 use Rattle.session.specs.declared.Answer.the-variants as answer
-use Rattle.session.specs.Session.{unfinished, bindingAt}
+use Rattle.session.specs.Session.{unfinished, holding, bindingAt}
 use Rattle.body.specs.Fields.{spanIn}
-use Rattle.message.specs.Effects.{Effect, acknowledge, updatedEntry}
-use Rattle.opening.specs.Opening.{Role, «open», openRoom}
+use Rattle.message.specs.Effects.{Effect, refuse, acknowledge, updatedEntry}
+use Rattle.opening.specs.Opening.{Role, Opening, refuseOpening, accept, refusedOpening, «open», openRoom}
 use Rattle.message.proofs.Kept.{Held}
 use Rattle.reassembly.specs.Judge.{settled, judge}
-use Rattle.streams.specs.Calls.{Call}
+use Rattle.streams.specs.Calls.{Call, stay}
 use Rattle.streams.proofs.Basics.{every-take}
 use Rattle.receiver.specs.Good.{Good}
 use Rattle.receiver.specs.Model.{State, heldBy, isByte}
 use Rattle.receiver.specs.Promise.{Made, Shaped, ReadPromise, callOf}
 use Rattle.receiver.specs.Ledger.{Ledger, startLedger, RightReply, isAcknowledgement, post}
 use Rattle.receiver.specs.Demand3.{replyIn}
-use Rattle.receiver.specs.Corollaries.{messageOf, fieldsOf, EntryHeld, HeldWhenAcknowledged, Untouched, RefusedUntouched, OthersUntouched, RefusedOpeningUntouched}
+use Rattle.receiver.specs.Corollaries.{messageOf, fieldsOf, EntryHeld, HeldWhenAcknowledged, NothingChanged, OnlyClosed, RefusedCall, RefusedUntouched, OthersUntouched, RefusedOpening, RefusedOpeningUntouched}
 use Rattle.receiver.proofs.Committing.{Committed, Updated, updated, store-stays}
 use Rattle.receiver.proofs.Chained.{good-held}
 use Rattle.receiver.proofs.Following.{starts-following}
 use Rattle.receiver.proofs.Laws.{Right, JudgedRight, judge-right}
 use Rattle.receiver.proofs.Lawfully.{open-held}
-use Rattle.receiver.proofs.Ways.{Way, Judging, nothing, judging, ways, answer-is, taken-is, reply-is, room-past}
+use Rattle.receiver.proofs.Ending.{settled-closes}
+use Rattle.receiver.proofs.Refusing.{settled-refused}
+use Rattle.receiver.proofs.Ways.{Way, Early, Judging, staying, waiting-on, judging, ways, answer-is, taken-is, count-is, reply-is, room-past, record-stays, record-holds}
 
 -- ---- stores
+
+stays-store : (s : Session) (t : Store) (a : Answer) → stay (heldBy s t) a .state .store ≡ t
+unfolding heldBy
+stays-store s t a = refl
 
 untouched : (s : Session) (t : Store) (m : Made) → ReadPromise s t m → ((place : ℕ) → m .outcome .answer ≡ answer.Table place → ⊥)
     → ((table id place : ℕ) (how : Commit) → m .outcome .answer ≡ answer.Update table id place how → ⊥)
     → Way s t (m .piece) (callOf s t (m .piece) (length (m .room))) → m .store ≡ t
-untouched s t m p f g (nothing r q) = p .store ∙ q
+untouched s t m p f g (staying n h q) = p .store ∙ (ap (λ (k : Call State Answer). k .state .store) q ∙ stays-store s t (answer.Refused n))
+untouched s t m p f g (waiting-on w) = p .store ∙ ap (λ (k : State). k .store) (w .state)
 untouched s t m p f g (judging e j) =
     let a = answer-is s t m p ∙ j .answer in
-    p .store ∙ (j .store ∙ store-stays (s .connection) t _ e (j .judged) (λ place q. f place (a ∙ q)) (λ table id place how q. g table id place how (a ∙ q)))
+    p .store
+    ∙ (ap (λ (k : State). k .store) (j .state)
+    ∙ store-stays (s .connection) t _ e (j .judged) (λ place q. f place (a ∙ q)) (λ table id place how q. g table id place how (a ∙ q)))
 
 pub others-untouched : OthersUntouched
 others-untouched s t m p f g = record { store = untouched s t m p f g (ways s t m p); room = room-past s t m p }
 
+-- ---- refused calls
+
+no-front : (room : List ℕ) → front [] room ≡ room
+unfolding front
+no-front room = refl
+
+module _ (s : Session) (t : Store) (m : Made) (p : ReadPromise s t m) where
+  abbrev call : Call State Answer
+  call = callOf s t (m .piece) (length (m .room))
+
+  stayed : (n : ℕ) → call ≡ stay (heldBy s t) (answer.Refused n) → NothingChanged s t m
+  stayed n q =
+      let z = ap (λ (k : Call State Answer). k .taken) q in
+      let r = ap (λ (k : Call State Answer). k .reply) q in
+      record {
+        taken = taken-is s t m p ∙ z;
+        count = count-is s t m p ∙ ap length r;
+        session = record-stays s t m p z;
+        store = p .store ∙ (ap (λ (k : Call State Answer). k .state .store) q ∙ stays-store s t (answer.Refused n));
+        room = p .final ∙ (ap (λ (l : List ℕ). front l (m .room)) r ∙ no-front (m .room));
+      }
+
+  closed : (n : ℕ) (e : Effect) → Judging s t (m .piece) call e → e ≡ refuse (s .connection) t n → OnlyClosed s t m n
+  unfolding refuse
+  closed n e j q = record {
+    session =
+        record-holds s t m p (j .some)
+        ∙ (ap (λ (k : State). holding (k .connection) (k .unfinished)) (j .state) ∙ ap (λ (x : Effect). holding (x .connection) []) q);
+    store = p .store ∙ (ap (λ (k : State). k .store) (j .state) ∙ ap (λ (x : Effect). x .store) q);
+    reply = reply-is s t m p ∙ (j .reply ∙ ap (λ (x : Effect). x .reply) q);
+    room = room-past s t m p;
+  }
+
+  by-refusal : (n : ℕ) → m .outcome .answer ≡ answer.Refused n → Way s t (m .piece) call → RefusedCall s t m n
+  by-refusal n a (staying k h q) =
+      let e : k ≡ n = let r = sym (ap (λ (x : Call State Answer). x .answer) q) ∙ (sym (answer-is s t m p) ∙ a) in cc in
+      inl (subst Early e h, stayed k q)
+  by-refusal n a (waiting-on w) = absurd (let r = sym (w .answer) ∙ (sym (answer-is s t m p) ∙ a) in let z : _≡_ {A = ℕ} 0 1 = cc in omega arith)
+  by-refusal n a (judging e j) =
+      let r = sym (j .answer) ∙ (sym (answer-is s t m p) ∙ a) in
+      inr (settled-closes (s .connection) t _ e (j .judged) n r, closed n e j (settled-refused (s .connection) t _ e (j .judged) n r))
+
 pub refused-untouched : RefusedUntouched
-refused-untouched s t m n p a =
-    others-untouched s t m p
-    (λ place q. let r = sym a ∙ q in let z : _≡_ {A = ℕ} 0 1 = cc in omega arith)
-    (λ table id place how q. let r = sym a ∙ q in let z : _≡_ {A = ℕ} 0 1 = cc in omega arith)
+refused-untouched s t m n p a = by-refusal s t m p n a (ways s t m p)
 
 -- ---- the entry of an acknowledged update
 
@@ -76,21 +125,21 @@ small-append (x ∷ xs) ys f g (suc i) = small-append xs ys (λ j. f (suc j)) g 
 -- no other answer's reply is an acknowledgement
 only-updates : (l : Ledger) (reply : List ℕ) (a : Answer) → RightReply l reply a → isAcknowledgement reply ≡ true
     → (table : ℕ) × ((id : ℕ) × ((place : ℕ) × ((how : Commit) × (a ≡ answer.Update table id place how))))
-only-updates l reply answer.More r h = never h r
-only-updates l reply (answer.Hello process relative) r h = never h r
-only-updates l reply answer.Status r h = never h r
-only-updates l reply answer.Request r h = never h r
-only-updates l reply answer.Finished r h = never h r
-only-updates l reply answer.Partial r h = never h r
-only-updates l reply answer.Confirmed r h = never h r
-only-updates l reply answer.Heartbeat r h = never h r
-only-updates l reply (answer.Error type) r h = never h r
-only-updates l reply (answer.Table place) r h = never h r
-only-updates l reply (answer.Switch place) r h = never h r
+only-updates l reply answer.More r h = never h (r .other)
+only-updates l reply (answer.Hello process relative) r h = never h (r .other)
+only-updates l reply answer.Status r h = never h (r .other)
+only-updates l reply answer.Request r h = never h (r .other)
+only-updates l reply answer.Finished r h = never h (r .other)
+only-updates l reply answer.Partial r h = never h (r .other)
+only-updates l reply answer.Confirmed r h = never h (r .other)
+only-updates l reply answer.Heartbeat r h = never h (r .other)
+only-updates l reply (answer.Error type) r h = never h (r .other)
+only-updates l reply (answer.Table place) r h = never h (r .other)
+only-updates l reply (answer.Switch place) r h = never h (r .other)
 only-updates l reply (answer.Update table id place how) r h = (table, (id, (place, (how, refl))))
-only-updates l reply (answer.Acknowledgement id update) r h = never h r
-only-updates l reply (answer.Skipped kind) r h = never h r
-only-updates l reply (answer.Refused n) r h = never h r
+only-updates l reply (answer.Acknowledgement id update) r h = never h (r .other)
+only-updates l reply (answer.Skipped kind) r h = never h (r .other)
+only-updates l reply (answer.Refused n) r h = never h (r .other)
 
 put-here : (t : Store) (place : ℕ) (e : Entry) → place < length (t .entries) → getD (putEntry t place e .entries) place noEntry ≡ e
 unfolding putEntry
@@ -104,7 +153,7 @@ put-tables : (t : Store) (place : ℕ) (e : Entry) → putEntry t place e .table
 unfolding putEntry
 put-tables t place e = refl
 
-module _ (s : Session) (t : Store) (m : Made) (p : ReadPromise s t m) (h : isAcknowledgement (replyIn m) ≡ true) (e : Effect)
+module _ (s : Session) (t : Store) (m : Made) (p : ReadPromise s t m) (e : Effect)
     (j : Judging s t (m .piece) (callOf s t (m .piece) (length (m .room))) e) where
   good : Good (heldBy s t)
   good = good-held s t (p .shaped) (j .sound)
@@ -122,22 +171,22 @@ module _ (s : Session) (t : Store) (m : Made) (p : ReadPromise s t m) (h : isAck
         (small-bytes (take (m .outcome .taken) (m .piece)) (every-take isByte (m .outcome .taken) (m .piece) (p .bytes)));
   }
 
-  right : Right (s .connection) (messageOf s m) e
+  pub right : Right (s .connection) (messageOf s m) e
   right = subst (JudgedRight (s .connection) (messageOf s m)) judged (judge-right (s .connection) t held (messageOf s m) bytes)
 
-  acked : isAcknowledgement (e .reply) ≡ true
-  acked = ap isAcknowledgement (sym (reply-is s t m p ∙ j .reply)) ∙ h
+  acked : isAcknowledgement (replyIn m) ≡ true → isAcknowledgement (e .reply) ≡ true
+  acked h = ap isAcknowledgement (sym (reply-is s t m p ∙ j .reply)) ∙ h
 
-  entry-held : EntryHeld s t m
+  entry-held : isAcknowledgement (replyIn m) ≡ true → EntryHeld s t m
   unfolding updatedEntry
-  entry-held =
-      let k = only-updates _ (e .reply) (e .answer) (right .follow .right (startLedger (s .connection)) (starts-following (s .connection))) acked in
+  entry-held h =
+      let k = only-updates _ (e .reply) (e .answer) (right .follow .right (startLedger (s .connection)) (starts-following (s .connection))) (acked h) in
       let table = k .0 in
       let id = k .1 .0 in
       let place = k .1 .1 .0 in
       let u = updated (s .connection) t (messageOf s m) e judged table id place (k .1 .1 .1 .0) (k .1 .1 .1 .1) in
       let x = u .committed in
-      let stored = p .store ∙ (j .store ∙ x .store) in
+      let stored = p .store ∙ (ap (λ (k : State). k .store) (j .state) ∙ x .store) in
       record {
         table = table;
         id = id;
@@ -148,6 +197,8 @@ module _ (s : Session) (t : Store) (m : Made) (p : ReadPromise s t m) (h : isAck
         start = u .start;
         end = u .end;
         framed = u .framed;
+        type = x .type;
+        current = x .current;
         body = take (u .end - u .start) (drop (u .start) (messageOf s m));
         body-is = refl;
         fields = x .fields;
@@ -167,21 +218,55 @@ none-acknowledges = refl
 
 by-way : (s : Session) (t : Store) (m : Made) → ReadPromise s t m → isAcknowledgement (replyIn m) ≡ true
     → Way s t (m .piece) (callOf s t (m .piece) (length (m .room))) → EntryHeld s t m
-by-way s t m p h (nothing r q) = never (ap isAcknowledgement (sym (reply-is s t m p ∙ r)) ∙ h) none-acknowledges
-by-way s t m p h (judging e j) = entry-held s t m p h e j
+by-way s t m p h (staying n k q) =
+    never (ap isAcknowledgement (sym (reply-is s t m p ∙ ap (λ (x : Call State Answer). x .reply) q)) ∙ h) none-acknowledges
+by-way s t m p h (waiting-on w) = never (ap isAcknowledgement (sym (reply-is s t m p ∙ w .reply)) ∙ h) none-acknowledges
+by-way s t m p h (judging e j) = entry-held s t m p e j h
 
 pub held-when-acknowledged : HeldWhenAcknowledged
 held-when-acknowledged s t m p h = by-way s t m p h (ways s t m p)
 
 -- ---- opening
 
+module _ (role : Role) (local remote room : List ℕ) where
+  abbrev opening : Opening
+  opening = «open» role local remote (length room)
+
+  opens-short : ltb (length room) 101 ≡ true → opening ≡ refuseOpening 1
+  unfolding «open»
+  opens-short a = cond-true (ltb (length room) 101) _ _ a
+
+  opens-names : ltb (length room) 101 ≡ false → (nameOk local && nameOk remote) ≡ false → opening ≡ refuseOpening 3
+  unfolding «open»
+  opens-names a b = cond-false (ltb (length room) 101) _ _ a ∙ cond-false (nameOk local && nameOk remote) _ _ b
+
+  opens-accepted : ltb (length room) 101 ≡ false → (nameOk local && nameOk remote) ≡ true → opening ≡ accept role local remote
+  unfolding «open»
+  opens-accepted a b = cond-false (ltb (length room) 101) _ _ a ∙ cond-true (nameOk local && nameOk remote) _ _ b
+
+  refused-opening : (k n : ℕ) → (k ≡ 1) ⊎ (k ≡ 3) → opening ≡ refuseOpening k → opening .answer ≡ answer.Refused n → RefusedOpening role local remote room n
+  unfolding openRoom
+  refused-opening k n h q a =
+      let r = sym (ap (λ (x : Opening). x .answer) q) ∙ a in
+      let e : k ≡ n = cc in
+      record {
+        number = subst (λ (j : ℕ). (j ≡ 1) ⊎ (j ≡ 3)) e h;
+        session = ap (λ (x : Opening). x .session) q ∙ ap refusedOpening e;
+        room = ap (λ (x : Opening). front (x .reply) room) q ∙ no-front room;
+      }
+
+  by-opening : (n : ℕ) → opening .answer ≡ answer.Refused n → RefusedOpening role local remote room n
+  by-opening n a =
+      by-test (ltb (length room) 101)
+      (λ b. refused-opening 1 n (inl refl) (opens-short b) a)
+      (λ b.
+      by-test (nameOk local && nameOk remote)
+      (λ d.
+      absurd
+      (let r = sym (ap (λ (x : Opening). x .answer) (opens-accepted b d)) ∙ a in
+      let z : _≡_ {A = ℕ} 0 1 = cc in
+      omega arith))
+      (λ d. refused-opening 3 n (inr refl) (opens-names b d) a))
+
 pub refused-opening-untouched : RefusedOpeningUntouched
-unfolding «open» openRoom front
-refused-opening-untouched role local remote room n =
-    by-test (ltb (length room) 101)
-    (λ a. rw a (λ q. refl))
-    (λ a.
-    rw a
-    (by-test (nameOk local && nameOk remote)
-    (λ b. rw b (λ q. absurd (let z : _≡_ {A = ℕ} 0 1 = cc in omega arith)))
-    (λ b. rw b (λ q. refl))))
+refused-opening-untouched = by-opening

@@ -128,9 +128,8 @@ module _ (law : Lawful peers Good) where
       let f′ = made-sound s t m (h .0) f law g in
       let g′ = made-good s t m (h .0) f law g in
       let e = made-state s t m (h .0) f law g in
-      let r = offers (m .session) (m .store) ms (drop (m .outcome .taken) stream) (h .1) f′ g′ (o .2) in (
+      let r = offers (m .session) (m .store) ms (drop (m .outcome .taken) stream) (h .1) f′ g′ (o .1) in (
         (bytes (o .0 .0), sym (bytes-append (m .piece) (o .0 .0)) ∙ ap (λ (l : List ℕ). bytes l) (o .0 .1)),
-        o .1,
         subst (λ (k : State). Offers peers k (drop (modelCall s t m .taken) (bytes stream)) (stepsOf ms)) e
             (subst (λ (l : List (Item Event)). Offers peers (heldBy (m .session) (m .store)) l (stepsOf ms))
             (sym (bytes-drop (m .outcome .taken) stream) ∙ ap (λ (n : ℕ). drop n (bytes stream)) (made-taken s t m (h .0) f)) r),

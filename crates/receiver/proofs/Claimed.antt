@@ -9,7 +9,7 @@ use lib.ListN.{length, take, drop}
 use lib.Dec.{eqb, ltb}
 use borrow.Author.Tests.{eqb-true, le-ltb}
 use Rattle.lists.specs.Lists.{every, front, padTo}
-use Rattle.lists.proofs.Cases.{by-test}
+use Rattle.lists.proofs.Cases.{by-test, cond-true}
 use Rattle.lists.proofs.Bytes.{front-length, pad-length}
 use Rattle.store.specs.declared.Store.{Store}
 use Rattle.session.specs.declared.Session.{Session}
@@ -28,9 +28,10 @@ use Rattle.receiver.specs.Model.{State, Event, heldBy, soundState, ends,
 use Rattle.receiver.specs.Good.{Good}
 use Rattle.receiver.specs.Promise.{Made, Shaped, ReadPromise, callOf, outcomeOf, sessionOf}
 use Rattle.receiver.specs.Ledger.{Ledger, startLedger, post, Acknowledged}
-use Rattle.receiver.specs.Demand3.{Chain, replyIn, takenBy, lastSession, lastStore, responsesOf, repliesOf, cameTo, modelRan, callMade, CallAsModel, EachCall, OffersTo, WithinCutsOf, RoomsAre, Offering, NeverUnsound, Demand3}
+use Rattle.receiver.specs.Demand3.{Chain, replyIn, takenBy, lastSession, lastStore, responsesOf, repliesOf, cameTo, modelRan, callMade, CallAsModel, EachCall, OffersTo, WithinCutsOf, RoomsAre, Offering, AcknowledgedCalls, NeverUnsound, Demand3}
 use Rattle.receiver.proofs.Held.{sound-held}
-use Rattle.receiver.proofs.OneRead.{modelCall, made-taken, made-answer, made-reply, made-state, made-sound, made-good, made-is, kept, room-kept, final-length}
+use Rattle.receiver.proofs.OneRead.{modelCall, made-taken, made-answer, made-reply, made-state, made-sound, made-good, made-is, made-count, kept, room-kept, final-length}
+use Rattle.receiver.proofs.NoneTaken.{none-test}
 use Rattle.receiver.proofs.Offered.{every-cutting}
 use Rattle.receiver.proofs.Chained.{stepsOf, good-held, steps-bytes, runs, takes, offers, call-has, not-4, ends-sound, ends-at, closed-held}
 
@@ -72,7 +73,9 @@ module _ (law : Lawful peers Good)
     (short : (k : State) (b : ℕ) (a : Answer) (r : List ℕ) (k′ : State) → Good k → isByte b ≡ true → feed k b ≡ answered a r k′ → length r ≤ 12)
     {I : State → List ℕ → Ledger → Type 0}
     (folds : Folds post peers Good Acknowledged I)
-    (starts : (s : Session) (t : Store) → I (heldBy s t) (unfinished s) (startLedger (s .connection))) where
+    (starts : (s : Session) (t : Store) → I (heldBy s t) (unfinished s) (startLedger (s .connection)))
+    (along : (s : Session) (t : Store) (ms : List Made) → Chain s t ms → sound s t ≡ true → Good (heldBy s t)
+    → AcknowledgedCalls (startLedger (s .connection)) (unfinished s) ms) where
   -- ---- 1
 
   Short : Answer → List ℕ → Type 0
@@ -91,6 +94,7 @@ module _ (law : Lawful peers Good)
     model =
         subst (AsModel peers (heldBy s t) (m .piece) (length (m .room))) (sym (made-is s t m p f law g))
         (as-model peers (heldBy s t) (m .piece) (length (m .room)) (g .sound));
+    count = made-count s t m p f;
     room = room-kept s t m p f;
     size = final-length s t m p f (reply-short (heldBy s t) (m .piece) (length (m .room)) g (p .bytes));
     kept = kept s t m p f;
@@ -141,6 +145,16 @@ module _ (law : Lawful peers Good)
         ∙ (unfold heldBy in
         ap (λ (k : State). cond (eqb (length (takenBy ms)) 0) s (holding (k .connection) (k .unfinished))) end-state)
 
+    whole-record : (stream : List ℕ) → OffersTo s stream ms
+        → lastSession s ms
+        ≡ (let end = modelRan s t stream .state in
+        cond (eqb (length stream) 0 || isClosed (s .connection)) s (holding (end .connection) (end .unfinished)))
+    whole-record stream o =
+        record-is
+        ∙ (ap (λ (k : State). cond (eqb (length (takenBy ms)) 0) s (holding (k .connection) (k .unfinished)))
+        (ap (λ (r : Result State Answer). r .state) (sym taken ∙ whole stream o))
+        ∙ ap (λ (b : Bool). cond b s (holding (modelRan s t stream .state .connection) (modelRan s t stream .state .unfinished))) (none-test s t stream ms h o))
+
     bytes-taken : every isByte (bytesIn (bytes {E = Event} (takenBy ms))) ≡ true
     bytes-taken = rw (← takes law s t ms h f g) (taken-bytes peers law (heldBy s t) (stepsOf ms) (steps-bytes s t ms h))
 
@@ -150,6 +164,13 @@ module _ (law : Lawful peers Good)
         folded peers law post folds (heldBy s t) (unfinished s) (startLedger (s .connection)) (bytes (takenBy ms)) g bytes-taken (starts s t)
 
   -- no call at all
+  none-record : (s : Session) (t : Store) (stream : List ℕ) → OffersTo s stream []
+      → s
+      ≡ (let end = modelRan s t stream .state in
+      cond (eqb (length stream) 0 || isClosed (s .connection)) s (holding (end .connection) (end .unfinished)))
+  none-record s t stream o =
+      sym (cond-true (eqb (length stream) 0 || isClosed (s .connection)) _ _ (sym (none-test s t stream [] (unfold Chain in tt) o) ∙ unfold takenBy in refl))
+
   none : (s : Session) (t : Store) → sound s t ≡ true → Demand3 s t []
   unfolding EachCall NeverUnsound cameTo modelRan takenBy lastSession lastStore responsesOf repliesOf feedAll AllAlong OffersTo flatten
   none s t f = record {
@@ -158,8 +179,10 @@ module _ (law : Lawful peers Good)
     left-out = left-out;
     record-is = refl;
     whole = λ stream o. ⊎-elim (λ e. rw e) (λ c. rw (feedAll-closed peers law (heldBy s t) (unfinished s) stream (closed-held s t ∙ c))) o;
+    whole-record = λ stream o. none-record s t stream o;
     exists = every-cutting law s t f;
     acknowledged = tt;
+    acknowledged-calls = unfold AcknowledgedCalls in tt;
     sound = f;
     never-4 = tt;
   }
@@ -175,8 +198,10 @@ module _ (law : Lawful peers Good)
         left-out = left-out;
         record-is = record-is s t (m ∷ ms) h f g;
         whole = whole s t (m ∷ ms) h f g;
+        whole-record = whole-record s t (m ∷ ms) h f g;
         exists = every-cutting law s t f;
         acknowledged = acknowledged s t (m ∷ ms) h f g;
+        acknowledged-calls = along s t (m ∷ ms) h f g;
         sound = ends-sound law s t (m ∷ ms) h f g;
         never-4 = never s t (m ∷ ms) h f g;
       }

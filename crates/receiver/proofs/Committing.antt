@@ -1,12 +1,13 @@
 -- What a message does to the store: an update puts its entry at one place, a definition its table, and nothing else changes it.
-use Prim.Native.Nat.{ℕ, _-_, _<_}
+use Prim.Native.Nat.{ℕ, _+_, _-_, _<_}
 use native.Mathlib.Omega.{arith}
 use mathlib.Core.Path.{_≡_, refl, sym, ap, _∙_, subst}
+use mathlib.Core.Logic.{_⊎_, inl, inr}
 use mathlib.Core.Bool.{Bool, true, false, cond}
 use mathlib.Core.List.{List, []}
 use lib.ListN.{length, take, drop, getD}
 use lib.Dec.{eqb}
-use borrow.Author.Tests.{eqb-true}
+use borrow.Author.Tests.{eqb-true, eqb-false}
 use Rattle.lists.specs.declared.Found.{Found}
 use Rattle.lists.specs.declared.Found.the-variants as found
 use Rattle.lists.proofs.Cases.{by-test, cond-true, cond-false}
@@ -44,7 +45,8 @@ pub record Committed (c : Connection) (t : Store) (kind : ℕ) (body : List ℕ)
   pub own-id : fields .id ≡ id
   pub inside : place < length (t .entries)
   pub store : e .store ≡ putEntry t place (updatedEntry body table fields)
-  pub current : table ≡ c .current - 1
+  pub type : (kind ≡ 128) ⊎ (kind ≡ 129)
+  pub current : c .current ≡ table + 1
   pub reply : e .reply ≡ acknowledge (bindingAt c table .id) id
 
 module _ (c : Connection) (t : Store) (kind : ℕ) (body : List ℕ) where
@@ -59,10 +61,15 @@ module _ (c : Connection) (t : Store) (kind : ℕ) (body : List ℕ) where
   abbrev now : ℕ
   now = c .current - 1
 
-  commit-says : (u : Update) (after p : ℕ) (how : Commit) → fieldsOf c t now kind body ≡ got u after → p < length (t .entries)
+  -- there is a current table, and the message is an update
+  record Ready : Type 0 where
+    type : (kind ≡ 128) ⊎ (kind ≡ 129)
+    current : eqb (c .current) 0 ≡ false
+
+  commit-says : Ready → (u : Update) (after p : ℕ) (how : Commit) → fieldsOf c t now kind body ≡ got u after → p < length (t .entries)
       → Says (commitAt c t now (u .id) (updatedEntry body now u) p how)
   unfolding commitAt
-  commit-says u after p how r l table id place how₁ q =
+  commit-says y u after p how r l table id place how₁ q =
       let a : now ≡ table = cc in
       let b : u .id ≡ id = cc in
       let d : p ≡ place = cc in
@@ -73,28 +80,29 @@ module _ (c : Connection) (t : Store) (kind : ℕ) (body : List ℕ) where
         own-id = b;
         inside = subst (λ (n : ℕ). n < length (t .entries)) d l;
         store = ap (λ (n : ℕ). putEntry t n (updatedEntry body now u)) d ∙ ap (λ (n : ℕ). putEntry t place (updatedEntry body n u)) a;
-        current = sym a;
+        type = y .type;
+        current = (let z = eqb-false (c .current) 0 (y .current) in let w : c .current ≡ now + 1 = omega (arith, z) in w) ∙ ap (λ (n : ℕ). n + 1) a;
         reply =
             ap (acknowledge (bindingAt c now .id)) b ∙ ap (λ (n : ℕ). acknowledge (bindingAt c n .id) id) a;
       }
 
-  new-says : (u : Update) (after : ℕ) (f : Found) → fieldsOf c t now kind body ≡ got u after → freeEntry t ≡ f
+  new-says : Ready → (u : Update) (after : ℕ) (f : Found) → fieldsOf c t now kind body ≡ got u after → freeEntry t ≡ f
       → Says (commitNew c t now (u .id) (updatedEntry body now u) f)
   unfolding commitNew
-  new-says u after (found.At p) r q = commit-says u after p commit.New r (entry-place t p q .inside)
-  new-says u after found.Nothing r q = refuse-says 29
+  new-says y u after (found.At p) r q = commit-says y u after p commit.New r (entry-place t p q .inside)
+  new-says y u after found.Nothing r q = refuse-says 29
 
-  update-says : (u : Update) (after : ℕ) (f : Found) → fieldsOf c t now kind body ≡ got u after → findEntry t now (spanIn body (u .key)) ≡ f
+  update-says : Ready → (u : Update) (after : ℕ) (f : Found) → fieldsOf c t now kind body ≡ got u after → findEntry t now (spanIn body (u .key)) ≡ f
       → Says (commitUpdate c t now (u .id) (updatedEntry body now u) f)
   unfolding commitUpdate
-  update-says u after (found.At p) r q = commit-says u after p commit.Replaced r (entry-found t now (spanIn body (u .key)) p q .inside)
-  update-says u after found.Nothing r q = new-says u after (freeEntry t) r refl
+  update-says y u after (found.At p) r q = commit-says y u after p commit.Replaced r (entry-found t now (spanIn body (u .key)) p q .inside)
+  update-says y u after found.Nothing r q = new-says y u after (freeEntry t) r refl
 
-  with-says : (r : Read Update) → fieldsOf c t now kind body ≡ r → Says (withFields c t body now r)
+  with-says : Ready → (r : Read Update) → fieldsOf c t now kind body ≡ r → Says (withFields c t body now r)
   unfolding withFields fieldsThen
-  with-says (got u after) q = update-says u after (findEntry t now (spanIn body (u .key))) q refl
-  with-says short q = refuse-says 23
-  with-says outside q = refuse-says 24
+  with-says y (got u after) q = update-says y u after (findEntry t now (spanIn body (u .key))) q refl
+  with-says y short q = refuse-says 23
+  with-says y outside q = refuse-says 24
 
   -- ---- the other messages give no such answer
 
@@ -134,7 +142,7 @@ module _ (c : Connection) (t : Store) (kind : ℕ) (body : List ℕ) where
       (λ a.
       rw a
       (unfold update in
-      by-test (eqb (c .current) 0) (λ z. rw z (refuse-says 27)) (λ z. rw z (with-says (updateFields (getD (t .tables) now noTable) body) (cond-true (eqb kind 128) _ _ a)))))
+      by-test (eqb (c .current) 0) (λ z. rw z (refuse-says 27)) (λ z. rw z (with-says (record { type = inl (eqb-true kind 128 a); current = z }) (updateFields (getD (t .tables) now noTable) body) (cond-true (eqb kind 128) _ _ a)))))
       (λ a.
       rw a
       (by-test (eqb kind 129)
@@ -146,7 +154,7 @@ module _ (c : Connection) (t : Store) (kind : ℕ) (body : List ℕ) where
       (λ z.
       rw z
       (by-test (isUpdated (bindingAt c now))
-      (λ y. rw y (with-says (incrementalFields (getD (t .tables) now noTable) (followingId (bindingAt c now .previous)) body) (cond-false (eqb kind 128) _ _ a)))
+      (λ y. rw y (with-says (record { type = inr (eqb-true kind 129 b); current = z }) (incrementalFields (getD (t .tables) now noTable) (followingId (bindingAt c now .previous)) body) (cond-false (eqb kind 128) _ _ a)))
       (λ y. rw y (refuse-says 28))))))
       (λ b.
       rw b

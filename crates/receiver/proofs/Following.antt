@@ -1,5 +1,5 @@
 -- The ledger follows the record: after each message it says of every place what the record says, and the reply carries it. Assumes nothing.
-use Prim.Native.Nat.{ℕ, zero, suc, _+_, _-_, _≤_, _<_}
+use Prim.Native.Nat.{ℕ, zero, suc, _+_, _-_, _≤_, _<_, _^_}
 use native.Mathlib.Omega.{arith}
 use mathlib.Core.Path.{_≡_, refl, sym, ap, subst, _∙_}
 use mathlib.Core.Logic.{_⊎_, inl, inr, ⊎-elim}
@@ -28,7 +28,7 @@ use Rattle.session.proofs.Changing.{mark-of}
 use Rattle.session.proofs.Bindings.{bound-here, bound-lost, bound-kept, bind-cases, commit-cases, committed-here, committed-other}
 use Rattle.message.specs.Effects.{Effect, refuse, note, peerError, control, controlAnswer, controlReply, defineAt, switchTo, commitAt, acknowledge}
 use Rattle.streams.specs.Model.{Ended}
-use Rattle.receiver.specs.Ledger.{Ledger, startLedger, post, defines, switches, commits, without, at, definedId, updateId, isAcknowledgement, Carried, RightReply}
+use Rattle.receiver.specs.Ledger.{Ledger, startLedger, post, defines, switches, commits, without, at, definedId, updateId, isAcknowledgement, Carried, RightReply, NoAcknowledgement}
 
 pub record Follows (c : Connection) (l : Ledger) : Type 0 where
   pub current : l .current ≡ startLedger c .current
@@ -79,6 +79,44 @@ control-not : (type : ℕ) → isAcknowledgement (controlReply type) ≡ false
 unfolding controlReply isAcknowledgement
 control-not type = by-test (leb 1 type && leb type 2) (λ a. rw a) (λ a. rw a)
 
+-- ---- and too short to hold one
+
+none-none : NoAcknowledgement []
+none-none = record { other = none-not; short = omega arith }
+
+line-short : (n : ℕ) → length (refusalLine n) ≤ 4
+unfolding refusalLine statusLine hb.decimal hb.decimalIn lf
+line-short n =
+    by-test (eqb n 10)
+    (λ a. rw a (omega arith))
+    (λ a.
+    rw a
+    (by-test (eqb n 11)
+    (λ b. rw b (omega arith))
+    (λ b. rw b (by-test (eqb n 12) (λ d. rw d (omega arith)) (λ d. rw d (by-test (eqb n 13) (λ e. rw e (omega arith)) (λ e. rw e (omega arith))))))))
+
+refusal-short : (n : ℕ) → length (refusalReply n) ≤ 4
+unfolding refusalReply
+refusal-short n =
+    by-test (isSizeLimit n) (λ a. rw a (omega arith)) (λ a. rw a (by-test (isProtocolError n) (λ b. rw b (omega arith)) (λ b. rw b (line-short n))))
+
+pub refusal-none : (n : ℕ) → NoAcknowledgement (refusalReply n)
+refusal-none n = record { other = refusal-not n; short = refusal-short n }
+
+accepted-short : length (statusLine 200) ≤ 4
+unfolding statusLine hb.decimal hb.decimalIn lf
+accepted-short = omega arith
+
+pub accepted-none : NoAcknowledgement (statusLine 200)
+accepted-none = record { other = accepted-not; short = accepted-short }
+
+control-short : (type : ℕ) → length (controlReply type) ≤ 4
+unfolding controlReply
+control-short type = by-test (leb 1 type && leb type 2) (λ a. rw a (omega arith)) (λ a. rw a (omega arith))
+
+pub control-none : (type : ℕ) → NoAcknowledgement (controlReply type)
+control-none type = record { other = control-not type; short = control-short type }
+
 -- ---- messages that leave bindings and current table as they are
 
 same-ledger : (c d : Connection) → d .current ≡ c .current → d .bindings ≡ c .bindings → (l : Ledger) → Follows c l → Follows d l
@@ -91,46 +129,46 @@ same-ledger c d e b l f = record {
 
 pub refuse-follow : (c : Connection) (s : Store) (n : ℕ) (m : List ℕ) → Follow c m (refuse c s n)
 unfolding refuse post closedWith
-refuse-follow c s n m = record { follows = same-ledger c (closedWith c n) refl refl; right = λ l f. refusal-not n }
+refuse-follow c s n m = record { follows = same-ledger c (closedWith c n) refl refl; right = λ l f. refusal-none n }
 
 pub hello-follow : (c : Connection) (s : Store) (p r : ℕ) (m : List ℕ) → Follow c m (note (establish c) s (answer.Hello p r) (statusLine 200))
 unfolding note post establish
-hello-follow c s p r m = record { follows = same-ledger c (establish c) refl refl; right = λ l f. accepted-not }
+hello-follow c s p r m = record { follows = same-ledger c (establish c) refl refl; right = λ l f. accepted-none }
 
 pub status-follow : (c : Connection) (s : Store) (m : List ℕ) → Follow c m (note (establish c) s answer.Status [])
 unfolding note post establish
-status-follow c s m = record { follows = same-ledger c (establish c) refl refl; right = λ l f. none-not }
+status-follow c s m = record { follows = same-ledger c (establish c) refl refl; right = λ l f. none-none }
 
 pub error-follow : (c : Connection) (s : Store) (type : ℕ) (m : List ℕ) → Follow c m (peerError c s type)
 unfolding peerError post closedWith
-error-follow c s type m = record { follows = same-ledger c (closedWith c 0) refl refl; right = λ l f. none-not }
+error-follow c s type m = record { follows = same-ledger c (closedWith c 0) refl refl; right = λ l f. none-none }
 
 pub skipped-follow : (c : Connection) (s : Store) (kind : ℕ) (m : List ℕ) → Follow c m (note c s (answer.Skipped kind) [])
 unfolding note post
-skipped-follow c s kind m = record { follows = λ l f. f; right = λ l f. none-not }
+skipped-follow c s kind m = record { follows = λ l f. f; right = λ l f. none-none }
 
 pub acknowledgement-follow : (c : Connection) (s : Store) (id update : ℕ) (m : List ℕ) → Follow c m (note c s (answer.Acknowledgement id update) [])
 unfolding note post
-acknowledgement-follow c s id update m = record { follows = λ l f. f; right = λ l f. none-not }
+acknowledgement-follow c s id update m = record { follows = λ l f. f; right = λ l f. none-none }
 
 pub control-follow : (c : Connection) (s : Store) (type : ℕ) (m : List ℕ) → Follow c m (control c s type)
 unfolding control note post controlAnswer
 control-follow c s type m =
     by-test (eqb type 0)
-    (λ a. rw a (record { follows = λ l f. f; right = λ l f. control-not type }))
+    (λ a. rw a (record { follows = λ l f. f; right = λ l f. control-none type }))
     (λ a.
     rw a
     (by-test (eqb type 1)
-    (λ b. rw b (record { follows = λ l f. f; right = λ l f. control-not type }))
+    (λ b. rw b (record { follows = λ l f. f; right = λ l f. control-none type }))
     (λ b.
     rw b
     (by-test (eqb type 2)
-    (λ d. rw d (record { follows = λ l f. f; right = λ l f. control-not type }))
+    (λ d. rw d (record { follows = λ l f. f; right = λ l f. control-none type }))
     (λ d.
     rw d
     (by-test (eqb type 3)
-    (λ e. rw e (record { follows = λ l f. f; right = λ l f. control-not type }))
-    (λ e. rw e (record { follows = λ l f. f; right = λ l f. control-not type }))))))))
+    (λ e. rw e (record { follows = λ l f. f; right = λ l f. control-none type }))
+    (λ e. rw e (record { follows = λ l f. f; right = λ l f. control-none type }))))))))
 
 -- ---- a switch
 
@@ -152,7 +190,7 @@ switch-follow c s place m h = record {
     bound = λ p. f .bound p ∙ unfold startLedger bindingAt makeCurrent withTables in refl;
     last = λ p. f .last p ∙ unfold startLedger bindingAt makeCurrent withTables in refl;
   };
-  right = λ l f. none-not;
+  right = λ l f. none-none;
 }
 
 -- ---- a definition
@@ -245,7 +283,7 @@ define-follow c s id t place m h long e = record {
         bound = defines-bound c place id h long l f;
         last = defines-last c place id h long l f;
       });
-  right = λ l f. none-not;
+  right = λ l f. none-none;
 }
 
 -- ---- a committed update
@@ -287,24 +325,27 @@ module _ (c : Connection) (table id : ℕ) (h : table < 8) (long : length (c .bi
       subst (λ (o : Option ℕ). Follows (committed c table id) (commits l o (some id))) (sym ledger-current)
       (unfold commits in record { current = commits-current; bound = commits-bound; last = commits-last })
 
-  pub carried : isBound (bindingAt c table) ≡ true
+  pub carried : isBound (bindingAt c table) ≡ true → bindingAt c table .id < 2 ^ 32 → id < 2 ^ 32
       → Carried (commits l (l .current) (some id)) (acknowledge (bindingAt c table .id) id) table id
-  carried b = record {
+  carried b i u = record {
     id = bindingAt c table .id;
     current = after-commit .current ∙ (sym commits-current ∙ ledger-current);
     bound =
         after-commit .bound table
         ∙ (sym (commits-bound table) ∙ (f .bound table ∙ (start-bound c table ∙ unfold boundOf in cond-true (isBound (bindingAt c table)) (some (bindingAt c table .id)) none b)));
     last = after-commit .last table ∙ (sym (commits-last table) ∙ cond-true (eqb table table) (some id) (l .last table) (eq-eqb table table refl));
+    small-id = i;
+    small-update = u;
     carries = refl;
   }
 
 pub commit-follow : (c : Connection) (s : Store) (table id : ℕ) (e : Entry) (place : ℕ) (how : Commit) (m : List ℕ) → table < 8
     → length (c .bindings) ≡ 8 → c .current ≡ table + 1 → isBound (bindingAt c table) ≡ true
+    → bindingAt c table .id < 2 ^ 32 → id < 2 ^ 32
     → ((l : Ledger) → Follows c l → updateId m (at (l .last) (l .current)) ≡ some id)
     → Follow c m (commitAt c s table id e place how)
 unfolding commitAt post
-commit-follow c s table id e place how m h long now b ids = record {
+commit-follow c s table id e place how m h long now b i u ids = record {
   follows = λ l f. rw (ids l f) (after-commit c table id h long now l f);
-  right = λ l f. rw (ids l f) (carried c table id h long now l f b);
+  right = λ l f. rw (ids l f) (carried c table id h long now l f b i u);
 }

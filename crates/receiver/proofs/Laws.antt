@@ -38,7 +38,7 @@ use Rattle.session.specs.declared.Answer.the-variants as answer
 use Rattle.session.specs.Answers.{refusalReply, isSizeLimit, isProtocolError}
 use Rattle.session.specs.Session.{isClosed, localName, remoteName, establish, findBound, bindingAt, isBound, isUpdated}
 use Rattle.soundness.specs.Sound.{isClosing, refusesOpening}
-use Rattle.session.proofs.Bindings.{found-bound}
+use Rattle.session.proofs.Bindings.{found-bound, committed-previous}
 use Rattle.soundness.proofs.Keeping.{establish-keeps}
 use Rattle.session.proofs.Shapes.{establish-shape}
 use Rattle.body.specs.Fields.{Read, got, short, outside, spanIn}
@@ -236,9 +236,15 @@ module _ (c : Connection) (s : Store) (h : Held c s) (m : List ℕ) where
     commit-at-right p how k = record {
       short = reply-short p how k;
       kept = k;
-      follow = commit-follow c s table id e p how m small (h .connectionShape .places) now (h .connection .currentBound table now) ids;
+      follow = commit-follow c s table id e p how m small (h .connectionShape .places) now (h .connection .currentBound table now)
+          (h .connectionShape .binding table small .id) (update-small k) ids;
     }
       where
+        update-small : Kept (commitAt c s table id e p how) → id < 2 ^ 32
+        update-small k =
+            let l : table < length (c .bindings) = omega (arith, small, h .connectionShape .places) in
+            subst (λ (n : ℕ). n < 2 ^ 32) (committed-previous c table id l) (unfold commitAt in k .connectionShape .binding table small .previous)
+
         reply-short : (p : ℕ) (how : Commit) → Kept (commitAt c s table id e p how) → length (commitAt c s table id e p how .reply) ≤ 12
         reply-short p how k =
             unfold commitAt in

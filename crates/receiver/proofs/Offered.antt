@@ -116,9 +116,8 @@ module _ (law : Lawful peers Good) where
       subst (λ (l : List (Item Event)). Offers peers (heldBy (m .session) (m .store)) l steps)
       (ap (λ (x : ℕ). drop x (bytes rest)) (sym (made-taken s t m p f)) ∙ bytes-drop (m .outcome .taken) rest)
       (subst (λ (x : State). Offers peers x (drop (modelCall s t m .taken) (bytes rest)) steps) (sym (made-state s t m p f law g))
-      (subst (λ (x : ℕ). Offers peers (readCall peers (heldBy s t) piece x .state) (drop (readCall peers (heldBy s t) piece x .taken) (bytes rest)) steps) e (o .2))) in (
+      (subst (λ (x : ℕ). Offers peers (readCall peers (heldBy s t) piece x .state) (drop (readCall peers (heldBy s t) piece x .taken) (bytes rest)) steps) e (o .1))) in (
         (bytesIn (o .0 .0), front-bytes piece (o .0 .0) rest (o .0 .1)),
-        subst (λ (x : ℕ). 12 ≤ x) e (o .1),
         offered (m .session) (m .store) room (drop (m .outcome .taken) rest) steps (next-shaped s t m p f g) (made-sound s t m p f law g) (d .1) (k .1) w,
       )
   offered s t room rest (happening e ∷ steps) sh f q r o = absurd e

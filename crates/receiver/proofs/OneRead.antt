@@ -98,6 +98,9 @@ module _ (s : Session) (t : Store) (m : Made) (promise : ReadPromise s t m) (f :
   unfolding replyIn
   made-reply = rw (made-length, made-final) (front-take (modelCall s t m .reply) (m .room))
 
+  pub made-count : m .outcome .«reply_len» ≡ length (replyIn m)
+  made-count = made-length ∙ ap length (sym made-reply)
+
   pub room-kept : drop (m .outcome .«reply_len») (m .final) ≡ drop (m .outcome .«reply_len») (m .room)
   room-kept = rw (made-length, made-final) (front-drop (modelCall s t m .reply) (m .room))
 

@@ -68,6 +68,7 @@ module _ (id update : ℕ) (l : id < 2 ^ 32) (m : update < 2 ^ 32) where
       let e : 3 + length body - 3 ≡ length body = omega arith in
       record {
         end = 3 + length body;
+        whole = sym (ap length written ∙ (let w : length (0x0A ∷ 0x85 ∷ length body ∷ body) ≡ 3 + length body = omega arith in w));
         framed = ap judgeFrame written ∙ framed;
         fields =
             ap (λ (x : List ℕ). acknowledgementFields (take (3 + length body - 3) (drop 3 x))) written

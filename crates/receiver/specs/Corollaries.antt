@@ -1,10 +1,11 @@
 -- What follows from the promise and from demand 3, in the auditor's words.
-use Prim.Native.Nat.{ℕ, _+_, _-_, _<_, _^_}
+use Prim.Native.Nat.{ℕ, _+_, _-_, _≤_, _<_, _^_}
 use mathlib.Core.Path.{_≡_}
-use mathlib.Core.List.{List, [], _++_}
-use mathlib.Core.Bool.{true, cond}
+use mathlib.Core.Logic.{_⊎_}
+use mathlib.Core.List.{List, [], _++_, flatten}
+use mathlib.Core.Bool.{Bool, true, cond, _&&_, _||_}
 use lib.ListN.{length, take, drop, getD}
-use lib.Dec.{eqb}
+use lib.Dec.{eqb, leb}
 use Rattle.store.specs.declared.Store.{Store}
 use Rattle.store.specs.Store.{makeEntry, noEntry, noTable, emptyStore}
 use Rattle.frame.specs.declared.Frame.the-variants as frame
@@ -14,15 +15,17 @@ use Rattle.session.specs.declared.Connection.{Connection}
 use Rattle.session.specs.declared.Commit.{Commit}
 use Rattle.session.specs.declared.Answer.{Answer}
 use Rattle.session.specs.declared.Answer.the-variants as answer
-use Rattle.session.specs.Session.{unfinished, bindingAt, holding}
+use Rattle.session.specs.Answers.{refusalReply, answerNumber, answerValues}
+use Rattle.session.specs.Session.{unfinished, bindingAt, holding, closedWith}
 use Rattle.soundness.specs.Sound.{sound}
-use Rattle.opening.specs.Opening.{Role, answerer, opened, «open», openRoom}
+use Rattle.opening.specs.Opening.{Role, answerer, opened, refusedOpening, «open», openRoom}
 use Rattle.body.specs.Fields.{Read, got, spanIn}
 use Rattle.body.specs.Bodies.{Update, updateFields, incrementalFields, acknowledgementFields}
 use Rattle.message.specs.Effects.{acknowledge, followingId}
+use Rattle.receiver.specs.Model.{replyRoom}
 use Rattle.receiver.specs.Promise.{Made, ReadPromise}
 use Rattle.receiver.specs.Ledger.{isAcknowledgement}
-use Rattle.receiver.specs.Demand3.{Chain, OffersTo, cameTo, lastSession, lastStore, repliesOf, replyIn}
+use Rattle.receiver.specs.Demand3.{Chain, OffersTo, cameTo, lastSession, lastStore, repliesOf, replyIn, Offering}
 use Rattle.receiver.specs.Cases.{east, west}
 use Rattle.receiver.specs.Listing.{listing, listedResult, listedConnection, listedStore}
 
@@ -64,6 +67,8 @@ pub record EntryHeld (s : Session) (t : Store) (m : Made) : Type 0 where
   pub start : ℕ
   pub end : ℕ
   pub framed : judgeFrame (messageOf s m) ≡ frame.Body kind start end
+  pub type : (kind ≡ 128) ⊎ (kind ≡ 129)
+  pub current : s .connection .current ≡ table + 1
   pub body : List ℕ
   pub body-is : body ≡ take (end - start) (drop start (messageOf s m))
   pub fields : Update
@@ -81,6 +86,7 @@ HeldWhenAcknowledged = (s : Session) (t : Store) (m : Made) → ReadPromise s t 
 -- an acknowledgement, read as a message of class 10, type 133, says its ID and its update ID
 pub record ReadBack (id update : ℕ) : Type 0 where
   pub end : ℕ
+  pub whole : end ≡ length (acknowledge id update)
   pub framed : judgeFrame (acknowledge id update) ≡ frame.Body 133 3 end
   pub fields : acknowledgementFields (take (end - 3) (drop 3 (acknowledge id update))) ≡ got (record { id = id; update = update }) (end - 3)
 
@@ -89,12 +95,36 @@ AcknowledgementReadBack = (id update : ℕ) → id < 2 ^ 32 → update < 2 ^ 32 
 
 -- ---- any refused call, on any record and store, sound or not, leaves tables and entries and the room past the reply as they were
 
+-- the refusals of the table that close the session, but for opening's 1 and 3
+unfoldable pub closes : ℕ → Bool
+closes n = (leb 10 n && leb n 15) || (leb 20 n && leb n 29)
+
+-- "A call's 1, 4 and 2 take nothing and change nothing"
+pub record NothingChanged (s : Session) (t : Store) (m : Made) : Type 0 where
+  pub taken : m .outcome .taken ≡ 0
+  pub count : m .outcome .«reply_len» ≡ 0
+  pub session : m .session ≡ s
+  pub store : m .store ≡ t
+  pub room : m .final ≡ m .room
+
+-- "From 10 up the record is closed with that number and its unfinished bytes are dropped."
+pub record OnlyClosed (s : Session) (t : Store) (m : Made) (n : ℕ) : Type 0 where
+  pub session : m .session ≡ holding (closedWith (s .connection) n) []
+  pub store : m .store ≡ t
+  pub reply : replyIn m ≡ refusalReply n
+  pub room : drop (m .outcome .«reply_len») (m .final) ≡ drop (m .outcome .«reply_len») (m .room)
+
+-- "No refusal is given in any other case."
+abbrev pub RefusedCall : Session → Store → Made → ℕ → Type 0
+RefusedCall s t m n =
+    (((n ≡ 1) ⊎ ((n ≡ 2) ⊎ (n ≡ 4))) × NothingChanged s t m) ⊎ ((closes n ≡ true) × OnlyClosed s t m n)
+
+abbrev pub RefusedUntouched : Type 0
+RefusedUntouched = (s : Session) (t : Store) (m : Made) (n : ℕ) → ReadPromise s t m → m .outcome .answer ≡ answer.Refused n → RefusedCall s t m n
+
 pub record Untouched (t : Store) (m : Made) : Type 0 where
   pub store : m .store ≡ t
   pub room : drop (m .outcome .«reply_len») (m .final) ≡ drop (m .outcome .«reply_len») (m .room)
-
-abbrev pub RefusedUntouched : Type 0
-RefusedUntouched = (s : Session) (t : Store) (m : Made) (n : ℕ) → ReadPromise s t m → m .outcome .answer ≡ answer.Refused n → Untouched t m
 
 -- the store is the very store that came for every answer but a table or an update
 abbrev pub OthersUntouched : Type 0
@@ -102,11 +132,16 @@ OthersUntouched =
     (s : Session) (t : Store) (m : Made) → ReadPromise s t m → ((place : ℕ) → m .outcome .answer ≡ answer.Table place → ⊥)
     → ((table id place : ℕ) (how : Commit) → m .outcome .answer ≡ answer.Update table id place how → ⊥) → Untouched t m
 
--- a refused opening leaves the room as it came
+-- "1 and 3 in opening return a closed record with that number, all else empty or zero, .. and write nothing"
+pub record RefusedOpening (role : Role) (local remote before : List ℕ) (n : ℕ) : Type 0 where
+  pub number : (n ≡ 1) ⊎ (n ≡ 3)
+  pub session : «open» role local remote (length before) .session ≡ refusedOpening n
+  pub room : openRoom role local remote before ≡ before
+
 abbrev pub RefusedOpeningUntouched : Type 0
 RefusedOpeningUntouched =
     (role : Role) (local remote room : List ℕ) (n : ℕ) → «open» role local remote (length room) .answer ≡ answer.Refused n
-    → openRoom role local remote room ≡ room
+    → RefusedOpening role local remote room n
 
 -- ---- the listing
 
@@ -119,3 +154,24 @@ pub record ListingCame (calls : List Made) : Type 0 where
 abbrev pub ListingByCalls : Type 0
 ListingByCalls =
     (calls : List Made) → Chain (opened answerer east west) emptyStore calls → OffersTo (opened answerer east west) listing calls → ListingCame calls
+
+-- and there are such calls: for every cutting of it into pieces, with any room of at least 12 bytes
+abbrev pub ListingOffered : Type 0
+ListingOffered =
+    (cuts : List (List ℕ)) (room : List ℕ) → flatten cuts ≡ listing → replyRoom ≤ length room → Offering (opened answerer east west) emptyStore cuts room
+
+-- ---- "a definition gives this paper's number and values for each of the enum's cases"
+
+-- two calls' answers with the same number and values are the same
+abbrev pub AnswersByNumber : Type 0
+AnswersByNumber =
+    (s : Session) (t : Store) (m : Made) (s′ : Session) (t′ : Store) (m′ : Made) → ReadPromise s t m → ReadPromise s′ t′ m′
+    → answerNumber (m .outcome .answer) ≡ answerNumber (m′ .outcome .answer) → answerValues (m .outcome .answer) ≡ answerValues (m′ .outcome .answer)
+    → m .outcome .answer ≡ m′ .outcome .answer
+
+-- ---- several records and one store
+
+-- a call on one record leaves every other record sound with the store
+abbrev pub OtherRecordsSound : Type 0
+OtherRecordsSound =
+    (s : Session) (t : Store) (m : Made) (other : Session) → ReadPromise s t m → sound other t ≡ true → sound other (m .store) ≡ true

@@ -3,7 +3,7 @@ use Prim.Native.Nat.{ℕ, _≤_, _<_}
 use mathlib.Core.Path.{_≡_}
 use mathlib.Core.Logic.{_⊎_}
 use mathlib.Core.List.{List, [], _∷_, _++_, flatten}
-use mathlib.Core.Bool.{Bool, true, false, cond}
+use mathlib.Core.Bool.{Bool, true, false, cond, _||_}
 use lib.ListN.{length, take, drop}
 use lib.Dec.{eqb}
 use Rattle.lists.specs.Lists.{every}
@@ -19,7 +19,7 @@ use Rattle.streams.specs.Claim.{AsModel}
 use Rattle.streams.specs.Fold.{AllAlong}
 use Rattle.receiver.specs.Model.{State, heldBy, ends, replyRoom, isByte, peers}
 use Rattle.receiver.specs.Promise.{Made, Shaped, ReadPromise}
-use Rattle.receiver.specs.Ledger.{Ledger, startLedger, post, Acknowledged}
+use Rattle.receiver.specs.Ledger.{Ledger, startLedger, post, RightReply, Acknowledged}
 
 -- ---- a list of real calls
 
@@ -82,6 +82,8 @@ callMade m = record {
 
 pub record CallAsModel (s : Session) (t : Store) (m : Made) : Type 0 where
   pub model : AsModel peers (heldBy s t) (m .piece) (length (m .room)) (callMade m)
+  -- the count of reply bytes is the reply's length
+  pub count : m .outcome .«reply_len» ≡ length (replyIn m)
   -- "Reply room past the reply stays as it came, in every call."
   pub room : drop (m .outcome .«reply_len») (m .final) ≡ drop (m .outcome .«reply_len») (m .room)
   pub size : length (m .final) ≡ length (m .room)
@@ -94,12 +96,12 @@ EachCall s t (m ∷ ms) = CallAsModel s t m × EachCall (m .session) (m .store) 
 
 -- ---- 3: a stream that is offered to its end or until the session closes
 
--- "Until the session closes, the host offers untaken bytes again.": each piece is a first part of what is left, with room for a reply
+-- "Until the session closes, the host offers untaken bytes again.": each piece is a first part of what is left. With room under 12 a call takes
+-- nothing, and all is offered again
 unfoldable pub OffersTo : Session → List ℕ → List Made → Type 0
 OffersTo s rest [] = (rest ≡ []) ⊎ (isClosed (s .connection) ≡ true)
 OffersTo s rest (m ∷ ms) =
     ((later : List ℕ) × (m .piece ++ later ≡ rest))
-    × (replyRoom ≤ length (m .room))
     × OffersTo (m .session) (drop (m .outcome .taken) rest) ms
 
 -- each piece is all that is left of the current cut: no piece crosses a cut, and none is cut further
@@ -118,6 +120,22 @@ pub record Offering (s : Session) (t : Store) (cuts : List (List ℕ)) (room : L
   pub chain : Chain s t calls
   pub offers : OffersTo s (flatten cuts) calls
   pub within : WithinCutsOf cuts calls
+
+-- ---- 4: the ledger along the calls
+
+-- the message that a call ended, where u are the bytes that earlier calls left unfinished
+abbrev pub endedBy : List ℕ → Made → Ended Answer
+endedBy u m = record { message = u ++ take (m .outcome .taken) (m .piece); answer = m .outcome .answer; reply = replyIn m }
+
+-- each reply that is an acknowledgement carries its table's IDs, by the ledger of the messages up to and with this one; a call that ends no
+-- message sends nothing
+unfoldable pub AcknowledgedCalls : Ledger → List ℕ → List Made → Type 0
+AcknowledgedCalls l u [] = Unit {0}
+AcknowledgedCalls l u (m ∷ ms) =
+    let e = endedBy u m in
+    cond (ends (m .outcome .answer))
+    (RightReply (post l e) (e .reply) (e .answer) × AcknowledgedCalls (post l e) [] ms)
+    ((replyIn m ≡ []) × AcknowledgedCalls l (e .message) ms)
 
 -- ---- 5: 4 is never answered
 
@@ -139,10 +157,16 @@ pub record Demand3 (s : Session) (t : Store) (ms : List Made) : Type 0 where
       ≡ (let end = modelRan s t (takenBy ms) .state in cond (eqb (length (takenBy ms)) 0) s (holding (end .connection) (end .unfinished)))
   -- 3. where a stream is offered to its end or until the session closes, they are the model's for the whole stream
   pub whole : (stream : List ℕ) → OffersTo s stream ms → cameTo s t ms ≡ resultOf (modelRan s t stream)
+  -- and the record itself: the start record where the stream is empty or the session was closed, else the one that holds the model's state
+  pub whole-record : (stream : List ℕ) → OffersTo s stream ms
+      → lastSession s ms
+      ≡ (let end = modelRan s t stream .state in
+      cond (eqb (length stream) 0 || isClosed (s .connection)) s (holding (end .connection) (end .unfinished)))
   -- such a list of calls exists, for every cutting of every stream into pieces and every room that is large enough
   pub exists : Shaped s t → (cuts : List (List ℕ)) (room : List ℕ) → every (every isByte) cuts ≡ true → replyRoom ≤ length room → Offering s t cuts room
   -- 4. each acknowledgement carries its table's bound ID and its last committed update ID
   pub acknowledged : AllAlong post Acknowledged (startLedger (s .connection)) (modelRan s t (takenBy ms) .ended)
+  pub acknowledged-calls : AcknowledgedCalls (startLedger (s .connection)) (unfinished s) ms
   -- 5. soundness is kept, and 4 is never answered
   pub sound : sound (lastSession s ms) (lastStore t ms) ≡ true
   pub never-4 : NeverUnsound ms

@@ -1,7 +1,7 @@
 -- The ledger of update IDs: "A table's last committed update ID is that of its latest accepted update of any kind, the one acknowledged
 -- included; before any, the start record's previous ID, if it has one." It is folded over the messages that ended, from the start record,
 -- and looks at no later record.
-use Prim.Native.Nat.{ℕ, suc, _+_, _-_, _%_, _^_}
+use Prim.Native.Nat.{ℕ, suc, _+_, _-_, _%_, _^_, _≤_, _<_}
 use mathlib.Core.Path.{_≡_}
 use mathlib.Core.List.{List, [], _∷_, _++_}
 use mathlib.Core.Bool.{Bool, true, false, cond, _&&_}
@@ -141,25 +141,32 @@ pub record Carried (l : Ledger) (reply : List ℕ) (table update : ℕ) : Type 0
   pub current : l .current ≡ some table
   pub bound : l .bound table ≡ some id
   pub last : l .last table ≡ some update
+  pub small-id : id < 2 ^ 32
+  pub small-update : update < 2 ^ 32
   pub carries : reply ≡ acknowledge id update
+
+-- the reply doesn't begin as an acknowledgement, and is too short to hold one: an acknowledgement has at least 8 bytes
+pub record NoAcknowledgement (reply : List ℕ) : Type 0 where
+  pub other : isAcknowledgement reply ≡ false
+  pub short : length reply ≤ 4
 
 -- "a committed update gives one acknowledgement"; no other message's reply is one
 abbrev pub RightReply : Ledger → List ℕ → Answer → Type 0
-RightReply l reply answer.More = isAcknowledgement reply ≡ false
-RightReply l reply (answer.Hello process relative) = isAcknowledgement reply ≡ false
-RightReply l reply answer.Status = isAcknowledgement reply ≡ false
-RightReply l reply answer.Request = isAcknowledgement reply ≡ false
-RightReply l reply answer.Finished = isAcknowledgement reply ≡ false
-RightReply l reply answer.Partial = isAcknowledgement reply ≡ false
-RightReply l reply answer.Confirmed = isAcknowledgement reply ≡ false
-RightReply l reply answer.Heartbeat = isAcknowledgement reply ≡ false
-RightReply l reply (answer.Error type) = isAcknowledgement reply ≡ false
-RightReply l reply (answer.Table place) = isAcknowledgement reply ≡ false
-RightReply l reply (answer.Switch place) = isAcknowledgement reply ≡ false
+RightReply l reply answer.More = NoAcknowledgement reply
+RightReply l reply (answer.Hello process relative) = NoAcknowledgement reply
+RightReply l reply answer.Status = NoAcknowledgement reply
+RightReply l reply answer.Request = NoAcknowledgement reply
+RightReply l reply answer.Finished = NoAcknowledgement reply
+RightReply l reply answer.Partial = NoAcknowledgement reply
+RightReply l reply answer.Confirmed = NoAcknowledgement reply
+RightReply l reply answer.Heartbeat = NoAcknowledgement reply
+RightReply l reply (answer.Error type) = NoAcknowledgement reply
+RightReply l reply (answer.Table place) = NoAcknowledgement reply
+RightReply l reply (answer.Switch place) = NoAcknowledgement reply
 RightReply l reply (answer.Update table id entry how) = Carried l reply table id
-RightReply l reply (answer.Acknowledgement id update) = isAcknowledgement reply ≡ false
-RightReply l reply (answer.Skipped kind) = isAcknowledgement reply ≡ false
-RightReply l reply (answer.Refused n) = isAcknowledgement reply ≡ false
+RightReply l reply (answer.Acknowledgement id update) = NoAcknowledgement reply
+RightReply l reply (answer.Skipped kind) = NoAcknowledgement reply
+RightReply l reply (answer.Refused n) = NoAcknowledgement reply
 
 -- a message that ended, between the ledger before it and the ledger after it
 abbrev pub Acknowledged : Ledger → Ledger → Ended Answer → Type 0

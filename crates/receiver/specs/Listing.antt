@@ -3,18 +3,16 @@ use Prim.Native.Nat.{ℕ}
 use mathlib.Core.List.{List, [], _∷_, _++_}
 use lib.ListN.{replicate}
 use lib.IntN.{pos}
-use Rattle.store.specs.declared.Definition.{Definition}
+use Rattle.store.specs.declared.Table.{Table}
+use Rattle.store.specs.declared.Entry.{Entry}
 use Rattle.store.specs.declared.Store.{Store}
-use Rattle.store.specs.Store.{emptyStore, makeTable, makeEntry, putTable, putEntry}
 use Rattle.session.specs.declared.Connection.{Connection}
 use Rattle.session.specs.declared.Commit.the-variants as commit
 use Rattle.session.specs.declared.Answer.{Answer}
 use Rattle.session.specs.declared.Answer.the-variants as answer
-use Rattle.session.specs.Session.{establish, bind, committed}
-use Rattle.opening.specs.Opening.{answerer, opened}
 use Rattle.streams.specs.Calls.{Response, Result}
 use Rattle.receiver.specs.Model.{State}
-use Rattle.receiver.specs.Cases.{hello, east, west}
+use Rattle.receiver.specs.Cases.{hello}
 
 unfoldable pub listing : List ℕ
 listing =
@@ -34,19 +32,62 @@ listed =
     ∷ record { answer = answer.Finished; reply = 0x00 ∷ 0x03 ∷ [] }
     ∷ []
 
--- key type 0, key length 4, data types 4 (the bit of type 2), expiry 60000
-unfoldable pub listedRules : Definition
-listedRules = record { «key_type» = 0; «key_len» = 4; «data_types» = 4; timed = 1; expiry = 60000; periods = replicate 8 0 }
+-- one table, `t1`: key type 0, key length 4, data types 4 (the bit of type 2), expiry 60000; the other places are free
+unfoldable pub listedTables : List Table
+listedTables =
+    record {
+      held = 1;
+      «key_type» = 0;
+      timed = 1;
+      «data_types» = 4;
+      «name_len» = 2;
+      «key_len» = 4;
+      expiry = 60000;
+      periods = replicate 8 0;
+      name = 0x74 ∷ 0x31 ∷ replicate 30 0;
+    }
+    ∷ replicate 7
+    (record {
+      held = 0;
+      «key_type» = 0;
+      timed = 0;
+      «data_types» = 0;
+      «name_len» = 0;
+      «key_len» = 0;
+      expiry = 0;
+      periods = replicate 8 0;
+      name = replicate 32 0;
+    })
 
--- one table, `t1`, and one entry, whose value of data type 2 is 5
+-- one entry, whose value of data type 2 is 5; the other places are free
+unfoldable pub listedEntries : List Entry
+listedEntries =
+    record {
+      held = 1;
+      «server_id» = pos 0;
+      table = 0;
+      «key_len» = 4;
+      key = 0x00 ∷ 0x00 ∷ 0x00 ∷ 0x2A ∷ replicate 60 0;
+      values = 0 ∷ 5 ∷ replicate 32 0;
+    }
+    ∷ replicate 127 (record { held = 0; «server_id» = pos 0; table = 0; «key_len» = 0; key = replicate 64 0; values = replicate 34 0 })
+
 unfoldable pub listedStore : Store
-listedStore =
-    putEntry (putTable emptyStore 0 (makeTable (0x74 ∷ 0x31 ∷ []) listedRules)) 0
-    (makeEntry 0 (0x00 ∷ 0x00 ∷ 0x00 ∷ 0x2A ∷ []) (pos 0) (0 ∷ 5 ∷ replicate 32 0))
+listedStore = record { tables = listedTables; entries = listedEntries }
 
--- the table is bound to ID 1 and current, its last update has ID 0
+-- the handshake is done; the table at place 0 is current, bound to ID 1, and its last update has ID 0
 unfoldable pub listedConnection : Connection
-listedConnection = committed (bind (establish (opened answerer east west .connection)) 0 1) 0 0
+listedConnection = record {
+  phase = 2;
+  closed = 0;
+  number = 0;
+  current = 1;
+  «local_len» = 4;
+  «remote_len» = 4;
+  local = 0x65 ∷ 0x61 ∷ 0x73 ∷ 0x74 ∷ replicate 28 0;
+  remote = 0x77 ∷ 0x65 ∷ 0x73 ∷ 0x74 ∷ replicate 28 0;
+  bindings = record { bound = 1; updated = 1; id = 1; previous = 0 } ∷ replicate 7 (record { bound = 0; updated = 0; id = 0; previous = 0 });
+}
 
 -- "end open 0"
 unfoldable pub listedState : State

@@ -119,7 +119,7 @@ module _ {S A E : Type 0} (R : Receiver S A E) where
     runs-whole s u [] stream o = ⊎-elim (λ e. rw e) (λ t. rw (t .1 .1, feedAll-closed s u (t .1 .0) (t .0))) o
     runs-whole s u (reading p room ∷ steps) stream o =
         let c = readCall R s p room in
-        ap (preceded c) (runs-whole (c .state) u steps (drop (c .taken) stream) (o .2))
+        ap (preceded c) (runs-whole (c .state) u steps (drop (c .taken) stream) (o .1))
         ∙ (called-fed s u p (drop (c .taken) stream) c (called s p room)
         ∙ ap (λ (l : List (Item E)). resultOf (feedAll R s u l)) (rest-split (c .taken) p (o .0 .0) stream (call-inside s p room) (o .0 .1)))
     runs-whole s u (happening e ∷ steps) stream o = rw (← o .1) (runs-whole (R .act e s) u steps (o .0) (o .2))

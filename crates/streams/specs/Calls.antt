@@ -102,7 +102,7 @@ module _ {S A E : Type 0} (R : Receiver S A E) where
   Offers s rest [] = (rest ≡ []) ⊎ ((R .closed s ≡ true) × ((last : List ℕ) × (rest ≡ bytes last)))
   Offers s rest (reading piece room ∷ steps) =
       let c = readCall s piece room in
-      ((later : List (Item E)) × (bytes piece ++ later ≡ rest)) × (R .least ≤ room) × Offers (c .state) (drop (c .taken) rest) steps
+      ((later : List (Item E)) × (bytes piece ++ later ≡ rest)) × Offers (c .state) (drop (c .taken) rest) steps
   Offers s rest (happening e ∷ steps) =
       (later : List (Item E)) × (event e ∷ later ≡ rest) × Offers (R .act e s) later steps
 
