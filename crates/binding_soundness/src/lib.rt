@@ -10,6 +10,7 @@ ghost use mathlib.Core.Path.{_≡_};
 ghost use Prim.Native.Nat.{_≤_};
 ghost use lib.ListN.{drop};
 ghost use Rattle.lists.specs.Lists.{allOf, every, distinct};
+ghost use Rattle.store.specs.Limits.{tablePlaces};
 ghost use Rattle.soundness.specs.Sound.{sameId, otherId, currentOk, bindingTests};
 
 fn same_id(a: Binding, b: Binding) -> bool
@@ -23,7 +24,7 @@ fn same_id(a: Binding, b: Binding) -> bool
 
 // Whether no binding from a place on has the ID of `a`.
 fn id_apart(bindings: [Binding; TABLES], from: usize, a: Binding) -> bool
-    requires { ⌜ from ≤ 8 ⌝ }
+    requires { ⌜ from ≤ tablePlaces ⌝ }
     ensures { λ r. ⌜ r ≡ every (otherId a) (drop from bindings) ⌝ }
 {
     let mut i = from;

@@ -1,4 +1,5 @@
 // Soundness of a connection's fields: phase, closed mark, closing number and names.
+use handshake::PEER_NAME_MAX;
 use handshake::name_ok;
 use session::Connection;
 use session::ESTABLISHED;
@@ -59,10 +60,10 @@ fn number_ok(c: Connection) -> bool
     c.number == 0
 }
 
-fn name_within(n: usize, bytes: [u8; 32]) -> bool
+fn name_within(n: usize, bytes: [u8; PEER_NAME_MAX]) -> bool
     ensures { λ r. ⌜ r ≡ nameWithin n bytes ⌝ }
 {
-    if 32 < n {
+    if PEER_NAME_MAX < n {
         return false;
     }
     name_ok(&bytes[..n])

@@ -39,11 +39,17 @@ version20 = 50 ∷ 46 ∷ 48 ∷ []
 unfoldable pub version21 : List ℕ
 version21 = 50 ∷ 46 ∷ 49 ∷ []
 
+abbrev pub spaceByte : ℕ
+spaceByte = 32
+
+abbrev pub lfByte : ℕ
+lfByte = 10
+
 unfoldable pub space : List ℕ
-space = 32 ∷ []
+space = spaceByte ∷ []
 
 unfoldable pub lf : List ℕ
-lf = 10 ∷ []
+lf = lfByte ∷ []
 
 -- a space and a number
 unfoldable pub spaced : ℕ → List ℕ
@@ -68,9 +74,9 @@ helloBytes remote local process relative =
 -- the line whose next byte has position at, where s is what is there, and n bytes more may stand before its LF
 unfoldable pub lineIn : ℕ → ℕ → List ℕ → Line
 lineIn zero at [] = line.Open
-lineIn zero at (b ∷ s) = cond (eqb b 10) (line.End at) line.TooLong
+lineIn zero at (b ∷ s) = cond (eqb b lfByte) (line.End at) line.TooLong
 lineIn (suc n) at [] = line.Open
-lineIn (suc n) at (b ∷ s) = cond (eqb b 10) (line.End at) (lineIn n (at + 1) s)
+lineIn (suc n) at (b ∷ s) = cond (eqb b lfByte) (line.End at) (lineIn n (at + 1) s)
 
 -- "Reading a hello: a line has at most 64 bytes before its LF, and a 65th shows refusal 10 at once."
 abbrev pub lineMax : ℕ
@@ -88,7 +94,7 @@ span from to u = take (to - from) (drop from u)
 -- the number of bytes before the first space, or of all where there is none
 unfoldable pub untilSpace : List ℕ → ℕ
 untilSpace [] = 0
-untilSpace (b ∷ s) = cond (eqb b 32) 0 (suc (untilSpace s))
+untilSpace (b ∷ s) = cond (eqb b spaceByte) 0 (suc (untilSpace s))
 
 -- the bytes before the first space, and those after it
 unfoldable pub word : List ℕ → List ℕ

@@ -9,12 +9,12 @@ ghost use mathlib.Core.Path.{_≡_};
 ghost use Prim.Native.Nat.{_≤_};
 ghost use lib.ListN.{length};
 ghost use Rattle.lists.specs.Lists.{padTo};
-ghost use Rattle.session.specs.Session.{unfinished};
-ghost use Rattle.reassembly.specs.Pieces.{takePiece, takenOf};
+ghost use Rattle.session.specs.Session.{unfinishedMax, unfinished};
+ghost use Rattle.reassembly.specs.Pieces.{takePiece, messageMax, takenOf};
 
-// How many bytes of a record are unfinished; where its length is past the buffer, all of them.
+// How many bytes of a record are unfinished: the whole buffer, where its length is past it.
 fn unfinished_len(session: Session) -> usize
-    ensures { λ r. ⌜ (r ≡ length (unfinished session)) × (r ≤ 1027) ⌝ }
+    ensures { λ r. ⌜ (r ≡ length (unfinished session)) × (r ≤ unfinishedMax) ⌝ }
 {
     let len = session.len;
     if UNFINISHED_MAX < len {
@@ -24,7 +24,7 @@ fn unfinished_len(session: Session) -> usize
 }
 
 fn unfinished_bytes(session: Session) -> [u8; MESSAGE_MAX]
-    ensures { λ r. ⌜ r ≡ padTo 1028 (unfinished session) ⌝ }
+    ensures { λ r. ⌜ r ≡ padTo messageMax (unfinished session) ⌝ }
 {
     let len = unfinished_len(session);
     let buffer = session.buffer;

@@ -19,7 +19,7 @@ ghost use Rattle.session.specs.Session.{isClosed, holding};
 ghost use Rattle.soundness.specs.Sound.{sound};
 ghost use Rattle.reassembly.specs.Judge.{judge, effectOf};
 ghost use Rattle.streams.specs.Calls.{scan};
-ghost use Rattle.receiver.specs.Model.{heldBy, peers};
+ghost use Rattle.receiver.specs.Model.{heldBy, peers, replyRoom};
 ghost use Rattle.receiver.specs.Promise.{ReadPromise};
 ghost use Rattle.reading.specs.Steps.{stays, waits, answers, stepOf};
 
@@ -89,7 +89,7 @@ fn answer(
     count: usize,
     reply: &mut [u8],
 ) -> Step
-    requires { ⌜ (length (effectOf connection store (judge connection store (now bytes)) .reply) ≤ 12) × (12 ≤ length (now reply)) ⌝ }
+    requires { ⌜ (length (effectOf connection store (judge connection store (now bytes)) .reply) ≤ replyRoom) × (replyRoom ≤ length (now reply)) ⌝ }
     ensures result { λ r. ⌜ r ≡ answers count (effectOf connection store (judge connection store (now (bytes .entry)))) ⌝ }
     ensures content { λ _. ⌜ now (reply .exit) ≡ front (effectOf connection store (judge connection store (now (bytes .entry))) .reply) (now (reply .entry)) ⌝ }
 {
@@ -116,7 +116,7 @@ fn answer(
 
 // A reading call on a sound open record, with room for every reply.
 fn receive(session: Session, store: Store, piece: &[u8], reply: &mut [u8]) -> Step
-    requires { ⌜ (sound session store ≡ true) × (isClosed (session .connection) ≡ false) × (12 ≤ length (now reply)) ⌝ }
+    requires { ⌜ (sound session store ≡ true) × (isClosed (session .connection) ≡ false) × (replyRoom ≤ length (now reply)) ⌝ }
     ensures result { λ r. ⌜ r ≡ stepOf session (scan peers (heldBy session store) (now (piece .entry))) ⌝ }
     ensures content { λ _. ⌜ now (reply .exit) ≡ front (scan peers (heldBy session store) (now (piece .entry)) .reply) (now (reply .entry)) ⌝ }
 {

@@ -19,8 +19,7 @@ use Rattle.session.specs.declared.Answer.the-variants as answer
 use Rattle.session.specs.Session.{localName, remoteName, establish, awaitingHello, awaitingStatus}
 use Rattle.message.specs.Effects.{Effect, refuse, note, control, peerError, stickTable}
 
--- they end nothing and show no refusal, or "the rules here give answer, reply and new state"
-
+-- what unfinished bytes come to: they end nothing and show no refusal, or "the rules here give answer, reply and new state"
 pub data Judged : Type 0 where
   waiting : Judged
   settled : Effect → Judged
@@ -51,7 +50,7 @@ judge c s u =
     cond (eqb (c .phase) awaitingHello) (helloJudged c s (judgeHello (localName c) (remoteName c) u))
     (cond (eqb (c .phase) awaitingStatus) (statusJudged c s (judgeStatus u)) (frameJudged c s u (judgeFrame u)))
 
--- what the bytes do: where they wait, "All else stays"
+-- what the bytes do: where they end nothing and show no refusal, "more wanted, with no reply", and connection and store stay
 unfoldable pub effectOf : Connection → Store → Judged → Effect
 effectOf c s waiting = note c s answer.More []
 effectOf c s (settled e) = e

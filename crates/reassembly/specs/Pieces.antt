@@ -24,6 +24,10 @@ takePiece c u (b ∷ bs) =
     let v = u ++ (b ∷ []) in
     cond (waits c v) (oneMore (takePiece c v bs)) (record { bytes = v; taken = 1; ended = true })
 
+-- the longest message: two bytes of a header, two of a length and 1,024 of a body
+abbrev pub messageMax : ℕ
+messageMax = 1028
+
 -- the struct that the code returns, zeros behind the bytes
 unfoldable pub takenOf : Part → Taken
-takenOf a = record { bytes = padTo 1028 (a .bytes); len = length (a .bytes); count = a .taken; ended = a .ended }
+takenOf a = record { bytes = padTo messageMax (a .bytes); len = length (a .bytes); count = a .taken; ended = a .ended }

@@ -1,4 +1,4 @@
--- Soundness of a connection as facts, each at an index where it concerns a list, and both ways between facts and tests. Assumes nothing.
+-- Soundness of a connection as facts, each at an index where it concerns a list, and both ways between facts and tests.
 use Prim.Native.Nat.{ℕ, zero, suc, _+_, _-_, _≤_, _<_}
 use native.Mathlib.Omega.{arith}
 use mathlib.Core.Path.{_≡_, refl, sym, ap, _∙_, subst}

@@ -1,4 +1,4 @@
--- What each change of a connection, and a table put into the store, keeps of soundness. Assumes nothing.
+-- What each change of a connection, and a table put into the store, keeps of soundness.
 use Prim.Native.Nat.{ℕ, _+_, _≤_, _<_}
 use native.Mathlib.Omega.{arith}
 use mathlib.Core.Path.{_≡_, refl, sym, ap, _∙_, subst}

@@ -1,4 +1,4 @@
--- Bytes that end nothing and show no refusal: so do their first parts, and testing the whole is enough. Assumes nothing.
+-- Bytes that end nothing and show no refusal: so do their first parts, and testing the whole is enough.
 use Prim.Native.Nat.{ℕ, _≤_}
 use native.Mathlib.Omega.{arith}
 use mathlib.Core.Path.{_≡_, refl, sym, ap, _∙_}

@@ -1,4 +1,4 @@
--- The tests of a record at worked examples. Assumes nothing.
+-- The tests of a record at worked examples.
 use Prim.Native.Nat.{ℕ}
 use mathlib.Core.Path.{_≡_, refl}
 use mathlib.Core.Bool.{Bool, true, false}

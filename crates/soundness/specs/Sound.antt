@@ -8,13 +8,14 @@ use lib.Dec.{ltb, leb, eqb}
 use Rattle.lists.specs.Lists.{allOf, every, distinct, isZero}
 use Rattle.store.specs.declared.Table.{Table}
 use Rattle.store.specs.declared.Store.{Store}
+use Rattle.store.specs.Limits.{tablePlaces}
 use Rattle.store.specs.Store.{tableHeld, noTable}
 use Rattle.store.specs.Sound.{soundStore}
 use Rattle.handshake.specs.declared.Hello.{Hello}
 use Rattle.handshake.specs.declared.Hello.the-variants as hello
 use Rattle.handshake.specs.declared.Status.{Status}
 use Rattle.handshake.specs.declared.Status.the-variants as status
-use Rattle.handshake.specs.Handshake.{nameOk, judgeHello, judgeStatus}
+use Rattle.handshake.specs.Handshake.{nameOk, peerNameMax, judgeHello, judgeStatus}
 use Rattle.frame.specs.declared.Frame.{Frame}
 use Rattle.frame.specs.declared.Frame.the-variants as frame
 use Rattle.frame.specs.Frame.{judgeFrame}
@@ -43,9 +44,13 @@ isClosing n = eqb n 0 || (refusesOpening n || ((leb 10 n && leb n 15) || (leb 20
 unfoldable pub numberOk : Connection → Bool
 numberOk c = cond (isClosed c) (isClosing (c .number)) (eqb (c .number) 0)
 
+-- how many bytes of a name's array are the name: the whole array, where the length is past it
+unfoldable pub nameLength : ℕ → ℕ
+nameLength n = cond (ltb peerNameMax n) peerNameMax n
+
 -- a name's length is within its array, and the name as opening asks
 unfoldable pub nameWithin : ℕ → List ℕ → Bool
-nameWithin n bytes = leb n 32 && nameOk (take n bytes)
+nameWithin n bytes = leb n peerNameMax && nameOk (take n bytes)
 
 -- "with our name and the one accepted peer's name, each 1 to 32 bytes from 33 to 126"
 unfoldable pub namesOk : Connection → Bool
@@ -77,13 +82,9 @@ otherId a b = not (sameId a b)
 unfoldable pub currentOk : List Table → Connection → Bool
 currentOk tables c =
     eqb (c .current) 0
-    || (leb (c .current) 8 && (tableHeld (getD tables (c .current - 1) noTable) && isBound (bindingAt c (c .current - 1))))
+    || (leb (c .current) tablePlaces && (tableHeld (getD tables (c .current - 1) noTable) && isBound (bindingAt c (c .current - 1))))
 
 -- ---- "unfinished bytes of which any first part, or all, already ends a message or shows a refusal, or in a closed record"
-
--- how many bytes of a name's array are the name: all, where the length is past it
-unfoldable pub nameLength : ℕ → ℕ
-nameLength n = cond (ltb 32 n) 32 n
 
 -- what was judged ends nothing and shows no refusal
 abbrev pub helloWaits : Hello → Bool

@@ -2,6 +2,7 @@
 use frame::Frame;
 use frame::judge_frame;
 use handshake::Hello;
+use handshake::PEER_NAME_MAX;
 use handshake::Status;
 use hello_reading::judge_hello;
 use session::AWAITING_HELLO;
@@ -10,17 +11,17 @@ use session::Connection;
 use status_reading::judge_status;
 ghost use mathlib.Core.Path.{_≡_};
 ghost use Prim.Native.Nat.{_≤_};
-ghost use Rattle.handshake.specs.Handshake.{judgeHello, judgeStatus};
+ghost use Rattle.handshake.specs.Handshake.{peerNameMax, judgeHello, judgeStatus};
 ghost use Rattle.frame.specs.Frame.{judgeFrame};
 ghost use Rattle.session.specs.Session.{localName, remoteName};
 ghost use Rattle.soundness.specs.Sound.{nameLength, helloWaits, statusWaits, frameWaits, waits};
 
-// How many bytes of a name's array are the name.
+// How many bytes of a name's array are the name: the whole array, where the length is past it.
 fn name_len(n: usize) -> usize
-    ensures { λ r. ⌜ (r ≡ nameLength n) × (r ≤ 32) ⌝ }
+    ensures { λ r. ⌜ (r ≡ nameLength n) × (r ≤ peerNameMax) ⌝ }
 {
-    if 32 < n {
-        return 32;
+    if PEER_NAME_MAX < n {
+        return PEER_NAME_MAX;
     }
     n
 }
