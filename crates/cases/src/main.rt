@@ -1,0 +1,354 @@
+// Runs the cases of document 01 that are not in the proved table, and each refusal. A line with # says what is tried; the lines below it
+// are those of the listing, with `more` for more wanted, and where a call has to change nothing, how many bytes it took and the record's
+// lines afterwards.
+use answer_lines::put_answer;
+use libc::STDOUT_FILENO;
+use listing::put_reply;
+use opening::OPENING_ROOM;
+use opening::Opened;
+use opening::open_answerer;
+use opening::open_caller;
+use reading::REPLY_ROOM;
+use reading::read;
+use record_lines::put_record;
+use session::Answer;
+use session::Session;
+use store::Store;
+use store_lines::put_entry;
+
+struct Run {
+    session: Session,
+    store: Store,
+    taken: usize,
+}
+
+// ---- output
+
+fn write(out: &[u8], n: usize) {
+    if n <= out.len() {
+        io::write_all(STDOUT_FILENO, &out[..n]);
+    }
+}
+
+fn title(text: &[u8]) {
+    io::write_all(STDOUT_FILENO, b"# ");
+    io::write_all(STDOUT_FILENO, text);
+    io::write_all(STDOUT_FILENO, b"\n");
+}
+
+fn show_record(session: Session) {
+    let mut out = io::buffer();
+    let n = put_record(&mut out, 0, session);
+    write(&out, n);
+}
+
+// The lines of an answer and of the reply, the first n bytes of a room.
+fn show_answer(session: Session, store: Store, answer: Answer, room: &[u8], n: usize) {
+    let mut out = io::buffer();
+    let connection = session.connection;
+    let tables = store.tables;
+    let next = put_answer(&mut out, 0, connection, tables, answer);
+    let end = put_reply(&mut out, next, room, n);
+    write(&out, end);
+}
+
+fn show_taken(n: usize) {
+    io::write_all(STDOUT_FILENO, b"took ");
+    io::print_decimal(STDOUT_FILENO, n as u64);
+    io::write_all(STDOUT_FILENO, b"\n");
+}
+
+// ---- calls
+
+// One reading call; its lines are written if they are to be shown.
+fn call(run: Run, piece: &[u8], room: &mut [u8], shown: bool) -> Run {
+    let step = read(run.session, run.store, piece, room);
+    let outcome = step.outcome;
+    let answer = outcome.answer;
+    let session = step.session;
+    let store = step.store;
+    if shown {
+        show_answer(session, store, answer, room, outcome.reply_len);
+    }
+    Run {
+        session,
+        store,
+        taken: outcome.taken,
+    }
+}
+
+// Calls on the bytes until all are taken or the session is closed.
+fn feed(run: Run, bytes: &[u8], shown: bool) -> Run {
+    let mut room = [0u8; REPLY_ROOM];
+    let mut r = run;
+    let mut at: usize = 0;
+    while at < bytes.len() {
+        r = call(r, &bytes[at..], &mut room, shown);
+        let taken = r.taken;
+        if taken == 0 {
+            return r;
+        }
+        if bytes.len() - at < taken {
+            return r;
+        }
+        if r.session.connection.closed == 1 {
+            return r;
+        }
+        at += taken;
+    }
+    r
+}
+
+fn opened(o: Opened) -> Run {
+    let session = o.session;
+    let store = store::empty_store();
+    Run {
+        session,
+        store,
+        taken: 0,
+    }
+}
+
+fn answerer() -> Run {
+    let mut room = [0u8; OPENING_ROOM];
+    opened(open_answerer(b"east", b"west", &mut room))
+}
+
+// A session after its hello.
+fn greeted() -> Run {
+    feed(answerer(), b"HAProxyS 2.1\neast\nwest 7 0\n", false)
+}
+
+// ---- cases
+
+// What the bytes come to after the hello.
+fn after_hello(text: &[u8], bytes: &[u8]) {
+    title(text);
+    feed(greeted(), bytes, true);
+}
+
+fn as_hello(text: &[u8], bytes: &[u8]) {
+    title(text);
+    feed(answerer(), bytes, true);
+}
+
+fn as_status(text: &[u8], bytes: &[u8]) {
+    let mut room = [0u8; OPENING_ROOM];
+    title(text);
+    feed(
+        opened(open_caller(b"east", b"west", 7, 0, &mut room)),
+        bytes,
+        true,
+    );
+}
+
+// ---- server IDs
+
+// The entry at place 0, whose only data type is 0.
+fn show_entry(store: Store) {
+    let mut out = io::buffer();
+    let entries = store.entries;
+    let e = entries[0];
+    let n = put_entry(&mut out, 0, 0, 1, e);
+    write(&out, n);
+}
+
+// An update of a table whose only data type is 0, and its entry.
+fn server_id(text: &[u8], update: &[u8]) {
+    title(text);
+    let run = feed(greeted(), b"\x0a\x82\x06\x01\x01t\x00\x04\x01", false);
+    let r = feed(run, update, true);
+    show_entry(r.store);
+}
+
+fn server_ids() {
+    server_id(
+        b"server ID 2^31 - 1",
+        b"\x0a\x80\x0d\x00\x00\x00\x01\x00\x00\x00\x2a\xff\xf0\xfe\xfe\x3e",
+    );
+    server_id(
+        b"server ID 2^31",
+        b"\x0a\x80\x0d\x00\x00\x00\x01\x00\x00\x00\x2a\xf0\xf1\xfe\xfe\x3e",
+    );
+    server_id(
+        b"server ID 2^64 - 2^31",
+        b"\x0a\x80\x12\x00\x00\x00\x01\x00\x00\x00\x2a\xf0\xf1\xfe\xfe\xbe\xfe\xfe\xfe\xfe\x0e",
+    );
+    server_id(
+        b"server ID 2^64 - 2^31 - 1",
+        b"\x0a\x80\x12\x00\x00\x00\x01\x00\x00\x00\x2a\xff\xf0\xfe\xfe\xbe\xfe\xfe\xfe\xfe\x0e",
+    );
+}
+
+// ---- calls that take nothing
+
+// A call on a piece with so much room, and the record afterwards.
+fn taking_nothing(text: &[u8], run: Run, piece: &[u8], room: &mut [u8]) {
+    title(text);
+    let r = call(run, piece, room, true);
+    show_taken(r.taken);
+    show_record(r.session);
+}
+
+// A session after its hello, with two bytes unfinished.
+fn half_way() -> Run {
+    feed(greeted(), b"\x0a\x82", false)
+}
+
+fn spoiled_record() -> Run {
+    let mut r = half_way();
+    r.session.connection.current = 3;
+    r
+}
+
+fn spoiled_store() -> Run {
+    let mut r = half_way();
+    let mut store = r.store;
+    let mut tables = store.tables;
+    let mut t = tables[0];
+    t.held = 2;
+    tables[0] = t;
+    store.tables = tables;
+    r.store = store;
+    r
+}
+
+fn closed() -> Run {
+    feed(greeted(), b"\x00\x05", false)
+}
+
+fn nothing_taken() {
+    let mut room = [0u8; REPLY_ROOM];
+    let mut short = [0u8; 11];
+    taking_nothing(
+        b"an empty piece on an open session",
+        half_way(),
+        b"",
+        &mut room,
+    );
+    taking_nothing(
+        b"refusal 1: reply room of 11",
+        half_way(),
+        b"\x06",
+        &mut short,
+    );
+    taking_nothing(b"refusal 2: session closed", closed(), b"\x06", &mut room);
+    taking_nothing(
+        b"refusal 4: a current table that isn't held",
+        spoiled_record(),
+        b"\x06",
+        &mut room,
+    );
+    taking_nothing(
+        b"refusal 4: a table that is neither held nor free",
+        spoiled_store(),
+        b"\x06",
+        &mut room,
+    );
+}
+
+// ---- opening
+
+fn show_opening(text: &[u8], o: Opened, room: &[u8]) {
+    title(text);
+    let session = o.session;
+    let outcome = o.outcome;
+    let answer = outcome.answer;
+    let store = store::empty_store();
+    show_answer(session, store, answer, room, outcome.reply_len);
+    show_record(session);
+}
+
+fn openings() {
+    let mut room = [0u8; OPENING_ROOM];
+    let mut short = [0u8; 100];
+    let a = open_answerer(b"east", b"west", &mut short);
+    show_opening(b"opening, refusal 1: room of 100", a, &short);
+    let b = open_answerer(b"", b"west", &mut room);
+    show_opening(b"opening, refusal 3: no name of ours", b, &room);
+    let c = open_caller(b"east", b"we st", 7, 0, &mut room);
+    show_opening(b"opening, refusal 3: a space in the peer's name", c, &room);
+    let d = open_caller(b"east", b"west", 7, 0, &mut room);
+    show_opening(b"opening as caller", d, &room);
+}
+
+// ---- handshake
+
+fn handshakes() {
+    as_hello(b"refusal 10: no numbers", b"HAProxyS 2.1\neast\nwest\n");
+    as_hello(
+        b"refusal 11: version 2.2",
+        b"HAProxyS 2.2\neast\nwest 7 0\n",
+    );
+    as_hello(
+        b"refusal 12: another peer is addressed",
+        b"HAProxyS 2.1\nnorth\nwest 7 0\n",
+    );
+    as_hello(
+        b"refusal 13: another sender",
+        b"HAProxyS 2.1\neast\nsouth 7 0\n",
+    );
+    as_status(b"status 200", b"200\n");
+    as_status(b"refusal 14: status 503", b"503\n");
+    as_status(b"refusal 15: status 201", b"201\n");
+}
+
+// ---- messages
+
+// Nine tables, with the names a to i.
+fn nine_tables() {
+    title(b"refusal 26: a ninth table");
+    let mut r = greeted();
+    for i in 0u8..9 {
+        let message = [0x0a, 0x82, 6, i, 1, 97 + i, 0, 4, 0];
+        r = feed(r, &message, true);
+    }
+}
+
+// 129 entries of a table without data types; the last two updates are shown.
+fn many_entries() {
+    title(b"refusal 29: a 129th entry, after the 128th");
+    let mut r = feed(greeted(), b"\x0a\x82\x06\x01\x01t\x00\x04\x00", false);
+    for i in 0u8..129 {
+        let message = [0x0a, 0x80, 8, 0, 0, 0, i, 0, 0, 0, i];
+        r = feed(r, &message, 127 <= i);
+    }
+}
+
+fn messages() {
+    after_hello(b"refusal 20: class 0, type 5", b"\x00\x05");
+    after_hello(
+        b"refusal 21: length over 2^64 - 1",
+        b"\x0a\x80\xf0\xf1\xfe\xfe\xfe\xfe\xfe\xfe\xfe\x0e",
+    );
+    after_hello(b"refusal 22: length 1,025", b"\x0a\x80\xf1\x31");
+    after_hello(
+        b"refusal 23: a definition that ends in its name",
+        b"\x0a\x82\x03\x01\x02t",
+    );
+    after_hello(b"refusal 24: a name of 33 bytes", b"\x0a\x82\x02\x01\x21");
+    after_hello(
+        b"refusal 25: another key type under a held name",
+        b"\x0a\x82\x06\x01\x01t\x00\x04\x00\x0a\x82\x06\x01\x01t\x01\x04\x00",
+    );
+    nine_tables();
+    after_hello(b"refusal 27: no current table", b"\x0a\x80\x00");
+    after_hello(
+        b"refusal 27: a switch to an unbound ID",
+        b"\x0a\x83\x01\x01",
+    );
+    after_hello(
+        b"refusal 28: no previous ID",
+        b"\x0a\x82\x06\x01\x01t\x00\x04\x00\x0a\x81\x04\x00\x00\x00\x2a",
+    );
+    many_entries();
+    after_hello(b"the peer's error message", b"\x01\x01");
+}
+
+fn main() {
+    server_ids();
+    nothing_taken();
+    openings();
+    handshakes();
+    messages();
+}
