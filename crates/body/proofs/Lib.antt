@@ -8,3 +8,4 @@ pub mod Within
 pub mod Behind
 pub mod Given
 pub mod Spans
+pub mod Encoding

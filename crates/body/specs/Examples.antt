@@ -5,13 +5,16 @@ use mathlib.Core.List.{List, [], _∷_, _++_}
 use lib.ListN.{take, replicate}
 use lib.IntN.{ℤ, pos, negsuc}
 use Rattle.lists.specs.Lists.{among}
-use Rattle.wire.specs.Integer.{readInt, readFirst, withLater, laterBytes, before, weighted, fitting}
-use Rattle.wire.specs.Number.{readNumber, numberOf}
-use Rattle.wire.specs.Server.{readServerId, serverOf, serverBefore, serverIdOf}
+use Rattle.wire.specs.Integer.{encodeInt, encodeRest, readInt, readFirst, withLater, laterBytes, before, weighted, fitting}
+use Rattle.wire.specs.Number.{readNumber, numberOf, encodeNumber}
+use Rattle.wire.specs.Server.{serverWord, readServerId, serverOf, serverBefore, serverIdOf}
 use Rattle.store.specs.declared.Table.{Table}
+use Rattle.store.specs.declared.Entry.{Entry}
 use Rattle.store.specs.Limits.{keyKind, keyLengthOk, dataTypesOk, present, isRate, isWide, widthOf, integersOf, slotsFor, slotTypes, rateTypes}
+use Rattle.store.specs.Store.{nameOf, keyOf}
 use Rattle.body.specs.Fields.{got, short, outside, andThen, forEach, tested, integer, between, integerOf, bytes, numberRead, number4, serverRead, serverId}
 use Rattle.body.specs.Bodies.{namedFields, isKeyType, shapeFields, pairField, periodField, Times, noTimes, timesThere, timesFields, Definition, restFields, definitionFields, switchFields, acknowledgementFields, stringField, keyField, serverField, slotField, dataFields, Update, entryFields, updateFields, incrementalFields}
+use Rattle.body.specs.Encodings.{messageBytes, eachBytes, keyBytes, serverBytes, valueBytes, dataBytes, entryBytes, updateBytes, incrementalBytes, slotStart, periodBytes, timesBytes, definitionBytes}
 
 -- ---- definition
 
@@ -186,4 +189,60 @@ update-examples = record {
   string = refl;
   long-string = refl;
   cut-string = refl;
+}
+
+-- ---- encodings
+
+-- an entry with a key of so many bytes
+abbrev entry : ℕ → List ℕ → ℤ → List ℕ → Entry
+entry len key server values = record { held = 1; «server_id» = server; table = 0; «key_len» = len; key = key; values = values }
+
+-- the key 42
+abbrev entry42 : ℤ → List ℕ → Entry
+entry42 = entry 4 (0x00 ∷ 0x00 ∷ 0x00 ∷ 0x2A ∷ replicate 60 0)
+
+-- a string `ab`
+abbrev entryAb : List ℕ → Entry
+entryAb = entry 2 (0x61 ∷ 0x62 ∷ replicate 62 0) (pos 0)
+
+-- the table `t1` with integer keys
+abbrev tableT1 : ℕ → ℕ → ℕ → List ℕ → Table
+tableT1 types timed expiry periods = record {
+  held = 1;
+  «key_type» = 0;
+  timed = timed;
+  «data_types» = types;
+  «name_len» = 2;
+  «key_len» = 4;
+  expiry = expiry;
+  periods = periods;
+  name = 0x74 ∷ 0x31 ∷ replicate 30 0;
+}
+
+record EncodingExamples : Type 0 where
+  -- "The listing": `0A 82 0A 01 02 74 31 00 04 04 F0 97 1C`, `0A 80 0B FF FF FF FF 00 00 00 2A F4 94 01`, `0A 81 05 00 00 00 2A 05`
+  definition : messageBytes 130 (definitionBytes 1 (tableT1 4 1 60000 (replicate 8 0))) ≡ 0x0A ∷ 0x82 ∷ 0x0A ∷ listed
+  update : messageBytes 128 (updateBytes (table 0 4 4) 4294967295 (entry42 (pos 0) (0 ∷ 4660 ∷ replicate 32 0))) ≡ 0x0A ∷ 0x80 ∷ 0x0B ∷ update
+  incremental : messageBytes 129 (incrementalBytes (table 0 4 4) (entry42 (pos 0) (0 ∷ 5 ∷ replicate 32 0))) ≡ 0x0A ∷ 0x81 ∷ 0x05 ∷ keyed (0x05 ∷ [])
+  -- without expiry; with rate types 3 and 5, and periods 10 and 11
+  no-times : definitionBytes 1 (tableT1 4 0 0 (replicate 8 0)) ≡ take 7 listed
+  rates : definitionBytes 1 (tableT1 0x28 1 7 (10 ∷ 11 ∷ replicate 6 0)) ≡ named (0x00 ∷ 0x04 ∷ 0x28 ∷ 0x07 ∷ 0x03 ∷ 0x0A ∷ 0x05 ∷ 0x0B ∷ [])
+  -- data types 0, 1 and 3: server ID -1, one integer, three integers
+  server : incrementalBytes (table 0 4 0x0B) (entry42 (negsuc 0) (6 ∷ 0 ∷ 7 ∷ 8 ∷ 9 ∷ replicate 29 0))
+      ≡ keyed (largest ++ (0x06 ∷ 0x07 ∷ 0x08 ∷ 0x09 ∷ []))
+  -- the second integer of data type 3 is in slot 3
+  start : slotStart (table 0 4 0x0B) (entry42 (negsuc 0) (6 ∷ 0 ∷ 7 ∷ 8 ∷ 9 ∷ replicate 29 0)) 3 ≡ 16
+  string : incrementalBytes (table 3 2 2) (entryAb (300 ∷ replicate 33 0)) ≡ 0x02 ∷ 0x61 ∷ 0x62 ∷ 0xFC ∷ 0x03 ∷ []
+
+encoding-examples : EncodingExamples
+unfolding messageBytes eachBytes keyBytes serverBytes valueBytes dataBytes entryBytes updateBytes incrementalBytes slotStart periodBytes timesBytes definitionBytes nameOf keyOf encodeInt encodeRest encodeNumber serverWord keyKind present isRate among integersOf slotsFor slotTypes rateTypes
+encoding-examples = record {
+  definition = refl;
+  update = refl;
+  incremental = refl;
+  no-times = refl;
+  rates = refl;
+  server = refl;
+  start = refl;
+  string = refl;
 }

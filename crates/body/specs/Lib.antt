@@ -1,4 +1,5 @@
 pub mod Fields
 pub mod Bodies
 pub mod Results
+pub mod Encodings
 pub mod Examples

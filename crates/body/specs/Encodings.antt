@@ -1,0 +1,83 @@
+-- The bytes of a message of class 10, field by field in wire order: what a table or an entry looks like on the wire.
+use Prim.Native.Nat.{ℕ, _+_}
+use mathlib.Core.List.{List, [], _∷_, _++_}
+use mathlib.Core.Bool.{cond}
+use lib.ListN.{length, take}
+use lib.Dec.{eqb}
+use lib.IntN.{ℤ}
+use Rattle.wire.specs.Integer.{encodeInt}
+use Rattle.wire.specs.Number.{encodeNumber}
+use Rattle.wire.specs.Server.{serverWord}
+use Rattle.store.specs.declared.Table.{Table}
+use Rattle.store.specs.declared.Entry.{Entry}
+use Rattle.store.specs.Limits.{keyKind, isString, present, slotTypes, rateTypes}
+use Rattle.store.specs.Store.{nameOf, keyOf}
+
+-- "Class 10 continues with the encoded body length, .. then the body"
+unfoldable pub messageBytes : ℕ → List ℕ → List ℕ
+messageBytes type body = 0x0A ∷ type ∷ encodeInt (length body) ++ body
+
+-- the bytes of a value for each of the types ts, in their order
+unfoldable pub eachBytes : (ℕ → ℕ → List ℕ) → List ℕ → List ℕ → List ℕ
+eachBytes field [] [] = []
+eachBytes field [] (v ∷ vs) = []
+eachBytes field (t ∷ ts) [] = []
+eachBytes field (t ∷ ts) (v ∷ vs) = field t v ++ eachBytes field ts vs
+
+-- ---- update
+
+-- "Key: string: encoded length (0 up to the key length), bytes; else exactly key-length bytes."
+unfoldable pub keyBytes : ℕ → List ℕ → List ℕ
+keyBytes keyType key = cond (isString (keyKind keyType)) (encodeInt (length key) ++ key) key
+
+-- "Type 0, the server ID, is signed 32-bit: a negative one is encoded as its value plus 2^64." No bytes where that type isn't present.
+unfoldable pub serverBytes : ℕ → ℤ → List ℕ
+serverBytes types id = cond (present types 0) (encodeInt (serverWord id)) []
+
+-- an integer of data type t; no bytes where that type isn't present
+unfoldable pub valueBytes : ℕ → ℕ → ℕ → List ℕ
+valueBytes types t value = cond (present types t) (encodeInt value) []
+
+-- "Data: values in bit order. Rate types .. are three integers": an integer for each slot, behind the server ID
+unfoldable pub dataBytes : ℕ → ℤ → List ℕ → List ℕ
+dataBytes types id values = serverBytes types id ++ eachBytes (valueBytes types) slotTypes values
+
+-- key and data of an entry
+unfoldable pub entryBytes : Table → Entry → List ℕ
+entryBytes t e = keyBytes (t .«key_type») (keyOf e) ++ dataBytes (t .«data_types») (e .«server_id») (e .values)
+
+-- "Update: 4-byte big-endian update ID, key, data."
+unfoldable pub updateBytes : Table → ℕ → Entry → List ℕ
+updateBytes t id e = encodeNumber id ++ entryBytes t e
+
+-- "Incremental has no ID"
+unfoldable pub incrementalBytes : Table → Entry → List ℕ
+incrementalBytes t e = entryBytes t e
+
+-- the position in an entry's bytes at which the integer of slot i starts: behind the key, the server ID and the integers before it
+unfoldable pub slotStart : Table → Entry → ℕ → ℕ
+slotStart t e i =
+    length (keyBytes (t .«key_type») (keyOf e))
+    + (length (serverBytes (t .«data_types») (e .«server_id»))
+    + length (eachBytes (valueBytes (t .«data_types»)) (take i slotTypes) (take i (e .values))))
+
+-- ---- definition
+
+-- "a pair (data type number, period) for each rate type present, ascending"; no bytes where rate type t isn't present
+unfoldable pub periodBytes : ℕ → ℕ → ℕ → List ℕ
+periodBytes types t period = cond (present types t) (encodeInt t ++ encodeInt period) []
+
+-- ".. and then, unless the body ends there, expiry and a pair .."
+unfoldable pub timesBytes : Table → List ℕ
+timesBytes t = cond (eqb (t .timed) 1) (encodeInt (t .expiry) ++ eachBytes (periodBytes (t .«data_types»)) rateTypes (t .periods)) []
+
+-- "Definition: encoded sender's table ID, name length (1 to 32), name, key type, key length, data types, and then, .."
+unfoldable pub definitionBytes : ℕ → Table → List ℕ
+definitionBytes id t =
+    encodeInt id
+    ++ encodeInt (length (nameOf t))
+    ++ nameOf t
+    ++ encodeInt (t .«key_type»)
+    ++ encodeInt (t .«key_len»)
+    ++ encodeInt (t .«data_types»)
+    ++ timesBytes t
