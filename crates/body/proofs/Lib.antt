@@ -9,3 +9,5 @@ pub mod Behind
 pub mod Given
 pub mod Spans
 pub mod Encoding
+pub mod UpdateEncoding
+pub mod DefinitionEncoding

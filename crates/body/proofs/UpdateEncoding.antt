@@ -1,0 +1,164 @@
+-- What was read as an update is its encoding: the bytes of each field, one directly behind the other, and then the bytes that are ignored.
+use Prim.Native.Nat.{ℕ, zero, suc, _+_, _<_}
+use native.Mathlib.Omega.{arith}
+use mathlib.Core.Path.{_≡_, refl, sym, ap, _∙_}
+use mathlib.Core.List.{List, [], _∷_, _++_, append-assoc}
+use mathlib.Core.Bool.{true}
+use lib.ListN.{length, take, drop, getD, length-append}
+use lib.Seq.{drop-append-seam, take-append-seam}
+use lib.IntN.{ℤ, pos}
+use Rattle.lists.proofs.Cases.{cond-true, cond-false}
+use Rattle.wire.specs.Integer.{encodeInt}
+use Rattle.wire.specs.Number.{encodeNumber}
+use Rattle.wire.specs.Value.{Bytes}
+use Rattle.store.specs.declared.Table.{Table}
+use Rattle.store.specs.declared.Entry.{Entry}
+use Rattle.store.specs.Limits.{keyKind, isString, present, widthOf, slotTypes}
+use Rattle.store.specs.Store.{keyOf}
+use Rattle.store.proofs.Rules.{slot-count}
+use Rattle.body.specs.Fields.{got, integer, between, integerOf, Span, spanIn, bytes, number4, serverId}
+use Rattle.body.specs.Bodies.{stringField, keyField, serverField, slotField, valueFields, Data, dataFields, Update, entryFields, updateFields, incrementalFields}
+use Rattle.body.specs.Encodings.{eachBytes, keyBytes, serverBytes, valueBytes, dataBytes, entryBytes, updateBytes, incrementalBytes, slotStart}
+use Rattle.body.proofs.Taken.{Holds, held}
+use Rattle.body.proofs.Encoding.{holds-cond, holds-got, holds-each, holds-then, Stands, stands-none, stands-then, Encoded, integer-encoded, width-encoded, number-encoded, server-encoded, PartOf, bytes-encoded, each-encoded}
+
+-- ---- key and data
+module _ (s : List ℕ) (b : Bytes s) where
+  string-encoded : (n at : ℕ) → Holds (Encoded (λ key. encodeInt (length (spanIn s key)) ++ spanIn s key) s at) (stringField n s at)
+  unfolding stringField Holds
+  string-encoded n at =
+      let Q : Span → ℕ → Type 0 = Encoded (λ key. encodeInt (length (spanIn s key)) ++ spanIn s key) s at in
+      holds-then (Encoded encodeInt s at) Q (integer (between 0 n) s at) _ (integer-encoded s b (between 0 n) at) λ len at₁ q.
+      holds-each (PartOf s len at₁) Q (bytes len s at₁) (bytes-encoded s len at₁) λ key next r.
+      let p : Stands s (encodeInt (length (spanIn s key))) at at₁ = rw (r .size) q in
+      stands-then s p (r .here)
+
+  key-encoded : (keyType n at : ℕ) → Holds (Encoded (λ key. keyBytes keyType (spanIn s key)) s at) (keyField keyType n s at)
+  unfolding keyField
+  key-encoded keyType n at =
+      let Q : Span → ℕ → Type 0 = Encoded (λ key. keyBytes keyType (spanIn s key)) s at in
+      holds-cond Q (isString (keyKind keyType)) (stringField n s at) (bytes n s at)
+      (λ e.
+      holds-each _ Q (stringField n s at) (string-encoded n at) λ key next r.
+      unfold keyBytes in rw (cond-true _ _ _ e) r)
+      (λ e.
+      holds-each _ Q (bytes n s at) (bytes-encoded s n at) λ key next r.
+      unfold keyBytes in rw (cond-false _ _ _ e) (r .here))
+
+  server-field-encoded : (types at : ℕ) → Holds (Encoded (serverBytes types) s at) (serverField types s at)
+  unfolding serverField
+  server-field-encoded types at =
+      let Q : ℤ → ℕ → Type 0 = Encoded (serverBytes types) s at in
+      holds-cond Q (present types 0) (serverId s at) (got (pos 0) at)
+      (λ e. holds-each _ Q (serverId s at) (server-encoded s b at) λ z next r. unfold serverBytes in rw (cond-true _ _ _ e) r)
+      (λ e. holds-got Q (pos 0) at (unfold serverBytes in rw (cond-false _ _ _ e) (stands-none s at)))
+
+  slot-encoded : (types t at : ℕ) → Holds (Encoded (valueBytes types t) s at) (slotField types t s at)
+  unfolding slotField
+  slot-encoded types t at =
+      let Q : ℕ → ℕ → Type 0 = Encoded (valueBytes types t) s at in
+      holds-cond Q (present types t) (integerOf (widthOf t) s at) (got 0 at)
+      (λ e. holds-each _ Q (integerOf (widthOf t) s at) (width-encoded s b (widthOf t) at) λ v next r. unfold valueBytes in rw (cond-true _ _ _ e) r)
+      (λ e. holds-got Q 0 at (unfold valueBytes in rw (cond-false _ _ _ e) (stands-none s at)))
+
+  data-encoded : (types at : ℕ) → Holds (Encoded (λ d. dataBytes types (d .server) (d .values)) s at) (dataFields types s at)
+  unfolding dataFields dataBytes
+  data-encoded types at =
+      let Q : Data → ℕ → Type 0 = Encoded (λ d. dataBytes types (d .server) (d .values)) s at in
+      holds-then (Encoded (serverBytes types) s at) Q (serverField types s at) _ (server-field-encoded types at) λ z at₁ q.
+      holds-then (Encoded (eachBytes (valueBytes types) slotTypes) s at₁) Q (valueFields types s at₁) _
+      (each-encoded (slotField types) (valueBytes types) s (slot-encoded types) slotTypes at₁) λ values at₂ r.
+      holds-got Q _ at₂ (stands-then s q r)
+
+-- an entry with the key, the server ID and the values that were read
+pub record EntryRead (body : List ℕ) (u : Update) (e : Entry) : Type 0 where
+  pub key : keyOf e ≡ spanIn body (u .key)
+  pub server : e .«server_id» ≡ u .server
+  pub values : e .values ≡ u .values
+
+-- key and data of an update that was read with this ID
+record KeyedAt (t : Table) (id : ℕ) (s : List ℕ) (at : ℕ) (u : Update) (next : ℕ) : Type 0 where
+  same : u .id ≡ id
+  here : Stands s (keyBytes (t .«key_type») (spanIn s (u .key)) ++ dataBytes (t .«data_types») (u .server) (u .values)) at next
+
+module _ (t : Table) (s : List ℕ) (b : Bytes s) where
+  entry-encoded : (id at : ℕ) → Holds (KeyedAt t id s at) (entryFields t id s at)
+  unfolding entryFields
+  entry-encoded id at =
+      let Q : Update → ℕ → Type 0 = KeyedAt t id s at in
+      holds-then _ Q (keyField (t .«key_type») (t .«key_len») s at) _ (key-encoded s b (t .«key_type») (t .«key_len») at) λ key at₁ q.
+      holds-then _ Q (dataFields (t .«data_types») s at₁) _ (data-encoded s b (t .«data_types») at₁) λ d at₂ r.
+      holds-got Q _ at₂ (record { same = refl; here = stands-then s q r })
+
+  entry-is : (id at : ℕ) (u : Update) (next : ℕ) (e : Entry) → EntryRead s u e → KeyedAt t id s at u next → Stands s (entryBytes t e) at next
+  unfolding entryBytes
+  entry-is id at u next e r k = rw (r .key, r .server, r .values) (k .here)
+
+  -- an update's body is its encoding, and ignored bytes
+  pub update-encoded : (u : Update) (next : ℕ) (e : Entry) → EntryRead s u e → updateFields t s ≡ got u next → s ≡ updateBytes t (u .id) e ++ drop next s
+  unfolding updateFields updateBytes
+  update-encoded u next e r q =
+      let Q : Update → ℕ → Type 0 = λ u next. (e : Entry) → EntryRead s u e → Stands s (encodeNumber (u .id) ++ entryBytes t e) 0 next in
+      held Q _
+      (holds-then (Encoded encodeNumber s 0) Q (number4 s 0) _ (number-encoded s b 0) λ id at₁ p.
+      holds-each (KeyedAt t id s at₁) Q (entryFields t id s at₁) (entry-encoded id at₁) λ u next k e r.
+      let h : Stands s (encodeNumber (u .id)) 0 at₁ = rw (k .same) p in
+      stands-then s h (entry-is id at₁ u next e r k))
+      u next q e r .split
+
+  -- so is an incremental update's
+  pub incremental-encoded : (id : ℕ) (u : Update) (next : ℕ) (e : Entry) → EntryRead s u e → incrementalFields t id s ≡ got u next
+      → s ≡ incrementalBytes t e ++ drop next s
+  unfolding incrementalFields incrementalBytes
+  incremental-encoded id u next e r q = entry-is id 0 u next e r (held (KeyedAt t id s 0) _ (entry-encoded id 0) u next q) .split
+
+-- ---- the integers of an update
+
+-- the field of type number i stands between those before it and those behind it
+each-split : (encode : ℕ → ℕ → List ℕ) (ts vs : List ℕ) (i : ℕ) → i < length ts → i < length vs
+    → eachBytes encode ts vs
+    ≡ eachBytes encode (take i ts) (take i vs) ++ (encode (getD ts i 0) (getD vs i 0) ++ eachBytes encode (drop (suc i) ts) (drop (suc i) vs))
+unfolding eachBytes
+each-split encode [] vs i l k = absurd (omega arith)
+each-split encode (t ∷ ts) [] i l k = absurd (omega arith)
+each-split encode (t ∷ ts) (v ∷ vs) zero l k = refl
+each-split encode (t ∷ ts) (v ∷ vs) (suc i) l k =
+    ap (λ (x : List ℕ). encode t v ++ x) (each-split encode ts vs i (omega arith) (omega arith))
+    ∙ sym (append-assoc (encode t v) (eachBytes encode (take i ts) (take i vs)) _)
+
+-- a slot whose data type is present: its integer starts at the slot's position
+module _ (t : Table) (e : Entry) (i : ℕ) (l : i < 34) (size : length (e .values) ≡ 34) (h : present (t .«data_types») (getD slotTypes i 0) ≡ true) where
+  abbrev types : ℕ
+  types = t .«data_types»
+
+  abbrev key : List ℕ
+  key = keyBytes (t .«key_type») (keyOf e)
+
+  abbrev id : List ℕ
+  id = serverBytes types (e .«server_id»)
+
+  abbrev before : List ℕ
+  before = eachBytes (valueBytes types) (take i slotTypes) (take i (e .values))
+
+  abbrev behind : List ℕ
+  behind = eachBytes (valueBytes types) (drop (suc i) slotTypes) (drop (suc i) (e .values))
+
+  abbrev value : List ℕ
+  value = encodeInt (getD (e .values) i 0)
+
+  value-there : valueBytes types (getD slotTypes i 0) (getD (e .values) i 0) ≡ value
+  unfolding valueBytes
+  value-there = cond-true _ _ _ h
+
+  entry-split : (p rest : List ℕ) → p ++ (entryBytes t e ++ rest) ≡ (p ++ (key ++ (id ++ before))) ++ (value ++ (behind ++ rest))
+  unfolding entryBytes dataBytes
+  entry-split p rest =
+      rw (each-split (valueBytes types) slotTypes (e .values) i (omega (arith, slot-count)) (omega arith), value-there) (simp append-assoc)
+
+  start-is : (p : List ℕ) → length (p ++ (key ++ (id ++ before))) ≡ length p + slotStart t e i
+  unfolding slotStart
+  start-is p = simp length-append
+
+  pub slot-there : (p rest : List ℕ) → take (length value) (drop (length p + slotStart t e i) (p ++ (entryBytes t e ++ rest))) ≡ value
+  slot-there p rest =
+      rw (entry-split p rest, ← start-is p, drop-append-seam (p ++ (key ++ (id ++ before))) (value ++ (behind ++ rest))) (take-append-seam value (behind ++ rest))
