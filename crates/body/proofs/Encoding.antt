@@ -62,7 +62,7 @@ module _ (s : List ℕ) where
     split = p .split ∙ (ap (λ (l : List ℕ). xs ++ l) (q .split) ∙ sym (append-assoc xs ys (drop next s)));
   }
 
-  stands-part : (bs : List ℕ) (at next : ℕ) → next ≡ at + length bs → take (length bs) (drop at s) ≡ bs → Stands s bs at next
+  pub stands-part : (bs : List ℕ) (at next : ℕ) → next ≡ at + length bs → take (length bs) (drop at s) ≡ bs → Stands s bs at next
   stands-part bs at next e q = record {
     split =
         sym (take-append-drop (length bs) (drop at s))

@@ -21,3 +21,5 @@ pub mod ListingHolds
 pub mod Corollaries
 pub mod ReadBack
 pub mod Sharing
+pub mod WholeMessage
+pub mod MessageBytes
