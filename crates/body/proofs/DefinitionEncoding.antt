@@ -1,9 +1,9 @@
 -- What was read as a definition is its encoding: the bytes of each field, one directly behind the other, and then the bytes that are ignored.
 use Prim.Native.Nat.{ℕ, _+_}
 use native.Mathlib.Omega.{arith}
-use mathlib.Core.Path.{_≡_, refl, sym, ap, _∙_}
-use mathlib.Core.List.{List, [], _∷_, _++_, append-assoc}
-use mathlib.Core.Bool.{true, false, cond}
+use mathlib.Core.Path.{_≡_, ap, _∙_}
+use mathlib.Core.List.{List, [], _++_, append-assoc}
+use mathlib.Core.Bool.{cond}
 use lib.ListN.{length, drop}
 use lib.Seq.{drop-length}
 use lib.Dec.{eqb}
@@ -14,7 +14,7 @@ use Rattle.wire.specs.Value.{Bytes}
 use Rattle.store.specs.declared.Table.{Table}
 use Rattle.store.specs.Limits.{nameMax, keyLengthOk, dataTypesOk, present, rateTypes}
 use Rattle.store.specs.Store.{nameOf}
-use Rattle.body.specs.Fields.{got, integer, between, integerOf, Span, spanIn, bytes}
+use Rattle.body.specs.Fields.{got, integer, between, integerOf, spanIn, bytes}
 use Rattle.body.specs.Bodies.{Named, namedFields, isKeyType, Shape, shapeFields, pairField, periodField, periodFields, Times, noTimes, timesThere, timesFields, Definition, defined, restFields, definitionFields}
 use Rattle.body.specs.Encodings.{eachBytes, periodBytes, timesBytes, definitionBytes}
 use Rattle.body.proofs.Taken.{Holds, held}

@@ -22,4 +22,5 @@ pub mod Corollaries
 pub mod ReadBack
 pub mod Sharing
 pub mod WholeMessage
-pub mod MessageBytes
+pub mod UpdateMessages
+pub mod DefinitionMessages

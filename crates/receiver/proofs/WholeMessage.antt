@@ -1,8 +1,8 @@
 -- The message that a call ended has no byte past its body: it is class 10, its type, the encoded body length and the body.
-use Prim.Native.Nat.{ℕ, suc, _+_, _-_, _≤_, _<_}
+use Prim.Native.Nat.{ℕ, _+_, _-_, _≤_, _<_}
 use native.Mathlib.Omega.{arith}
 use mathlib.Core.Path.{_≡_, refl, sym, ap, subst, _∙_}
-use mathlib.Core.Bool.{Bool, true, false, cond, _&&_}
+use mathlib.Core.Bool.{true, false, _&&_}
 use mathlib.Core.List.{List, [], _∷_, _++_}
 use lib.ListN.{length, take, drop, getD, length-append, length-drop, List·getD-eq-default}
 use lib.Seq.{drop-cons, take-all}
@@ -10,7 +10,7 @@ use lib.Dec.{ltb, leb, eqb, lit<}
 use borrow.Author.Tests.{lt-ltb, le-ltb, ltb-true, eqb-true, eq-eqb, ne-eqb}
 use Rattle.lists.specs.Lists.{every}
 use Rattle.lists.proofs.Every.{every-at}
-use Rattle.lists.proofs.Cases.{by-test, cond-true, cond-false, never, lt-or-le, and-first}
+use Rattle.lists.proofs.Cases.{by-test, never, lt-or-le, and-first}
 use Rattle.wire.specs.declared.Int.{Int}
 use Rattle.wire.specs.declared.Int.the-variants as int
 use Rattle.wire.specs.Integer.{encodeInt, readInt}
@@ -34,7 +34,7 @@ use Rattle.session.specs.declared.Session.{Session}
 use Rattle.session.specs.declared.Connection.{Connection}
 use Rattle.session.specs.declared.Answer.{Answer}
 use Rattle.session.specs.declared.Answer.the-variants as answer
-use Rattle.session.specs.Session.{unfinished, isClosed, localName, remoteName}
+use Rattle.session.specs.Session.{unfinished, localName, remoteName}
 use Rattle.soundness.specs.Sound.{sound, waits}
 use Rattle.soundness.proofs.Records.{sound-session, open-facts}
 use Rattle.soundness.proofs.Waiting.{waits-frame, frame-is-waiting}
@@ -42,12 +42,12 @@ use Rattle.body.specs.Encodings.{messageBytes}
 use Rattle.body.proofs.Encoding.{Stands, stands-part}
 use Rattle.message.specs.Effects.{Effect, refuse, note}
 use Rattle.message.proofs.Kept.{Held}
-use Rattle.reassembly.specs.Judge.{Judged, waiting, settled, helloJudged, statusJudged, judge}
-use Rattle.reassembly.specs.Pieces.{Part, oneMore, takePiece}
+use Rattle.reassembly.specs.Judge.{Judged, waiting, settled, helloJudged, statusJudged, frameJudged, judge}
+use Rattle.reassembly.specs.Pieces.{Part, takePiece}
 use Rattle.reassembly.proofs.Taking.{part-bytes}
-use Rattle.streams.specs.Calls.{Call, stay, scan}
+use Rattle.streams.specs.Calls.{Call}
 use Rattle.streams.proofs.Basics.{every-take}
-use Rattle.receiver.specs.Model.{State, heldBy, ends, isByte, peers}
+use Rattle.receiver.specs.Model.{State, heldBy, ends, isByte}
 use Rattle.receiver.specs.Good.{Good}
 use Rattle.receiver.specs.Promise.{Made, ReadPromise, callOf}
 use Rattle.receiver.specs.Parts.{judgedCall, partCall}
@@ -222,6 +222,12 @@ module _ (c : Connection) (t : Store) (u : List ℕ) (e : Effect) (q : judge c t
       let n : c .phase ≡ 0 → ⊥ = λ y. omega arith in
       let h : judge c t u ≡ statusJudged c t (judgeStatus u) = rw (ne-eqb (c .phase) 0 n, eq-eqb (c .phase) 1 z) in
       subst Other (sym h ∙ q) (status-other c t (judgeStatus u)) k
+
+  pub by-frame : frameJudged c t u (judgeFrame u) ≡ settled e
+  unfolding judge
+  by-frame =
+      let h : judge c t u ≡ frameJudged c t u (judgeFrame u) = rw (ne-eqb (c .phase) 0 no-hello, ne-eqb (c .phase) 1 no-status) in
+      sym h ∙ q
 
   last-ends : (kind start end : ℕ) → judgeFrame u ≡ frame.Body kind start end → Last c u → end ≡ length u
   last-ends kind start end f l =

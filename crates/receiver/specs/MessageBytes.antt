@@ -1,8 +1,8 @@
--- "which bytes stood for this counter?": the message of an accepted update, from its first byte to its last.
+-- "which bytes stood for this counter?": the message of an accepted update or definition, from its first byte to its last.
 use Prim.Native.Nat.{ℕ, _+_, _%_, _^_, _<_}
 use mathlib.Core.Path.{_≡_}
 use mathlib.Core.Logic.{_⊎_}
-use mathlib.Core.List.{List, _++_}
+use mathlib.Core.List.{List, [], _++_}
 use mathlib.Core.Bool.{true, false, cond}
 use lib.ListN.{length, take, drop, getD}
 use lib.IntN.{pos}
@@ -13,12 +13,12 @@ use Rattle.store.specs.declared.Entry.{Entry}
 use Rattle.store.specs.declared.Store.{Store}
 use Rattle.store.specs.Limits.{valueCount, slotTypes, present}
 use Rattle.store.specs.Shape.{Cells}
-use Rattle.store.specs.Store.{entryHeld, noTable, noEntry}
+use Rattle.store.specs.Store.{tableHeld, entryHeld, noTable, noEntry}
 use Rattle.session.specs.declared.Session.{Session}
 use Rattle.session.specs.declared.Commit.{Commit}
 use Rattle.session.specs.declared.Answer.the-variants as answer
 use Rattle.session.specs.Session.{bindingAt}
-use Rattle.body.specs.Encodings.{messageBytes, updateBytes, incrementalBytes, slotStart}
+use Rattle.body.specs.Encodings.{messageBytes, updateBytes, incrementalBytes, slotStart, definitionBytes}
 use Rattle.receiver.specs.Promise.{Made, ReadPromise}
 use Rattle.receiver.specs.Corollaries.{messageOf}
 
@@ -67,3 +67,22 @@ abbrev pub BytesOfUpdate : Type 0
 BytesOfUpdate =
     (s : Session) (t : Store) (m : Made) (table id place : ℕ) (how : Commit) → ReadPromise s t m
     → m .outcome .answer ≡ answer.Update table id place how → UpdateMessage s m table id (tableAt m table) (entryAt m place)
+
+-- ---- definition
+
+-- the message that a call ended is a definition of table t with this ID, likewise
+pub record DefinitionMessage (s : Session) (m : Made) (id : ℕ) (t : Table) : Type 0 where
+  pub body : List ℕ
+  pub message : messageOf s m ≡ messageBytes 130 body
+  pub ignored : List ℕ
+  pub fields : body ≡ definitionBytes id t ++ ignored
+  -- "and then, unless the body ends there, expiry and .."
+  pub untimed : t .timed ≡ 0 → ignored ≡ []
+  pub held : tableHeld t ≡ true
+  pub small : id < 2 ^ 32
+
+-- for every call that answered a table, on any record and store: of the ID and the table that it left at the answered place
+abbrev pub BytesOfDefinition : Type 0
+BytesOfDefinition =
+    (s : Session) (t : Store) (m : Made) (place : ℕ) → ReadPromise s t m → m .outcome .answer ≡ answer.Table place
+    → DefinitionMessage s m (bindingAt (m .session .connection) place .id) (tableAt m place)

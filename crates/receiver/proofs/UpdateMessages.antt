@@ -2,12 +2,11 @@
 use Prim.Native.Nat.{ℕ, _+_, _-_, _%_, _^_, _≤_, _<_}
 use native.Mathlib.Omega.{arith}
 use mathlib.Core.Path.{_≡_, refl, sym, ap, subst, _∙_}
-use mathlib.Core.Logic.{_⊎_, inl, inr, ⊎-elim}
-use mathlib.Core.Bool.{true, false, cond}
-use mathlib.Core.List.{List, [], _∷_, _++_, append-assoc}
+use mathlib.Core.Logic.{_⊎_, ⊎-elim}
+use mathlib.Core.Bool.{true}
+use mathlib.Core.List.{List, [], _++_, append-assoc}
 use lib.ListN.{length, take, drop, getD}
 use lib.Seq.{getD-set-same}
-use lib.IntN.{pos}
 use lib.Dec.{eqb}
 use borrow.Author.Tests.{eq-eqb, ne-eqb}
 use Rattle.lists.proofs.Cases.{cond-true, cond-false}
@@ -19,14 +18,13 @@ use Rattle.wire.proofs.Numbers.{number-length}
 use Rattle.store.specs.declared.Table.{Table}
 use Rattle.store.specs.declared.Entry.{Entry}
 use Rattle.store.specs.declared.Store.{Store}
-use Rattle.store.specs.Limits.{valueCount, slotTypes, present}
+use Rattle.store.specs.Limits.{slotTypes, present}
 use Rattle.store.specs.Shape.{Cells}
 use Rattle.store.specs.Sound.{entryKeyLengthOk}
-use Rattle.store.specs.Store.{entryHeld, keyOf, makeEntry, putEntry, noTable, noEntry}
+use Rattle.store.specs.Store.{entryHeld, makeEntry, putEntry, noTable, noEntry}
 use Rattle.store.proofs.Facts.{TableFacts, key-most}
 use Rattle.store.proofs.Ruled.{made-key}
 use Rattle.session.specs.declared.Session.{Session}
-use Rattle.session.specs.declared.Connection.{Connection}
 use Rattle.session.specs.declared.Commit.{Commit}
 use Rattle.session.specs.declared.Answer.{Answer}
 use Rattle.session.specs.declared.Answer.the-variants as answer
@@ -38,7 +36,6 @@ use Rattle.body.proofs.Spans.{span-length}
 use Rattle.body.proofs.Within.{UpdateWithin, update-within, update-id, incremental-within}
 use Rattle.body.proofs.UpdateEncoding.{EntryRead, update-encoded, incremental-encoded, slot-there}
 use Rattle.message.specs.Effects.{Effect, updatedEntry, followingId}
-use Rattle.message.proofs.Kept.{Held}
 use Rattle.streams.specs.Calls.{Call}
 use Rattle.receiver.specs.Model.{State}
 use Rattle.receiver.specs.Promise.{Made, ReadPromise, callOf}
