@@ -7,6 +7,8 @@ use mathlib.Core.Bool.{true}
 use mathlib.Core.List.{List, [], _++_, append-assoc}
 use lib.ListN.{length, take, drop, getD}
 use lib.Seq.{getD-set-same}
+use lib.IntN.{ℤ}
+use lib.Signed.{mag}
 use lib.Dec.{eqb}
 use borrow.Author.Tests.{eq-eqb, ne-eqb}
 use Rattle.lists.proofs.Cases.{cond-true, cond-false}
@@ -214,6 +216,7 @@ module _ (s : Session) (t : Store) (m : Made) (p : ReadPromise s t m) (e : Effec
         owner = entry-owner table body (x .fields) .1;
         following = are .following;
         small = are .small;
+        signed = subst (λ (z : ℤ). mag z < 2 ^ 31) (sym (r .server)) (are .within .server);
         values = v;
         integer = λ i l h. integer-there now id new (are .ignored) i l (v .size) h (x .kind) (x .type) body f;
         absent = λ i l h. ap (λ (y : List ℕ). getD y i 0) (r .values) ∙ are .within .absent i l h;

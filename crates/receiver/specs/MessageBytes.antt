@@ -6,6 +6,7 @@ use mathlib.Core.List.{List, [], _++_}
 use mathlib.Core.Bool.{true, false, cond}
 use lib.ListN.{length, take, drop, getD}
 use lib.IntN.{pos}
+use lib.Signed.{mag}
 use lib.Dec.{eqb}
 use Rattle.wire.specs.Integer.{encodeInt}
 use Rattle.store.specs.declared.Table.{Table}
@@ -52,8 +53,9 @@ pub record UpdateMessage (s : Session) (m : Made) (table id : ℕ) (t : Table) (
   pub owner : e .table ≡ table
   -- "it is the table's previous ID plus one, and 4294967295 is followed by 0"
   pub following : kind ≡ 129 → id ≡ (bindingAt (s .connection) table .previous + 1) % 2 ^ 32
-  -- "4-byte", and values of 64 bits: numbers that have one encoding
+  -- a 4-byte ID, a signed 32-bit server ID and 34 values of at most 64 bits: each such number has one encoding
   pub small : id < 2 ^ 32
+  pub signed : mag (e .«server_id») < 2 ^ 31
   pub values : Cells valueCount 64 (e .values)
   -- a slot whose data type the table has: these bytes are its integer's
   pub integer : (i : ℕ) → i < valueCount → present (t .«data_types») (getD slotTypes i 0) ≡ true
