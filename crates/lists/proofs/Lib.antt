@@ -8,4 +8,5 @@ pub mod Walking
 pub mod Elements
 pub mod Searching
 pub mod Testing
+pub mod Passing
 pub mod Twins

@@ -24,15 +24,20 @@ pub outer-start : {A : Type 0} {alike : A → A → Bool} {xs : List A} {n : ℕ
 outer-start e = record { size = e; within = omega arith; rest = refl }
 
 module _ {A : Type 0} {alike : A → A → Bool} {xs : List A} {n i : ℕ} (r : Outer alike xs n i) where
-  passed : (d : A) → i < n → every (unlike alike (getD xs i d)) (drop (i + 1) xs) ≡ true → Outer alike xs n (i + 1)
-  passed d l t = record { size = r .size; within = omega arith; rest = r .rest ∙ distinct-next alike xs i d (omega (arith, r .size)) t }
+  -- no later element is alike to it
+  pub outer-next : (d : A) → i < n → every (unlike alike (getD xs i d)) (drop (i + 1) xs) ≡ true → Outer alike xs n (i + 1)
+  outer-next d l t = record { size = r .size; within = omega arith; rest = r .rest ∙ distinct-next alike xs i d (omega (arith, r .size)) t }
 
   -- an element that is alike to none
   pub outer-skip : (d : A) → i < n → ((y : A) → alike (getD xs i d) y ≡ false) → Outer alike xs n (i + 1)
-  outer-skip d l f = passed d l (every-from (unlike alike (getD xs i d)) (drop (i + 1) xs) d (λ k m. ap not (f (getD (drop (i + 1) xs) k d))))
+  outer-skip d l f = outer-next d l (every-from (unlike alike (getD xs i d)) (drop (i + 1) xs) d (λ k m. ap not (f (getD (drop (i + 1) xs) k d))))
 
   pub inner-start : (d : A) → i < n → Inner alike xs d n i (i + 1)
   inner-start d l = record { outer = r; inside = l; within = omega arith; rest = refl }
+
+  -- a later element is alike to it
+  pub outer-stop : (d : A) → i < n → every (unlike alike (getD xs i d)) (drop (i + 1) xs) ≡ false → false ≡ distinct alike xs
+  outer-stop d l t = sym (r .rest ∙ distinct-stop alike xs i d (omega (arith, r .size)) t)
 
   pub outer-end : n ≤ i → true ≡ distinct alike xs
   outer-end l = sym (r .rest ∙ distinct-end alike xs i (omega (arith, r .size)))
@@ -40,11 +45,7 @@ module _ {A : Type 0} {alike : A → A → Bool} {xs : List A} {n i : ℕ} (r : 
 module _ {A : Type 0} {alike : A → A → Bool} {xs : List A} {d : A} {n i j : ℕ} (r : Inner alike xs d n i j) where
   pub inner-stop : j < n → alike (getD xs i d) (getD xs j d) ≡ true → false ≡ distinct alike xs
   inner-stop l t =
-      let k = r .inside in
-      sym
-      (r .outer .rest
-      ∙ distinct-stop alike xs i d (omega (arith, r .outer .size))
-      (r .rest ∙ every-stop (unlike alike (getD xs i d)) xs j d (omega (arith, r .outer .size)) (ap not t)))
+      outer-stop (r .outer) d (r .inside) (r .rest ∙ every-stop (unlike alike (getD xs i d)) xs j d (omega (arith, r .outer .size)) (ap not t))
 
   pub inner-next : j < n → alike (getD xs i d) (getD xs j d) ≡ false → Inner alike xs d n i (j + 1)
   inner-next l t =
@@ -56,4 +57,4 @@ module _ {A : Type 0} {alike : A → A → Bool} {xs : List A} {d : A} {n i j : 
       }
 
   pub inner-end : n ≤ j → Outer alike xs n (i + 1)
-  inner-end l = passed (r .outer) d (r .inside) (r .rest ∙ every-end (unlike alike (getD xs i d)) xs j (omega (arith, r .outer .size)))
+  inner-end l = outer-next (r .outer) d (r .inside) (r .rest ∙ every-end (unlike alike (getD xs i d)) xs j (omega (arith, r .outer .size)))

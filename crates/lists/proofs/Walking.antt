@@ -1,18 +1,17 @@
--- The loops of `pad` and `all_zero`: what holds of the places passed.
+-- The loop of `pad`: what holds of the places passed. Tests of the loop of `all_zero`.
 use Prim.Native.Nat.{ℕ, _+_, _≤_, _<_}
 use native.Mathlib.Omega.{arith}
 use mathlib.Core.Path.{_≡_, refl, sym, ap, _∙_}
 use mathlib.Core.Bool.{Bool, true, false}
 use mathlib.Core.Logic.{⊎-elim}
 use mathlib.Core.List.{List}
-use lib.ListN.{length, getD, set, drop, length-set, List·getD-eq-default}
+use lib.ListN.{length, getD, set, length-set, List·getD-eq-default}
 use lib.Seq.{ext-getD, getD-set-same, getD-set-other}
 use lib.Dec.{eqb}
 use borrow.Author.Needs.{needs}
 use borrow.Author.Tests.{eq-eqb, ne-eqb}
-use Rattle.lists.specs.Lists.{every, padTo, isZero}
+use Rattle.lists.specs.Lists.{padTo, isZero}
 use Rattle.lists.proofs.Cases.{eq-or-ne}
-use Rattle.lists.proofs.Every.{every-stop, every-next, every-end}
 use Rattle.lists.proofs.Bytes.{pad-at, pad-length}
 
 pub past-end : (xs : List ℕ) (i : ℕ) → length xs ≤ i → 0 ≡ getD xs i 0
@@ -47,20 +46,9 @@ module _ {before bytes room : List ℕ} {i : ℕ} (r : Padding before bytes room
 
 pub ruleset padding = (needs, past-end, pad-start, pad-next, pad-end)
 
-pub record Zeros (xs : List ℕ) (i : ℕ) : Type 0 where
-  pub rest : every isZero xs ≡ every isZero (drop i xs)
+-- a byte that is zero, and one that isn't
+pub zero-passes : (b : ℕ) → b ≡ 0 → isZero b ≡ true
+zero-passes b e = eq-eqb b 0 e
 
-pub zeros-start : {xs : List ℕ} → Zeros xs 0
-zeros-start = record { rest = refl }
-
-module _ {xs : List ℕ} {i : ℕ} (r : Zeros xs i) where
-  pub zeros-stop : i < length xs → (getD xs i 0 ≡ 0 → ⊥) → false ≡ every isZero xs
-  zeros-stop l f = sym (r .rest ∙ every-stop isZero xs i 0 l (ne-eqb (getD xs i 0) 0 f))
-
-  pub zeros-next : i < length xs → getD xs i 0 ≡ 0 → Zeros xs (i + 1)
-  zeros-next l e = record { rest = r .rest ∙ every-next isZero xs i 0 l (eq-eqb (getD xs i 0) 0 e) }
-
-  pub zeros-end : length xs ≤ i → true ≡ every isZero xs
-  zeros-end l = sym (r .rest ∙ every-end isZero xs i l)
-
-pub ruleset zeros = (needs, zeros-start, zeros-stop, zeros-next, zeros-end)
+pub other-fails : (b : ℕ) → (b ≡ 0 → ⊥) → isZero b ≡ false
+other-fails b f = ne-eqb b 0 f

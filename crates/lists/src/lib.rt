@@ -48,16 +48,17 @@ pub fn pad(room: &mut [u8], bytes: &[u8])
     }
 }
 
-// Whether all bytes are zero.
+// Whether all bytes are zero. All are looked at: such a loop is compiled to wide instructions.
 pub fn all_zero(bytes: &[u8]) -> bool
     ensures { λ r. ⌜ r ≡ every isZero (now (bytes .entry)) ⌝ }
 {
+    let mut zero = true;
     let mut i = 0;
     while i < bytes.len() {
         if bytes[i] != 0 {
-            return false;
+            zero = false;
         }
         i += 1;
     }
-    true
+    zero
 }

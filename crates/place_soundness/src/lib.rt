@@ -2,9 +2,10 @@
 ghost use mathlib.Core.Path.{_≡_};
 ghost use mathlib.Core.List.{[], _∷_};
 ghost use mathlib.Core.Bool.{_&&_};
-ghost use Rattle.lists.specs.Lists.{allOf};
+ghost use Rattle.lists.specs.Lists.{allOf, every};
 ghost use Rattle.store.specs.Limits.{slotTypes};
 ghost use Rattle.store.specs.Store.{tableHeld};
+ghost use Rattle.place_soundness.specs.Narrow.{isNarrow};
 ghost use Rattle.store.specs.Sound.{tableTests, soundTable, slotOk, slotsOk, entryKeyLengthOk, keyRestZero, valuesOk};
 use store::Entry;
 use store::KEY_MAX;
@@ -92,6 +93,21 @@ fn slot_ok(types: u32, t: usize, v: u64) -> bool
     !present(types, t)
 }
 
+// Whether all values are below 2^32. All are looked at: such a loop is compiled to wide instructions.
+fn all_narrow(values: [u64; VALUES]) -> bool
+    ensures { λ r. ⌜ r ≡ every isNarrow values ⌝ }
+{
+    let mut narrow = true;
+    let mut i = 0;
+    while i < VALUES {
+        if VALUE_END <= values[i] {
+            narrow = false;
+        }
+        i += 1;
+    }
+    narrow
+}
+
 // Whether the values that the table has fit their widths.
 fn slots_ok(types: u32, values: [u64; VALUES]) -> bool
     ensures { λ r. ⌜ r ≡ slotsOk types slotTypes values ⌝ }
@@ -125,5 +141,8 @@ pub fn held_entry_ok(owner: Table, e: Entry) -> bool
         return false;
     }
     let values = e.values;
+    if all_narrow(values) {
+        return true;
+    }
     slots_ok(owner.data_types, values)
 }

@@ -1,28 +1,37 @@
-use Rattle.store.proofs.Tested.{rows}
-use borrow.Author.Needs.{needs}
+use Rattle.place_soundness.proofs.Narrow.{entry-rows}
 use Rattle.place_soundness.proofs.held_entry_ok.Statement.{statement}
 use Rattle.place_soundness.proofs.held_entry_ok.Tie as tie
+use Rattle.place_soundness.proofs.all_narrow.Reads as all-narrow-reads
+use Rattle.place_soundness.proofs.entry_key_length_ok.Reads as entry-key-length-ok-reads
+use Rattle.place_soundness.proofs.key_rest_zero.Reads as key-rest-zero-reads
+use Rattle.place_soundness.proofs.slots_ok.Reads as slots-ok-reads
 
 returns : tie.Need-returns
-returns c = search rows
+returns c = search entry-rows
 
 entry-key-length-ok-requires : tie.Need-entry-key-length-ok-requires
-entry-key-length-ok-requires c κs = search rows
+entry-key-length-ok-requires c κs = search entry-rows
 
 returns-2 : tie.Need-returns-2
-returns-2 c = search rows
+returns-2 c = search entry-rows
 
 key-rest-zero-requires : tie.Need-key-rest-zero-requires
-key-rest-zero-requires c κs = search rows
+key-rest-zero-requires c κs = search entry-rows
 
 returns-3 : tie.Need-returns-3
-returns-3 c = search rows
+returns-3 c = search entry-rows
 
-slots-ok-requires : tie.Need-slots-ok-requires
-slots-ok-requires c κs = search rows
+all-narrow-requires : tie.Need-all-narrow-requires
+all-narrow-requires c κs = search entry-rows
 
 returns-4 : tie.Need-returns-4
-returns-4 c = search rows
+returns-4 c = search entry-rows
+
+slots-ok-requires : tie.Need-slots-ok-requires
+slots-ok-requires c κs = search entry-rows
+
+returns-5 : tie.Need-returns-5
+returns-5 c = search entry-rows
 
 pub held-entry-ok-spec : {M : Type 1} → statement M
 held-entry-ok-spec =
@@ -33,5 +42,7 @@ held-entry-ok-spec =
     returns-2
     key-rest-zero-requires
     returns-3
+    all-narrow-requires
+    returns-4
     slots-ok-requires
-    returns-4)
+    returns-5)

@@ -1,6 +1,9 @@
 use Rattle.store_soundness.proofs.Marking.{entry-marks}
+use borrow.Author.Needs.{needs}
 use Rattle.store_soundness.proofs.held_mark.Statement.{statement}
 use Rattle.store_soundness.proofs.held_mark.Tie as tie
+use Rattle.store_soundness.proofs.mark_key.Reads as mark-key-reads
+use Rattle.store_soundness.proofs.shorter.Reads as shorter-reads
 
 shorter-requires : tie.Need-shorter-requires
 shorter-requires c κs = search entry-marks
@@ -8,11 +11,14 @@ shorter-requires c κs = search entry-marks
 array-share-prefix-key : tie.Need-array-share-prefix-key
 array-share-prefix-key c = search entry-marks
 
-slice-aggregate-mark-bytes : tie.Need-slice-aggregate-mark-bytes
-slice-aggregate-mark-bytes c = search entry-marks
+slice-aggregate-mark-key : tie.Need-slice-aggregate-mark-key
+slice-aggregate-mark-key c = search entry-marks
 
-mark-bytes-requires : tie.Need-mark-bytes-requires
-mark-bytes-requires c κs = search entry-marks
+mark-key-requires : tie.Need-mark-key-requires
+mark-key-requires c κs = search entry-marks
+
+cast-result : tie.Need-cast-result
+cast-result c = search entry-marks
 
 returns : tie.Need-returns
 returns c = search entry-marks
@@ -23,6 +29,7 @@ held-mark-spec =
     (tie.spec
     shorter-requires
     array-share-prefix-key
-    slice-aggregate-mark-bytes
-    mark-bytes-requires
+    slice-aggregate-mark-key
+    mark-key-requires
+    cast-result
     returns)

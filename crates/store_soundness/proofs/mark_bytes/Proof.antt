@@ -3,6 +3,8 @@ use lib.ListN.{length}
 use Rattle.store_soundness.proofs.Marking.{marking, Marking}
 use Rattle.store_soundness.proofs.mark_bytes.Statement.{statement}
 use Rattle.store_soundness.proofs.mark_bytes.Tie as tie
+use Rattle.store_soundness.proofs.mix.Reads as mix-reads
+use Rattle.store_soundness.proofs.wide.Reads as wide-reads
 
 abbrev Inv-loop : tie.InvT-loop
 Inv-loop start bytes mark₀ i₀ mark i = Marking start bytes mark i
@@ -13,17 +15,14 @@ abbrev μ-loop : tie.MeasureT-loop
 loop-holds : tie.Need-loop-holds Inv-loop μ-loop
 loop-holds c = search marking
 
-mul-mark : tie.Need-mul-mark Inv-loop μ-loop
-mul-mark c = search marking
-
 shared-slice-read-wide : tie.Need-shared-slice-read-wide Inv-loop μ-loop
 shared-slice-read-wide c = search marking
 
 wide-requires : tie.Need-wide-requires Inv-loop μ-loop
 wide-requires c κs = search marking
 
-add-mark : tie.Need-add-mark Inv-loop μ-loop
-add-mark c = search marking
+mix-requires : tie.Need-mix-requires Inv-loop μ-loop
+mix-requires c κs = search marking
 
 add-i : tie.Need-add-i Inv-loop μ-loop
 add-i c = search marking
@@ -44,10 +43,9 @@ mark-bytes-spec =
     Inv-loop
     μ-loop
     loop-holds
-    mul-mark
     shared-slice-read-wide
     wide-requires
-    add-mark
+    mix-requires
     add-i
     loop-less
     loop-again
