@@ -1,10 +1,6 @@
 use Rattle.place_soundness.proofs.Narrow.{entry-rows}
 use Rattle.place_soundness.proofs.held_entry_ok.Statement.{statement}
 use Rattle.place_soundness.proofs.held_entry_ok.Tie as tie
-use Rattle.place_soundness.proofs.all_narrow.Reads as all-narrow-reads
-use Rattle.place_soundness.proofs.entry_key_length_ok.Reads as entry-key-length-ok-reads
-use Rattle.place_soundness.proofs.key_rest_zero.Reads as key-rest-zero-reads
-use Rattle.place_soundness.proofs.slots_ok.Reads as slots-ok-reads
 
 returns : tie.Need-returns
 returns c = search entry-rows

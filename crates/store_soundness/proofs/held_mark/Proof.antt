@@ -2,8 +2,6 @@ use Rattle.store_soundness.proofs.Marking.{entry-marks}
 use borrow.Author.Needs.{needs}
 use Rattle.store_soundness.proofs.held_mark.Statement.{statement}
 use Rattle.store_soundness.proofs.held_mark.Tie as tie
-use Rattle.store_soundness.proofs.mark_key.Reads as mark-key-reads
-use Rattle.store_soundness.proofs.shorter.Reads as shorter-reads
 
 shorter-requires : tie.Need-shorter-requires
 shorter-requires c κs = search entry-marks

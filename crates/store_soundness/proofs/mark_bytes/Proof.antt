@@ -3,8 +3,6 @@ use lib.ListN.{length}
 use Rattle.store_soundness.proofs.Marking.{marking, Marking}
 use Rattle.store_soundness.proofs.mark_bytes.Statement.{statement}
 use Rattle.store_soundness.proofs.mark_bytes.Tie as tie
-use Rattle.store_soundness.proofs.mix.Reads as mix-reads
-use Rattle.store_soundness.proofs.wide.Reads as wide-reads
 
 abbrev Inv-loop : tie.InvT-loop
 Inv-loop start bytes mark₀ i₀ mark i = Marking start bytes mark i

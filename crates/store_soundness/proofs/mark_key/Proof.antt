@@ -2,8 +2,6 @@ use Rattle.store_soundness.proofs.Marking.{key-marking}
 use borrow.Author.Needs.{needs}
 use Rattle.store_soundness.proofs.mark_key.Statement.{statement}
 use Rattle.store_soundness.proofs.mark_key.Tie as tie
-use Rattle.store_soundness.proofs.mark_bytes.Reads as mark-bytes-reads
-use Rattle.store_soundness.proofs.mark_words.Reads as mark-words-reads
 
 mark-words-requires : tie.Need-mark-words-requires
 mark-words-requires c κs = search key-marking

@@ -2,8 +2,6 @@ use Prim.Native.Nat.{_-_}
 use Rattle.store_soundness.proofs.Marking.{wording, Words}
 use Rattle.store_soundness.proofs.mark_words.Statement.{statement}
 use Rattle.store_soundness.proofs.mark_words.Tie as tie
-use Rattle.store_soundness.proofs.mix.Reads as mix-reads
-use Rattle.store_soundness.proofs.word_at.Reads as word-at-reads
 
 abbrev Inv-loop : tie.InvT-loop
 Inv-loop start words key mark₀ k₀ mark k = Words words start key mark k

@@ -3,8 +3,6 @@ use Prim.Native.Nat.{_-_}
 use Rattle.store_soundness.proofs.Marking.{scanning, Scan, scan-held, scan-free}
 use Rattle.store_soundness.proofs.test_entries.Statement.{statement}
 use Rattle.store_soundness.proofs.test_entries.Tie as tie
-use Rattle.place_soundness.proofs.held_entry_ok.Reads as held-entry-ok-reads
-use Rattle.store_soundness.proofs.held_mark.Reads as held-mark-reads
 
 abbrev Inv-loop : tie.InvT-loop
 Inv-loop store marks₀ i₀ marks i = Scan (store .tables) (store .entries) marks i

@@ -2,7 +2,6 @@ use Rattle.store_soundness.proofs.Marking.{wording}
 use borrow.Author.Needs.{needs}
 use Rattle.store_soundness.proofs.word_at.Statement.{statement}
 use Rattle.store_soundness.proofs.word_at.Tie as tie
-use Rattle.store_soundness.proofs.wide.Reads as wide-reads
 
 shared-slice-read-wide : tie.Need-shared-slice-read-wide
 shared-slice-read-wide c = search wording
