@@ -1,7 +1,7 @@
 use Rattle.body.proofs.FieldLaws.{key-laws}
 use borrow.Author.Needs.{needs}
-use Rattle.update_body.proofs.read_string.Statement.{statement}
-use Rattle.update_body.proofs.read_string.Tie as tie
+use Rattle.string_keys.proofs.read_string.Statement.{statement}
+use Rattle.string_keys.proofs.read_string.Tie as tie
 
 read-between-requires : tie.Need-read-between-requires
 read-between-requires c κs = search key-laws

@@ -1,6 +1,6 @@
 use Rattle.soundness.proofs.Testing.{current}
-use Rattle.binding_soundness.proofs.current_ok.Statement.{statement}
-use Rattle.binding_soundness.proofs.current_ok.Tie as tie
+use Rattle.current_soundness.proofs.current_ok.Statement.{statement}
+use Rattle.current_soundness.proofs.current_ok.Tie as tie
 
 returns : tie.Need-returns
 returns c = search current

@@ -1,7 +1,7 @@
-use Rattle.opening.proofs.Making.{naming}
+use Rattle.new_sessions.proofs.Making.{naming}
 use borrow.Author.Needs.{needs}
-use Rattle.opening.proofs.names_given.Statement.{statement}
-use Rattle.opening.proofs.names_given.Tie as tie
+use Rattle.new_sessions.proofs.names_given.Statement.{statement}
+use Rattle.new_sessions.proofs.names_given.Tie as tie
 
 name-ok-requires : tie.Need-name-ok-requires
 name-ok-requires c κs = search naming

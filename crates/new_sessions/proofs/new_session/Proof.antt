@@ -1,7 +1,7 @@
-use Rattle.opening.proofs.Making.{session-made}
+use Rattle.new_sessions.proofs.Making.{session-made}
 use borrow.Author.Needs.{needs}
-use Rattle.opening.proofs.new_session.Statement.{statement}
-use Rattle.opening.proofs.new_session.Tie as tie
+use Rattle.new_sessions.proofs.new_session.Statement.{statement}
+use Rattle.new_sessions.proofs.new_session.Tie as tie
 
 name-array-requires : tie.Need-name-array-requires
 name-array-requires c κs = search needs

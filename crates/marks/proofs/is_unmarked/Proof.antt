@@ -1,6 +1,6 @@
 use Rattle.soundness.proofs.Testing.{binding}
-use Rattle.binding_marks.proofs.is_unmarked.Statement.{statement}
-use Rattle.binding_marks.proofs.is_unmarked.Tie as tie
+use Rattle.marks.proofs.is_unmarked.Statement.{statement}
+use Rattle.marks.proofs.is_unmarked.Tie as tie
 
 returns : tie.Need-returns
 returns c = search binding

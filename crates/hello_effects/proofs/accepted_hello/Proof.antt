@@ -1,6 +1,6 @@
 use Rattle.reassembly.proofs.Settling.{accepting}
-use Rattle.handshake_effects.proofs.accepted_hello.Statement.{statement}
-use Rattle.handshake_effects.proofs.accepted_hello.Tie as tie
+use Rattle.hello_effects.proofs.accepted_hello.Statement.{statement}
+use Rattle.hello_effects.proofs.accepted_hello.Tie as tie
 
 establish-connection-requires : tie.Need-establish-connection-requires
 establish-connection-requires c κs = search accepting
