@@ -1,7 +1,7 @@
 use Rattle.handshake.proofs.Judging.{judging-names}
 use borrow.Author.Needs.{needs}
-use Rattle.hello_reading.proofs.judge_names.Statement.{statement}
-use Rattle.hello_reading.proofs.judge_names.Tie as tie
+use Rattle.hello_names.proofs.judge_names.Statement.{statement}
+use Rattle.hello_names.proofs.judge_names.Tie as tie
 
 known-version-requires : tie.Need-known-version-requires
 known-version-requires c κs = search judging-names

@@ -1,7 +1,7 @@
 use Rattle.handshake.proofs.Judging.{versions}
 use borrow.Author.Needs.{needs}
-use Rattle.hello_reading.proofs.known_version.Statement.{statement}
-use Rattle.hello_reading.proofs.known_version.Tie as tie
+use Rattle.hello_names.proofs.known_version.Statement.{statement}
+use Rattle.hello_names.proofs.known_version.Tie as tie
 
 slice-aggregate-same : tie.Need-slice-aggregate-same
 slice-aggregate-same c = search versions

@@ -1,8 +1,8 @@
 use Prim.Native.Nat.{_-_}
 use lib.ListN.{length}
 use Rattle.handshake.proofs.Scans.{walking, Walking}
-use Rattle.hello_reading.proofs.line_end.Statement.{statement}
-use Rattle.hello_reading.proofs.line_end.Tie as tie
+use Rattle.hello_lines.proofs.line_end.Statement.{statement}
+use Rattle.hello_lines.proofs.line_end.Tie as tie
 
 abbrev Inv-loop : tie.InvT-loop
 Inv-loop s at left₀ i₀ left i = Walking s at left i
