@@ -11,9 +11,9 @@ use Rattle.store.proofs.Typed.{store-shape}
 use Rattle.session.proofs.Typed.{session-shape}
 use Rattle.receiver.specs.Model.{isByte}
 use Rattle.receiver.specs.Promise.{Shaped}
-use Rattle.reading.proofs.Receiving.{prefix-fits, prefix-long, stays-step, stays-room, waits-step, waits-room, reply-short, answers-step, answers-room}
-use Rattle.reading.proofs.receive.Statement.{statement}
-use Rattle.reading.proofs.receive.Tie as tie
+use Rattle.receiving.proofs.Receiving.{prefix-fits, prefix-long, stays-step, stays-room, waits-step, waits-room, answers-step, answers-room}
+use Rattle.receiving.proofs.receive.Statement.{statement}
+use Rattle.receiving.proofs.receive.Tie as tie
 
 shaped : (a : tie.Start) → Shaped (a .args .session) (a .args .store)
 shaped a = record { session = session-shape (a .args .session) _ (a .good .0); store = store-shape (a .args .store) _ (a .good .1 .0) }
@@ -50,11 +50,7 @@ slice-aggregate-answer c =
     sym (prefix-long _ _ _ _ (k .take-piece .ensures) (a .pre .0) (a .pre .1) (shaped a) (bytes (k .before .before)))
 
 answer-requires : tie.Need-answer-requires
-answer-requires c κs =
-    let b = c .before .before in
-    let k = b .before .before .before .before in
-    let a = k .before .before .before in
-    (reply-short _ _ _ _ (k .take-piece .ensures) (a .pre .0) (a .pre .1) (shaped a) (bytes (k .before .before)) (b .before .before .before .if1 .left) (b .if2 .taken), a .pre .2)
+answer-requires c κs = search needs
 
 same-length : tie.Need-same-length
 same-length c = search needs
@@ -70,7 +66,7 @@ returns-2 c =
     let n = e .if1 .left in
     let z = b .if2 .taken in (
       answers-step _ _ _ _ x (a .pre .0) (a .pre .1) (shaped a) (bytes (k .before .before)) n z _ (w .answer .ensures .0),
-      answers-room _ _ _ _ x (a .pre .0) (a .pre .1) (shaped a) (bytes (k .before .before)) n z _ _ (w .answer .ensures .1),
+      answers-room _ _ _ _ x (a .pre .0) (a .pre .1) (shaped a) (bytes (k .before .before)) n z _ _ (a .pre .2) (w .answer .ensures .1),
     )
 
 array-share-prefix-bytes-2 : tie.Need-array-share-prefix-bytes-2

@@ -9,9 +9,9 @@ use Rattle.session.proofs.Basics.{told-not-true, told-not-false}
 use Rattle.session.proofs.Typed.{session-shape}
 use Rattle.receiver.specs.Model.{isByte}
 use Rattle.receiver.specs.Promise.{Shaped}
-use Rattle.reading.proofs.Promising.{short-promise, unsound-promise, closed-promise, open-promise, is-closed, is-open}
-use Rattle.reading.proofs.read.Statement.{statement}
-use Rattle.reading.proofs.read.Tie as tie
+use Rattle.receiving.proofs.Promising.{short-promise, unsound-promise, closed-promise, open-promise, is-closed, is-open}
+use Rattle.receiving.proofs.read.Statement.{statement}
+use Rattle.receiving.proofs.read.Tie as tie
 
 shaped : (a : tie.Start) → Shaped (a .args .session) (a .args .store)
 shaped a = record { session = session-shape (a .args .session) _ (a .good .0); store = store-shape (a .args .store) _ (a .good .1 .0) }

@@ -1,6 +1,6 @@
-use Rattle.reading.proofs.Reading.{making}
-use Rattle.reading.proofs.wait.Statement.{statement}
-use Rattle.reading.proofs.wait.Tie as tie
+use Rattle.steps.proofs.Making.{making}
+use Rattle.steps.proofs.wait.Statement.{statement}
+use Rattle.steps.proofs.wait.Tie as tie
 
 record-with-requires : tie.Need-record-with-requires
 record-with-requires c κs = search making

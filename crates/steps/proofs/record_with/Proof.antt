@@ -1,6 +1,6 @@
-use Rattle.reading.proofs.Reading.{making}
-use Rattle.reading.proofs.record_with.Statement.{statement}
-use Rattle.reading.proofs.record_with.Tie as tie
+use Rattle.steps.proofs.Making.{making}
+use Rattle.steps.proofs.record_with.Statement.{statement}
+use Rattle.steps.proofs.record_with.Tie as tie
 
 slice-aggregate-pad : tie.Need-slice-aggregate-pad
 slice-aggregate-pad c = search making

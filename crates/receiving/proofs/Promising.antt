@@ -15,11 +15,12 @@ use Rattle.session.specs.declared.Answer.the-variants as answer
 use Rattle.session.specs.Session.{isClosed}
 use Rattle.soundness.specs.Sound.{sound}
 use Rattle.streams.specs.Calls.{Call, stay, scan}
-use Rattle.reading.specs.declared.Step.{Step}
+use Rattle.steps.specs.declared.Step.{Step}
 use Rattle.receiver.specs.Model.{State, heldBy, isByte, peers}
 use Rattle.receiver.specs.Promise.{Made, Shaped, ReadPromise, callOf, outcomeOf, sessionOf}
 use Rattle.receiver.proofs.CallCases.{call-short, call-unsound, call-closed, call-open}
-use Rattle.reading.specs.Steps.{stays, stepOf}
+use Rattle.steps.specs.Steps.{stays}
+use Rattle.receiving.specs.Steps.{stepOf}
 
 abbrev made : List ℕ → List ℕ → Step → List ℕ → Made
 made piece room r final = record { piece = piece; room = room; outcome = r .outcome; session = r .session; store = r .store; final = final }

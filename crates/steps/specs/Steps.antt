@@ -1,22 +1,19 @@
--- What the code returns by value, for the byte model's call and for each way that a call ends.
+-- What the code returns by value, for each way that a call ends, and the reply in the room.
 use Prim.Native.Nat.{ℕ}
 use mathlib.Core.List.{List, []}
-use lib.ListN.{length}
+use mathlib.Core.Bool.{cond}
+use lib.Dec.{ltb}
+use lib.ListN.{length, take}
+use Rattle.wire.specs.Room.{putRoom}
 use Rattle.store.specs.declared.Store.{Store}
 use Rattle.session.specs.declared.Connection.{Connection}
 use Rattle.session.specs.declared.Session.{Session}
 use Rattle.session.specs.declared.Answer.{Answer}
 use Rattle.session.specs.declared.Answer.the-variants as answer
+use Rattle.session.specs.declared.Reply.{Reply}
 use Rattle.session.specs.Session.{holding}
 use Rattle.message.specs.Effects.{Effect}
-use Rattle.streams.specs.Calls.{Call}
-use Rattle.reading.specs.declared.Step.{Step}
-use Rattle.receiver.specs.Model.{State}
-use Rattle.receiver.specs.Promise.{outcomeOf, sessionOf}
-
--- outcome, record and store of the model's call
-unfoldable pub stepOf : Session → Call State Answer → Step
-stepOf s c = record { outcome = outcomeOf c; session = sessionOf s c; store = c .state .store }
+use Rattle.steps.specs.declared.Step.{Step}
 
 -- nothing is taken
 unfoldable pub stays : Session → Store → Answer → Step
@@ -33,3 +30,7 @@ answers count e = record {
   session = holding (e .connection) [];
   store = e .store;
 }
+
+-- the room with a reply at its front; a reply of more than the twelve bytes of its array, or than the room has, is not put
+unfoldable pub replied : Reply → List ℕ → List ℕ
+replied k room = cond (ltb 12 (k .len)) room (putRoom room 0 (take (k .len) (k .bytes)))

@@ -18,6 +18,7 @@ use Rattle.session.specs.declared.Connection.{Connection}
 use Rattle.session.specs.declared.Session.{Session}
 use Rattle.session.specs.declared.Answer.{Answer}
 use Rattle.session.specs.declared.Answer.the-variants as answer
+use Rattle.session.specs.Answers.{replyOf}
 use Rattle.session.specs.Session.{unfinished, isClosed, holding}
 use Rattle.session.proofs.Basics.{told}
 use Rattle.soundness.specs.Sound.{sound}
@@ -31,12 +32,14 @@ use Rattle.streams.specs.Model.{Fed, quiet, answered, stateOf}
 use Rattle.streams.specs.Calls.{Call, scan}
 use Rattle.streams.proofs.Basics.{by-fed}
 use Rattle.streams.proofs.OneCall.{scan-nil, scan-quiet, scan-answered}
-use Rattle.reading.specs.declared.Step.{Step}
+use Rattle.steps.specs.declared.Step.{Step}
 use Rattle.receiver.specs.Model.{State, heldBy, feed, isByte, peers}
 use Rattle.receiver.specs.Good.{Good}
 use Rattle.receiver.specs.Promise.{Shaped, outcomeOf, sessionOf}
 use Rattle.receiver.specs.Parts.{judgedCall, partCall}
-use Rattle.reading.specs.Steps.{stays, waits, answers, stepOf}
+use Rattle.steps.proofs.Making.{replied-front}
+use Rattle.steps.specs.Steps.{stays, waits, answers, replied}
+use Rattle.receiving.specs.Steps.{stepOf}
 use Rattle.receiver.proofs.Piece.{judged-as, judged-settled, scan-takes, waited-call, settled-call}
 use Rattle.receiver.proofs.Chained.{good-held}
 use Rattle.receiver.proofs.Held.{session-fits, state-fits}
@@ -180,7 +183,7 @@ module _ (s : Session) (t : Store) (piece : List ℕ) (x : Taken) (p : x ≡ tak
       reply-is =
           ap (λ (k : Call State Answer). k .reply) is-part ∙ settled-reply s t part (ends-settled .0) (sym ended-is ∙ z) (ends-settled .1)
 
-      pub reply-short : length (effectOf (s .connection) t (judge (s .connection) t (take (x .len) (x .bytes))) .reply) ≤ 12
+      reply-short : length (effectOf (s .connection) t (judge (s .connection) t (take (x .len) (x .bytes))) .reply) ≤ 12
       reply-short = rw (effect-is, ← reply-is) (scan-short (heldBy s t) piece (good-held s t sh f) by)
 
       pub answers-step : (r : Step) → r ≡ answers (x .count) (effectOf (s .connection) t (judge (s .connection) t (take (x .len) (x .bytes)))) → r ≡ stepOf s model
@@ -190,9 +193,12 @@ module _ (s : Session) (t : Store) (piece : List ℕ) (x : Taken) (p : x ≡ tak
           ∙ (ap (λ (k : ℕ). answers k (ends-settled .0)) count-is
           ∙ (settled-step s t part (ends-settled .0) (sym ended-is ∙ z) (ends-settled .1) some-taken ∙ ap (stepOf s) (sym is-part))))
 
-      pub answers-room : (room final : List ℕ) → final ≡ front (effectOf (s .connection) t (judge (s .connection) t (take (x .len) (x .bytes))) .reply) room
-          → final ≡ front (model .reply) room
-      answers-room room final q = q ∙ ap (λ (l : List ℕ). front l room) (ap (λ (e : Effect). e .reply) effect-is ∙ sym reply-is)
+      pub answers-room : (room final : List ℕ) → 12 ≤ length room
+          → final ≡ replied (replyOf (effectOf (s .connection) t (judge (s .connection) t (take (x .len) (x .bytes))) .reply)) room → final ≡ front (model .reply) room
+      answers-room room final h q =
+          q
+          ∙ (replied-front (effectOf (s .connection) t (judge (s .connection) t (take (x .len) (x .bytes))) .reply) room reply-short h
+          ∙ ap (λ (l : List ℕ). front l room) (ap (λ (e : Effect). e .reply) effect-is ∙ sym reply-is))
 
     pub waits-room : (room : List ℕ) → x .ended ≡ false → room ≡ front (model .reply) room
     waits-room room z =
