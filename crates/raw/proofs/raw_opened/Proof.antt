@@ -1,7 +1,7 @@
-use Rattle.peers.specs.Raw.{rawOpened}
+use Rattle.raw.specs.Raw.{rawOpened}
 use borrow.Author.Needs.{needs}
-use Rattle.peers.proofs.raw_opened.Statement.{statement}
-use Rattle.peers.proofs.raw_opened.Tie as tie
+use Rattle.raw.proofs.raw_opened.Statement.{statement}
+use Rattle.raw.proofs.raw_opened.Tie as tie
 
 raw-outcome-requires : tie.Need-raw-outcome-requires
 raw-outcome-requires c κs = search needs

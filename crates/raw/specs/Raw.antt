@@ -4,8 +4,8 @@ use Rattle.lists.specs.Lists.{padTo}
 use Rattle.session.specs.declared.Outcome.{Outcome}
 use Rattle.session.specs.Answers.{answerNumber, answerValues}
 use Rattle.opening.specs.declared.Opened.{Opened}
-use Rattle.peers.specs.declared.RawOutcome.{RawOutcome}
-use Rattle.peers.specs.declared.RawOpened.{RawOpened}
+use Rattle.raw.specs.declared.RawOutcome.{RawOutcome}
+use Rattle.raw.specs.declared.RawOpened.{RawOpened}
 
 -- "It returns the bytes taken, the reply's length and the answer"; "a definition gives this paper's number and values for each of the
 -- enum's cases. The promises use that definition." The values stand at the front of four, zeros after them.

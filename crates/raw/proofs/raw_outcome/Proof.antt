@@ -1,8 +1,8 @@
 use Rattle.session.specs.Answers.{valuesOf}
-use Rattle.peers.specs.Raw.{rawOutcome}
+use Rattle.raw.specs.Raw.{rawOutcome}
 use borrow.Author.Needs.{needs}
-use Rattle.peers.proofs.raw_outcome.Statement.{statement}
-use Rattle.peers.proofs.raw_outcome.Tie as tie
+use Rattle.raw.proofs.raw_outcome.Statement.{statement}
+use Rattle.raw.proofs.raw_outcome.Tie as tie
 
 answer-number-requires : tie.Need-answer-number-requires
 answer-number-requires c κs = search needs

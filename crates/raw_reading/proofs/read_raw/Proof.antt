@@ -1,6 +1,6 @@
 use borrow.Author.Needs.{needs}
-use Rattle.peers.proofs.read_raw.Statement.{statement}
-use Rattle.peers.proofs.read_raw.Tie as tie
+use Rattle.raw_reading.proofs.read_raw.Statement.{statement}
+use Rattle.raw_reading.proofs.read_raw.Tie as tie
 
 read-requires : tie.Need-read-requires
 read-requires c κs = search needs

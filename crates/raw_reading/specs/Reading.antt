@@ -6,8 +6,8 @@ use Rattle.store.specs.declared.Store.{Store}
 use Rattle.session.specs.declared.Session.{Session}
 use Rattle.session.specs.declared.Outcome.{Outcome}
 use Rattle.receiver.specs.Promise.{Made, ReadPromise}
-use Rattle.peers.specs.declared.RawOutcome.{RawOutcome}
-use Rattle.peers.specs.Raw.{rawOutcome}
+use Rattle.raw.specs.declared.RawOutcome.{RawOutcome}
+use Rattle.raw.specs.Raw.{rawOutcome}
 
 -- one call: its piece, its reply room, the numbers that it returned, and record, store and room afterwards
 pub record RawMade : Type 0 where
