@@ -1,5 +1,6 @@
 // Byte strings and places in a list: what the layers above share.
 ghost use mathlib.Core.Path.{_≡_};
+ghost use Prim.Native.Nat.{min};
 ghost use lib.ListN.{length, getD};
 ghost use Rattle.lists.specs.Lists.{every, eqBytes, padTo, isZero};
 
@@ -7,6 +8,13 @@ ghost use Rattle.lists.specs.Lists.{every, eqBytes, padTo, isZero};
 pub enum Found {
     At(usize),
     Nothing,
+}
+
+// The smaller of a length and the most that is allowed.
+pub fn shorter(n: usize, most: usize) -> usize
+    ensures { λ r. ⌜ r ≡ min n most ⌝ }
+{
+    if n < most { n } else { most }
 }
 
 // Whether two byte strings are equal.

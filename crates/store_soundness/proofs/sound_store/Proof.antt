@@ -1,4 +1,5 @@
-use Rattle.store_soundness.proofs.Marking.{whole-store, told-apart}
+use Rattle.store_soundness.proofs.Scanning.{whole-store}
+use Rattle.entry_marks.proofs.Marking.{told-apart}
 use Rattle.store.proofs.Tested.{tests-store}
 use Rattle.lists.proofs.Cases.{all-next, all-last}
 use borrow.Author.Tests.{not-false}

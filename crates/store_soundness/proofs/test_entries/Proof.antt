@@ -1,6 +1,6 @@
 use mathlib.Core.Logic.{⊎-elim}
 use Prim.Native.Nat.{_-_}
-use Rattle.store_soundness.proofs.Marking.{scanning, Scan, scan-held, scan-free}
+use Rattle.store_soundness.proofs.Scanning.{scanning, Scan, scan-held, scan-free}
 use Rattle.store_soundness.proofs.test_entries.Statement.{statement}
 use Rattle.store_soundness.proofs.test_entries.Tie as tie
 

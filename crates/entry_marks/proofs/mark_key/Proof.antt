@@ -1,7 +1,7 @@
-use Rattle.store_soundness.proofs.Marking.{key-marking}
+use Rattle.entry_marks.proofs.Marking.{key-marking}
 use borrow.Author.Needs.{needs}
-use Rattle.store_soundness.proofs.mark_key.Statement.{statement}
-use Rattle.store_soundness.proofs.mark_key.Tie as tie
+use Rattle.entry_marks.proofs.mark_key.Statement.{statement}
+use Rattle.entry_marks.proofs.mark_key.Tie as tie
 
 mark-words-requires : tie.Need-mark-words-requires
 mark-words-requires c κs = search key-marking

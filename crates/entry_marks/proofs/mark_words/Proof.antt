@@ -1,7 +1,7 @@
 use Prim.Native.Nat.{_-_}
-use Rattle.store_soundness.proofs.Marking.{wording, Words}
-use Rattle.store_soundness.proofs.mark_words.Statement.{statement}
-use Rattle.store_soundness.proofs.mark_words.Tie as tie
+use Rattle.entry_marks.proofs.Marking.{wording, Words}
+use Rattle.entry_marks.proofs.mark_words.Statement.{statement}
+use Rattle.entry_marks.proofs.mark_words.Tie as tie
 
 abbrev Inv-loop : tie.InvT-loop
 Inv-loop start words key mark₀ k₀ mark k = Words words start key mark k

@@ -1,7 +1,7 @@
-use Rattle.store_soundness.proofs.Marking.{wording}
+use Rattle.entry_marks.proofs.Marking.{wording}
 use borrow.Author.Needs.{needs}
-use Rattle.store_soundness.proofs.word_at.Statement.{statement}
-use Rattle.store_soundness.proofs.word_at.Tie as tie
+use Rattle.entry_marks.proofs.word_at.Statement.{statement}
+use Rattle.entry_marks.proofs.word_at.Tie as tie
 
 shared-slice-read-wide : tie.Need-shared-slice-read-wide
 shared-slice-read-wide c = search wording

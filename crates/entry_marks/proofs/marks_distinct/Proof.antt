@@ -1,10 +1,10 @@
 use mathlib.Core.Logic.{⊎-elim}
 use Prim.Native.Nat.{_-_}
 use Rattle.lists.proofs.Twins.{Outer}
-use Rattle.store_soundness.specs.Marks.{sameMark}
-use Rattle.store_soundness.proofs.Marking.{pairs, pair-free, pair-apart}
-use Rattle.store_soundness.proofs.marks_distinct.Statement.{statement}
-use Rattle.store_soundness.proofs.marks_distinct.Tie as tie
+use Rattle.entry_marks.specs.Marks.{sameMark}
+use Rattle.entry_marks.proofs.Marking.{pairs, pair-free, pair-apart}
+use Rattle.entry_marks.proofs.marks_distinct.Statement.{statement}
+use Rattle.entry_marks.proofs.marks_distinct.Tie as tie
 
 abbrev Inv-loop : tie.InvT-loop
 Inv-loop marks i₀ i = Outer sameMark marks 128 i

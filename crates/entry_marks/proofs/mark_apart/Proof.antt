@@ -2,10 +2,10 @@ use mathlib.Core.Logic.{⊎-elim}
 use Prim.Native.Nat.{_-_}
 use lib.ListN.{length}
 use Rattle.lists.proofs.Passing.{passing, Passing, pass-good, pass-bad}
-use Rattle.store_soundness.specs.Marks.{otherMark}
-use Rattle.store_soundness.proofs.Marking.{mark-same, mark-other}
-use Rattle.store_soundness.proofs.mark_apart.Statement.{statement}
-use Rattle.store_soundness.proofs.mark_apart.Tie as tie
+use Rattle.entry_marks.specs.Marks.{otherMark}
+use Rattle.entry_marks.proofs.Marking.{mark-same, mark-other}
+use Rattle.entry_marks.proofs.mark_apart.Statement.{statement}
+use Rattle.entry_marks.proofs.mark_apart.Tie as tie
 
 abbrev Inv-loop : tie.InvT-loop
 Inv-loop marks mark apart₀ i₀ apart i = Passing (otherMark mark) marks (length marks) apart i

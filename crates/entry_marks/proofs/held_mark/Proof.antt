@@ -1,7 +1,7 @@
-use Rattle.store_soundness.proofs.Marking.{entry-marks}
+use Rattle.entry_marks.proofs.Marking.{entry-marks}
 use borrow.Author.Needs.{needs}
-use Rattle.store_soundness.proofs.held_mark.Statement.{statement}
-use Rattle.store_soundness.proofs.held_mark.Tie as tie
+use Rattle.entry_marks.proofs.held_mark.Statement.{statement}
+use Rattle.entry_marks.proofs.held_mark.Tie as tie
 
 shorter-requires : tie.Need-shorter-requires
 shorter-requires c κs = search entry-marks

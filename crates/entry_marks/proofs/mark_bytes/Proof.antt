@@ -1,8 +1,8 @@
 use Prim.Native.Nat.{_-_}
 use lib.ListN.{length}
-use Rattle.store_soundness.proofs.Marking.{marking, Marking}
-use Rattle.store_soundness.proofs.mark_bytes.Statement.{statement}
-use Rattle.store_soundness.proofs.mark_bytes.Tie as tie
+use Rattle.entry_marks.proofs.Marking.{marking, Marking}
+use Rattle.entry_marks.proofs.mark_bytes.Statement.{statement}
+use Rattle.entry_marks.proofs.mark_bytes.Tie as tie
 
 abbrev Inv-loop : tie.InvT-loop
 Inv-loop start bytes mark₀ i₀ mark i = Marking start bytes mark i
