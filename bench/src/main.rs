@@ -131,6 +131,13 @@ fn shares() {
         assert!(plain::is_sound(black_box(&own.session), &own.store));
     });
     println!("{:<44} {sound:>9.0}", "plain: the test of soundness alone");
+    let pairs = alone(ROUNDS, 400, || {
+        assert!(plain::pairs_are_distinct(black_box(&own.store.entries)));
+    });
+    println!(
+        "{:<44} {pairs:>9.0}",
+        "plain: all pairs of keys compared instead"
+    );
     let received = alone(ROUNDS, 400, || {
         black_box(plain::receive(
             &mut own.session,

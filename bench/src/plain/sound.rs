@@ -3,7 +3,9 @@
 use super::frame::{self, Frame};
 use super::handshake::{hello_waits, is_name};
 use super::message::{has, is_wide, key_length_fits, SLOT_TYPES};
-use crate::layout::{Binding, Connection, Entry, Session, Store, Table, TABLES, UNFINISHED_MAX};
+use crate::layout::{
+    Binding, Connection, Entry, Session, Store, Table, ENTRIES, TABLES, UNFINISHED_MAX,
+};
 
 /// Whether record and store are what the rules allow together.
 pub fn is_sound(session: &Session, store: &Store) -> bool {
@@ -64,8 +66,29 @@ fn entry_fits(table: &Table, entry: &Entry) -> bool {
         && entry.values.iter().zip(&SLOT_TYPES).all(slot_fits)
 }
 
-/// Key bytes past the length are zero, so whole arrays are compared.
+/// Keys with different marks are different; only where two marks are equal the keys themselves are compared.
 fn keys_are_distinct(entries: &[Entry]) -> bool {
+    let mut marks = [0; ENTRIES];
+    let held = entries.iter().filter(|e| e.held == 1);
+    let count = held.zip(&mut marks).map(|(e, m)| *m = mark(e)).count();
+    let marks = &marks[..count];
+    let twin =
+        |(at, mark): (usize, &u32)| marks[at + 1..].iter().fold(false, |t, m| t | (m == mark));
+    !marks.iter().enumerate().any(twin) || pairs_are_distinct(entries)
+}
+
+/// A number for a table and key, modulo a prime: four bytes at a time, as the library takes them.
+fn mark(entry: &Entry) -> u32 {
+    const PRIME: u64 = 2_147_483_647;
+    let words = entry.key[..entry.key_len].chunks_exact(4);
+    let last = words.remainder().iter().map(|&b| u64::from(b));
+    let words = words.map(|w| u64::from(u32::from_le_bytes([w[0], w[1], w[2], w[3]])));
+    let mix = |mark, n| (mark * 65599 + n) % PRIME;
+    words.chain(last).fold(entry.table as u64 % PRIME, mix) as u32
+}
+
+/// The same by comparing all pairs. Key bytes past the length are zero, so whole arrays are compared.
+pub fn pairs_are_distinct(entries: &[Entry]) -> bool {
     let same = |a: &Entry, b: &Entry| {
         b.held == 1 && a.table == b.table && a.key_len == b.key_len && a.key == b.key
     };
