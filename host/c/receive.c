@@ -23,6 +23,7 @@ int main(void) {
             at += outcome.taken;
             /* a host sends the first outcome.reply_len bytes of the room to the peer here */
             if (outcome.number < PEERS_MORE) printf("refused with %u\n", (unsigned)outcome.number);
+            if (outcome.taken == 0) return 1; /* offered again, the bytes would be refused again */
         }
     }
     for (size_t i = 0; i < PEERS_ENTRIES; i++)

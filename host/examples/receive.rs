@@ -20,6 +20,9 @@ fn main() -> Result<(), Box<dyn std::error::Error>> {
             // a host sends step.reply to the peer here
             if let Answer::Refused(refusal) = step.answer {
                 println!("{refusal}");
+                if step.taken == 0 {
+                    return Err(refusal.into()); // offered again, the bytes would be refused again
+                }
             }
         }
     }

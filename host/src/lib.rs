@@ -9,6 +9,7 @@
 //! let mut room = [0; peers::READING_ROOM];
 //! while !rest.is_empty() && session.closed_with().is_none() {
 //!     let step = session.read(&mut store, rest, &mut room);
+//!     if step.taken == 0 { break } // refused with 1, 2 or 4: offered again, the bytes would be refused again
 //!     socket.write_all(step.reply)?;
 //!     rest = &rest[step.taken..];
 //! }
