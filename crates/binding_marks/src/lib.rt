@@ -1,4 +1,6 @@
 // The marks of bound IDs and previous IDs, and the places that they may stand at.
+use marks::is_unmarked;
+use marks::marks_ok;
 use session::Binding;
 use store::TABLES;
 use store::Table;
@@ -7,15 +9,6 @@ ghost use mathlib.Core.Bool.{_||_};
 ghost use lib.Dec.{eqb};
 ghost use Rattle.lists.specs.Lists.{every};
 ghost use Rattle.soundness.specs.Sound.{marksOk, unmarked, placesOk};
-
-fn marks_ok(b: Binding) -> bool
-    ensures { λ r. ⌜ r ≡ marksOk b ⌝ }
-{
-    if 1 < b.bound {
-        return false;
-    }
-    b.updated <= 1
-}
 
 pub fn all_marks_ok(bindings: [Binding; TABLES]) -> bool
     ensures { λ r. ⌜ r ≡ every marksOk bindings ⌝ }
@@ -29,15 +22,6 @@ pub fn all_marks_ok(bindings: [Binding; TABLES]) -> bool
         i += 1;
     }
     true
-}
-
-fn is_unmarked(b: Binding) -> bool
-    ensures { λ r. ⌜ r ≡ unmarked b ⌝ }
-{
-    if b.bound == 1 {
-        return false;
-    }
-    b.updated != 1
 }
 
 // Whether a place may have these marks, where its table has this `held` mark.

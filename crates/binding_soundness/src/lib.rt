@@ -2,6 +2,7 @@
 use binding_marks::all_marks_ok;
 use binding_marks::places_ok;
 use bindings::bound_to;
+use current_soundness::current_ok;
 use session::Binding;
 use session::Connection;
 use store::TABLES;
@@ -11,7 +12,7 @@ ghost use Prim.Native.Nat.{_≤_};
 ghost use lib.ListN.{drop};
 ghost use Rattle.lists.specs.Lists.{allOf, every, distinct};
 ghost use Rattle.store.specs.Limits.{tablePlaces};
-ghost use Rattle.soundness.specs.Sound.{sameId, otherId, currentOk, bindingTests};
+ghost use Rattle.soundness.specs.Sound.{sameId, otherId, bindingTests};
 
 fn same_id(a: Binding, b: Binding) -> bool
     ensures { λ r. ⌜ r ≡ sameId a b ⌝ }
@@ -50,26 +51,6 @@ fn ids_apart(bindings: [Binding; TABLES]) -> bool
         i += 1;
     }
     true
-}
-
-fn current_ok(tables: [Table; TABLES], c: Connection) -> bool
-    ensures { λ r. ⌜ r ≡ currentOk tables c ⌝ }
-{
-    let mark = c.current;
-    if mark == 0 {
-        return true;
-    }
-    if TABLES < mark {
-        return false;
-    }
-    let place = mark - 1;
-    let t = tables[place];
-    if t.held != 1 {
-        return false;
-    }
-    let bindings = c.bindings;
-    let b = bindings[place];
-    b.bound == 1
 }
 
 // Marks, places, IDs bound twice and the current table.

@@ -3,7 +3,6 @@
 // lines afterwards.
 use answer_lines::put_answer;
 use libc::STDOUT_FILENO;
-use listing::put_reply;
 use opening::OPENING_ROOM;
 use opening::Opened;
 use opening::open_answerer;
@@ -11,6 +10,7 @@ use opening::open_caller;
 use reading::REPLY_ROOM;
 use reading::read;
 use record_lines::put_record;
+use reply_lines::put_reply;
 use session::Answer;
 use session::Session;
 use store::Store;

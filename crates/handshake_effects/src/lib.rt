@@ -1,8 +1,8 @@
 // What the bytes of a hello and of a status come to.
 use handshake::Hello;
 use handshake::Status;
+use hello_effects::accepted_hello;
 use message::Settled;
-use replies::hello_reply;
 use replies::no_reply;
 use session::Answer;
 use session::Connection;
@@ -12,7 +12,7 @@ use store::Store;
 use waiting::hello_of;
 ghost use mathlib.Core.Path.{_≡_};
 ghost use mathlib.Core.List.{[]};
-ghost use Rattle.handshake.specs.Handshake.{judgeHello, judgeStatus, helloReply};
+ghost use Rattle.handshake.specs.Handshake.{judgeHello, judgeStatus};
 ghost use Rattle.session.specs.Session.{localName, remoteName, establish};
 ghost use Rattle.message.specs.Effects.{note};
 ghost use Rattle.message.specs.Settled.{settledOf};
@@ -26,19 +26,6 @@ pub fn more(connection: Connection, store: Store) -> Settled
         answer: Answer::More,
         reply,
         connection,
-        store,
-    }
-}
-
-fn accepted_hello(connection: Connection, store: Store, process: u32, relative: u32) -> Settled
-    ensures { λ r. ⌜ r ≡ settledOf (note (establish connection) store (Answer.Hello process relative) (helloReply (Hello.Accepted process relative))) ⌝ }
-{
-    let established = establish_connection(connection);
-    let reply = hello_reply(Hello::Accepted { process, relative });
-    Settled {
-        answer: Answer::Hello { process, relative },
-        reply,
-        connection: established,
         store,
     }
 }

@@ -1,70 +1,15 @@
 // Judging the unfinished bytes of a hello.
-ghost use mathlib.Core.Path.{_≡_};
-ghost use mathlib.Core.List.{_∷_, []};
-ghost use Rattle.handshake.specs.Bytes.{oneOf};
-ghost use Rattle.handshake.specs.Handshake.{version20, version21, lineAt, judgeNames, judgeNumbers, judgeThird, judgeLines, judgeHello};
 use handshake::Hello;
 use handshake::Line;
 use handshake::Number;
 use handshake::Part;
+use hello_lines::line_end;
+use hello_names::judge_names;
 use lists::same;
 use sender_line::first_part;
 use sender_line::read_number;
-
-// The most bytes that a line has before its LF.
-const LINE_MAX: usize = 64;
-
-// Where the line that starts at `at` ends.
-pub fn line_end(s: &[u8], at: usize) -> Line
-    ensures { λ r. ⌜ r ≡ lineAt (now (s .entry)) at ⌝ }
-{
-    let mut left: usize = LINE_MAX;
-    let mut i = at;
-    while i < s.len() {
-        let b = s[i];
-        if b == b'\n' {
-            return Line::End(i);
-        }
-        if left == 0 {
-            return Line::TooLong;
-        }
-        left -= 1;
-        i += 1;
-    }
-    Line::Open
-}
-
-fn judge_names(
-    local: &[u8],
-    remote: &[u8],
-    version: &[u8],
-    two: &[u8],
-    name: &[u8],
-    process: u32,
-    relative: u32,
-) -> Hello
-    ensures { λ r. ⌜ r ≡ judgeNames (now (local .entry)) (now (remote .entry)) (now (version .entry)) (now (two .entry)) (now (name .entry)) process relative ⌝ }
-{
-    if !known_version(version) {
-        return Hello::Refused(11);
-    }
-    if !same(two, local) {
-        return Hello::Refused(12);
-    }
-    if !same(name, remote) {
-        return Hello::Refused(13);
-    }
-    Hello::Accepted { process, relative }
-}
-
-fn known_version(version: &[u8]) -> bool
-    ensures { λ r. ⌜ r ≡ oneOf (now (version .entry)) (version20 ∷ version21 ∷ []) ⌝ }
-{
-    if same(version, b"2.0") {
-        return true;
-    }
-    same(version, b"2.1")
-}
+ghost use mathlib.Core.Path.{_≡_};
+ghost use Rattle.handshake.specs.Handshake.{judgeNumbers, judgeThird, judgeLines, judgeHello};
 
 fn judge_numbers(
     local: &[u8],

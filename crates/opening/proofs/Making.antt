@@ -25,40 +25,6 @@ use Rattle.session.proofs.Basics.{blank, told}
 use Rattle.opening.specs.declared.Opened.{Opened}
 use Rattle.opening.specs.Opening.{Role, answerer, caller, openingReply, newConnection, opened, refusedOpening, refuseOpening, Opening, «open», openRoom, openedOf}
 
--- ---- a session
-
-pub session-made : (phase closed number : ℕ) (local remote ours theirs : List ℕ) → ours ≡ padTo 32 local → theirs ≡ padTo 32 remote
-    → _≡_ {A = Session}
-    (record {
-      connection = record {
-        phase = phase;
-        closed = closed;
-        number = number;
-        current = 0;
-        «local_len» = length local;
-        «remote_len» = length remote;
-        local = ours;
-        remote = theirs;
-        bindings = replicate 8 blank;
-      };
-      len = 0;
-      buffer = replicate 1027 0;
-    })
-    (holding (newConnection phase closed number local remote) [])
-unfolding holding newConnection noBinding
-session-made phase closed number local remote ours theirs e f = rw (e, f, pad-nil 1027)
-
--- ---- names
-
-module _ (local remote : List ℕ) where
-  pub local-bad : false ≡ nameOk local → false ≡ (nameOk local && nameOk remote)
-  local-bad e = sym (and-false _ _ (sym e))
-
-  pub remote-left : (r : Bool) → true ≡ nameOk local → r ≡ nameOk remote → r ≡ (nameOk local && nameOk remote)
-  remote-left r e f = f ∙ sym (and-true _ _ (sym e))
-
-pub ruleset naming = (needs, told, local-bad, remote-left)
-
 abbrev moreWith : Session → ℕ → Opened
 moreWith s k = record { session = s; outcome = record { taken = 0; «reply_len» = k; answer = answer.More } }
 

@@ -13,6 +13,8 @@ use Rattle.session.specs.declared.Answer.{Answer}
 use Rattle.session.specs.declared.Answer.the-variants as answer
 use Rattle.opening.specs.declared.Opened.{Opened}
 use Rattle.session.specs.Session.{holding, noBinding, awaitingHello, awaitingStatus}
+-- a connection with these names: nothing bound, no current table
+unfoldable pub use Rattle.new_sessions.specs.New.{newConnection}
 
 -- "opening asks for 101 bytes of room in either role"
 abbrev pub openingRoom : ℕ
@@ -26,20 +28,6 @@ pub data Role : Type 0 where
 abbrev pub firstPhase : Role → ℕ
 firstPhase answerer = awaitingHello
 firstPhase (caller process relative) = awaitingStatus
-
--- a connection with these names: nothing bound, no current table
-unfoldable pub newConnection : (phase closed number : ℕ) (local remote : List ℕ) → Connection
-newConnection phase closed number local remote = record {
-  phase = phase;
-  closed = closed;
-  number = number;
-  current = 0;
-  «local_len» = length local;
-  «remote_len» = length remote;
-  local = padTo peerNameMax local;
-  remote = padTo peerNameMax remote;
-  bindings = replicate tablePlaces noBinding;
-}
 
 -- a new session with our name and the accepted peer's, nothing unfinished
 unfoldable pub opened : Role → List ℕ → List ℕ → Session

@@ -1,26 +1,16 @@
 // Opening a session as answerer or caller.
-use handshake::PEER_NAME_MAX;
 use handshake::Written;
-use handshake::name_ok;
 use hello_writing::write_hello;
-use lists::pad;
+use new_sessions::names_given;
+use new_sessions::new_session;
 use session::AWAITING_HELLO;
 use session::AWAITING_STATUS;
 use session::Answer;
-use session::Binding;
-use session::Connection;
 use session::Outcome;
 use session::Session;
-use session::UNFINISHED_MAX;
-use store::TABLES;
 ghost use mathlib.Core.Path.{_≡_};
-ghost use mathlib.Core.Bool.{_&&_};
-ghost use mathlib.Core.List.{[]};
 ghost use lib.ListN.{length};
-ghost use Rattle.lists.specs.Lists.{padTo};
-ghost use Rattle.handshake.specs.Handshake.{nameOk, peerNameMax};
-ghost use Rattle.session.specs.Session.{holding};
-ghost use Rattle.opening.specs.Opening.{answerer, caller, newConnection, refuseOpening, «open», openRoom, openedOf};
+ghost use Rattle.opening.specs.Opening.{answerer, caller, refuseOpening, «open», openRoom, openedOf};
 
 // Room that opening asks for, in either role.
 pub const OPENING_ROOM: usize = 101;
@@ -29,44 +19,6 @@ pub const OPENING_ROOM: usize = 101;
 pub struct Opened {
     pub session: Session,
     pub outcome: Outcome,
-}
-
-fn name_array(name: &[u8]) -> [u8; PEER_NAME_MAX]
-    ensures { λ r. ⌜ r ≡ padTo peerNameMax (now (name .entry)) ⌝ }
-{
-    let mut bytes = [0u8; PEER_NAME_MAX];
-    pad(&mut bytes, name);
-    bytes
-}
-
-// A session with these names, nothing bound and nothing unfinished.
-fn new_session(phase: u8, closed: u8, number: u8, local: &[u8], remote: &[u8]) -> Session
-    ensures { λ r. ⌜ r ≡ holding (newConnection phase closed number (now (local .entry)) (now (remote .entry))) [] ⌝ }
-{
-    let ours = name_array(local);
-    let theirs = name_array(remote);
-    let free = Binding {
-        bound: 0,
-        updated: 0,
-        id: 0,
-        previous: 0,
-    };
-    let connection = Connection {
-        phase,
-        closed,
-        number,
-        current: 0,
-        local_len: local.len(),
-        remote_len: remote.len(),
-        local: ours,
-        remote: theirs,
-        bindings: [free; TABLES],
-    };
-    Session {
-        connection,
-        len: 0,
-        buffer: [0u8; UNFINISHED_MAX],
-    }
 }
 
 fn refused_opening(number: u8) -> Opened
@@ -80,15 +32,6 @@ fn refused_opening(number: u8) -> Opened
         answer,
     };
     Opened { session, outcome }
-}
-
-fn names_given(local: &[u8], remote: &[u8]) -> bool
-    ensures { λ r. ⌜ r ≡ (nameOk (now (local .entry)) && nameOk (now (remote .entry))) ⌝ }
-{
-    if !name_ok(local) {
-        return false;
-    }
-    name_ok(remote)
 }
 
 // What opening gives for a new session and a reply of so many bytes.

@@ -1,8 +1,8 @@
 // Lists what a peer sends: standard input is read as answerer `east`, which accepts `west`, in pieces as they come.
+use end_lines::put_end;
 use libc::STDIN_FILENO;
 use libc::STDOUT_FILENO;
 use listing::put_call;
-use listing::put_end;
 use opening::OPENING_ROOM;
 use opening::open_answerer;
 use reading::REPLY_ROOM;

@@ -8,7 +8,6 @@
 use answer_lines::put_answer;
 use libc::STDIN_FILENO;
 use libc::STDOUT_FILENO;
-use listing::put_reply;
 use opening::OPENING_ROOM;
 use opening::Opened;
 use opening::open_answerer;
@@ -16,6 +15,7 @@ use opening::open_caller;
 use reading::Step;
 use reading::read;
 use record_lines::put_record;
+use reply_lines::put_reply;
 use session::Session;
 use store::ENTRIES;
 use store::Store;
@@ -24,7 +24,7 @@ use store::Table;
 use store_lines::put_entry;
 use store_lines::put_table;
 use text::put;
-use text::put_number;
+use words::put_number;
 
 // More than the lines of one command, or of one entry, need.
 const MARGIN: usize = 4096;

@@ -1,28 +1,16 @@
 // The fields of an update, read from its body.
-ghost use mathlib.Core.Path.{_≡_};
-ghost use Rattle.body.specs.Bodies.{stringField, keyField, entryFields, updateFields, incrementalFields};
-ghost use Rattle.body.specs.Results.{partRead, updateStruct, noUpdate, updateBody};
 use body::Part;
 use body::Reading;
 use body::UpdateBody;
-use body::read_between;
 use body::read_part;
 use store::Table;
 use store::VALUES;
+use string_keys::read_string;
 use update_data::read_data;
-use wire::Field;
 use wire::Number;
-
-// The string key at `at`: its length, and its bytes.
-fn read_string(key_len: usize, body: &[u8], at: usize) -> Part
-    ensures { λ r. ⌜ partRead r ≡ stringField «key_len» (now (body .entry)) at ⌝ }
-{
-    match read_between(0, key_len as u64, body, at) {
-        Field::Value { value: len, next } => read_part(len as usize, body, next),
-        Field::Short => Part::Short,
-        Field::OutOfRange => Part::OutOfRange,
-    }
-}
+ghost use mathlib.Core.Path.{_≡_};
+ghost use Rattle.body.specs.Bodies.{keyField, entryFields, updateFields, incrementalFields};
+ghost use Rattle.body.specs.Results.{partRead, updateStruct, noUpdate, updateBody};
 
 // The key at `at`, of a table with this key type and key length.
 fn read_key(key_type: u8, key_len: usize, body: &[u8], at: usize) -> Part

@@ -1,4 +1,4 @@
-use Rattle.answer_lines.specs.Lines.{answerLine}
+use Rattle.answer_words.specs.Lines.{answerLine}
 use borrow.Author.Needs.{needs}
 use Rattle.answer_lines.proofs.put_answer.Statement.{statement}
 use Rattle.answer_lines.proofs.put_answer.Tie as tie

@@ -41,23 +41,23 @@ use denote.Triple.Table.{entered, cited}
 use denote.Triple.Walked.{says, Stays, stay-ref, stay-dropped, gave-slice, walkOf, AllGo, goes-ref, goes-dropped, goes-gave-slice, Walks, ends-at, walked, walk-meets}
 use denote.Exit.{yes}
 use denote.Signature.{Slot, plain, shrSliceOf}
-use Rattle.peers.specs.Reading.{RawPromise}
-use Rattle.peers.specs.declared.RawOutcome.{RawOutcome}
-use Rattle.peers.proofs.RawOutcome as O
-use Rattle.peers.proofs.RawOutcome.Laws as O′
+use Rattle.raw_reading.specs.Reading.{RawPromise}
+use Rattle.raw.specs.declared.RawOutcome.{RawOutcome}
+use Rattle.raw.proofs.RawOutcome as O
+use Rattle.raw.proofs.RawOutcome.Laws as O′
 use Rattle.session.specs.declared.Session.{Session}
 use Rattle.session.proofs.Session as S
 use Rattle.session.proofs.Session.Laws as S′
 use Rattle.store.specs.declared.Store.{Store}
 use Rattle.store.proofs.Store as T
 use Rattle.store.proofs.Store.Laws as T′
-use Rattle.peers.specs.declared.RawStep.{RawStep}
-use Rattle.peers.proofs.RawStep as P
-use Rattle.peers.proofs.RawStep.Laws as P′
-use Rattle.peers.proofs.read_raw as core
-use Rattle.peers.proofs.read_raw.Symbol as core-def
-use Rattle.peers.proofs.read_raw.Symbol.{name as #core}
-use Rattle.peers.proofs.read_raw.Met as core-thm
+use Rattle.raw_reading.specs.declared.RawStep.{RawStep}
+use Rattle.raw_reading.proofs.RawStep as P
+use Rattle.raw_reading.proofs.RawStep.Laws as P′
+use Rattle.raw_reading.proofs.read_raw as core
+use Rattle.raw_reading.proofs.read_raw.Symbol as core-def
+use Rattle.raw_reading.proofs.read_raw.Symbol.{name as #core}
+use Rattle.raw_reading.proofs.read_raw.Met as core-thm
 use Rattle.peers.proofs.peers_read.Key.{name as #lent}
 use Rattle.peers.proofs.peers_read as lent
 use Rattle.peers.proofs.peers_read.Statement as stated
@@ -216,4 +216,4 @@ peers-read-spec 𝓤 H 𝓜 𝓖 𝓡 =
     entered 𝓤 H (tripleOf 𝓤 H (𝓖 .A) lent.signature (lent.spec 𝓤 H (𝓖 .A) (𝓜 .mem) (𝓡 .run)))
     (tables 𝓤 H 𝓜 𝓡 code.env .C) (tables 𝓤 H 𝓜 𝓡 code.env .Λ) #lent code.function (code.unfolded 𝓤 H 𝓜 𝓡)
     (lent-meets 𝓤 H (𝓖 .A) (givenOf 𝓤 H 𝓜 𝓖) (𝓜 .mem) (𝓡 .run) (tablesOf 𝓤 H 𝓜 (tables 𝓤 H 𝓜 𝓡 code.env))
-    (cited 𝓤 H (Core 𝓤 H (𝓖 .A) (𝓜 .mem) (𝓡 .run)) 𝓜 𝓡 code.env #core core-def.routine code.calls-peers·read-raw (core-thm.met 𝓤 H 𝓜 𝓖 𝓡)))
+    (cited 𝓤 H (Core 𝓤 H (𝓖 .A) (𝓜 .mem) (𝓡 .run)) 𝓜 𝓡 code.env #core core-def.routine code.calls-raw-reading·read-raw (core-thm.met 𝓤 H 𝓜 𝓖 𝓡)))

@@ -1,4 +1,4 @@
-use Rattle.record_lines.proofs.LineLaws.{records}
+use Rattle.record_words.proofs.LineLaws.{records}
 use borrow.Author.Needs.{needs}
 use Rattle.record_lines.proofs.put_record.Statement.{statement}
 use Rattle.record_lines.proofs.put_record.Tie as tie

@@ -1,4 +1,4 @@
-use Rattle.record_lines.proofs.LineLaws.{prefixes}
+use Rattle.record_words.proofs.LineLaws.{prefixes}
 use borrow.Author.Needs.{needs}
 use Rattle.record_lines.proofs.put_unfinished.Statement.{statement}
 use Rattle.record_lines.proofs.put_unfinished.Tie as tie

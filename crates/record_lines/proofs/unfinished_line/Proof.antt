@@ -1,4 +1,4 @@
-use Rattle.record_lines.proofs.LineLaws.{currents}
+use Rattle.record_words.proofs.LineLaws.{currents}
 use borrow.Author.Needs.{needs}
 use Rattle.record_lines.proofs.unfinished_line.Statement.{statement}
 use Rattle.record_lines.proofs.unfinished_line.Tie as tie

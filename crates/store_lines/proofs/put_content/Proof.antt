@@ -1,4 +1,4 @@
-use Rattle.store_lines.proofs.LineLaws.{entry-words}
+use Rattle.store_words.proofs.LineLaws.{entry-words}
 use borrow.Author.Needs.{needs}
 use Rattle.store_lines.proofs.put_content.Statement.{statement}
 use Rattle.store_lines.proofs.put_content.Tie as tie

@@ -1,4 +1,4 @@
-use Rattle.store_lines.proofs.LineLaws.{definitions}
+use Rattle.store_words.proofs.LineLaws.{definitions}
 use borrow.Author.Needs.{needs}
 use Rattle.store_lines.proofs.put_definition.Statement.{statement}
 use Rattle.store_lines.proofs.put_definition.Tie as tie

@@ -1,4 +1,4 @@
-use Rattle.store_lines.proofs.LineLaws.{store-lines}
+use Rattle.store_words.proofs.LineLaws.{store-lines}
 use borrow.Author.Needs.{needs}
 use Rattle.store_lines.proofs.put_entry.Statement.{statement}
 use Rattle.store_lines.proofs.put_entry.Tie as tie

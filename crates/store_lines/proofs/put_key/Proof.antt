@@ -1,4 +1,4 @@
-use Rattle.store_lines.proofs.LineLaws.{prefixes}
+use Rattle.store_words.proofs.LineLaws.{prefixes}
 use borrow.Author.Needs.{needs}
 use Rattle.store_lines.proofs.put_key.Statement.{statement}
 use Rattle.store_lines.proofs.put_key.Tie as tie

@@ -1,3 +1,0 @@
-pub mod Reading
-pub mod Receiving
-pub mod Promising

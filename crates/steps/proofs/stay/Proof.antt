@@ -1,0 +1,9 @@
+use Rattle.steps.proofs.Making.{making}
+use Rattle.steps.proofs.stay.Statement.{statement}
+use Rattle.steps.proofs.stay.Tie as tie
+
+returns : tie.Need-returns
+returns c = search making
+
+pub stay-spec : {M : Type 1} → statement M
+stay-spec = tie.close (tie.spec returns)

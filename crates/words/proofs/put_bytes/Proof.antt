@@ -1,0 +1,37 @@
+use Rattle.text.proofs.Words.{bytes-or-none}
+use borrow.Author.Needs.{needs}
+use Rattle.words.proofs.put_bytes.Statement.{statement}
+use Rattle.words.proofs.put_bytes.Tie as tie
+
+slice-aggregate-put-word : tie.Need-slice-aggregate-put-word
+slice-aggregate-put-word c = search needs
+
+put-word-requires : tie.Need-put-word-requires
+put-word-requires c κs = search needs
+
+same-length : tie.Need-same-length
+same-length c = search needs
+
+returns : tie.Need-returns
+returns c = search bytes-or-none
+
+put-hex-word-requires : tie.Need-put-hex-word-requires
+put-hex-word-requires c κs = search needs
+
+same-length-2 : tie.Need-same-length-2
+same-length-2 c = search needs
+
+returns-2 : tie.Need-returns-2
+returns-2 c = search bytes-or-none
+
+pub put-bytes-spec : {M : Type 1} → statement M
+put-bytes-spec =
+    tie.close
+    (tie.spec
+    slice-aggregate-put-word
+    put-word-requires
+    same-length
+    returns
+    put-hex-word-requires
+    same-length-2
+    returns-2)
