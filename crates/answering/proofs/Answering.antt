@@ -47,5 +47,3 @@ module _ (x : Settled) (e : Effect) (p : x ≡ settledOf e) where
 
   pub answer-replied : (room final : List ℕ) → final ≡ replied (x .reply) room → final ≡ replied (replyOf (e .reply)) room
   answer-replied room final q = q ∙ ap (λ (k : Reply). replied k room) reply-is
-
-pub ruleset answering = (needs, answer-made, answer-replied)

@@ -25,5 +25,3 @@ module _ (s : Session) {room x : List ℕ} {at k : ℕ} where
       → Wrote room at (line (ascii "end") (ascii "open" ∷ decimal (s .len) ∷ [])) x k → Wrote room at (endLine s) x k
   unfolding endLine isClosed
   end-open f w = retold (sym (cond-false (eqb (s .connection .closed) 1) _ _ (ne-eqb (s .connection .closed) 1 f))) w
-
-pub ruleset ends = (needs, end-closed, end-open)

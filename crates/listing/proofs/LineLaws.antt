@@ -32,5 +32,3 @@ module _ (c : Connection) (tables : List Table) (a : Answer) (reply : List ℕ) 
   unfolding callLines
   call-lines f p q =
       retold (sym (cond-false (eqb (answerNumber a) (answerNumber answer.More)) _ _ (ne-eqb (answerNumber a) (answerNumber answer.More) (λ e. f (is ∙ e ∙ more-number))))) (joined p q)
-
-pub ruleset calls = (needs, call-more, call-lines)

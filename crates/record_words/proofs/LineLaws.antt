@@ -109,8 +109,6 @@ module _ (place : ℕ) (b : Binding) {room x y : List ℕ} {at k m : ℕ} where
   unfolding bindingLines isBound isUpdated
   binding-is p q = joined p q
 
-pub ruleset bindings-at = (needs, binding-is)
-
 bindings-snoc : (place : ℕ) (bs : List Binding) (b : Binding) → bindingsLines place (bs ++ (b ∷ [])) ≡ bindingsLines place bs ++ bindingLines (place + length bs) b
 unfolding bindingsLines
 bindings-snoc place [] b = let e : place + 0 ≡ place = omega arith in rw e (append-nil (bindingLines place b))

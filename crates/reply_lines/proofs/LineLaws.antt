@@ -25,8 +25,6 @@ module _ {room : List ℕ} {at : ℕ} where
   some-reply [] f p q r = absurd (f refl)
   some-reply (b ∷ s) f p q r = line-of (ascii "reply") p (hex (b ∷ s) ∷ []) q r
 
-pub ruleset replies = (needs, no-reply, some-reply)
-
 module _ (reply : List ℕ) (len : ℕ) {room x : List ℕ} {at k : ℕ} where
   pub whole-reply : length reply ≤ len → Wrote room at (replyLine reply) x k → Wrote room at (replyLine (take len reply)) x k
   whole-reply h w = retold (ap replyLine (sym (take-all len reply h))) w

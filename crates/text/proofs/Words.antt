@@ -133,8 +133,6 @@ module _ {room x : List ℕ} {at k : ℕ} where
   some-bytes [] f w = absurd (f refl)
   some-bytes (b ∷ s) f w = w
 
-pub ruleset bytes-or-none = (needs, no-bytes, some-bytes)
-
 -- ---- words one after the other
 pub spaced-append : (ws vs : List (List ℕ)) → spaced ws ++ spaced vs ≡ spaced (ws ++ vs)
 unfolding spaced

@@ -1,5 +1,5 @@
 use borrow.Author.Needs.{needs}
-use Rattle.answering.proofs.Answering.{answering}
+use Rattle.answering.proofs.Answering.{answer-made, answer-replied}
 use Rattle.answering.proofs.answer.Statement.{statement}
 use Rattle.answering.proofs.answer.Tie as tie
 
@@ -19,7 +19,13 @@ same-length : tie.Need-same-length
 same-length c = search needs
 
 returns : tie.Need-returns
-returns c = search answering
+returns c =
+    let r = c .before in
+    let p = r .before .before .before .before .before in
+    let s = p .before .before .before in (
+      answer-made _ _ (s .settle .ensures) _ _ (r .record-with .ensures),
+      answer-replied _ _ (s .settle .ensures) _ _ (p .put-reply .ensures),
+    )
 
 pub answer-spec : {M : Type 1} → statement M
 answer-spec =

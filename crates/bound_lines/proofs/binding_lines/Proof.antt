@@ -1,4 +1,4 @@
-use Rattle.record_words.proofs.LineLaws.{bindings-at}
+use Rattle.record_words.proofs.LineLaws.{binding-is}
 use borrow.Author.Needs.{needs}
 use Rattle.bound_lines.proofs.binding_lines.Statement.{statement}
 use Rattle.bound_lines.proofs.binding_lines.Tie as tie
@@ -19,7 +19,7 @@ same-length : tie.Need-same-length
 same-length c = search needs
 
 returns : tie.Need-returns
-returns c = search bindings-at
+returns c = binding-is _ _ (c .before .before .before .before .before .before .before .mark-line .ensures) (c .before .before .mark-line2 .ensures)
 
 pub binding-lines-spec : {M : Type 1} → statement M
 binding-lines-spec =

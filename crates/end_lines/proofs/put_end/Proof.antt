@@ -1,4 +1,4 @@
-use Rattle.end_lines.proofs.LineLaws.{ends}
+use Rattle.end_lines.proofs.LineLaws.{end-closed, end-open}
 use borrow.Author.Needs.{needs}
 use Rattle.end_lines.proofs.put_end.Statement.{statement}
 use Rattle.end_lines.proofs.put_end.Tie as tie
@@ -16,7 +16,7 @@ same-length : tie.Need-same-length
 same-length c = search needs
 
 returns : tie.Need-returns
-returns c = search ends
+returns c = end-closed _ (c .before .before .before .before .before .before .if1 .taken) (c .before .before .end-line .ensures)
 
 slice-aggregate-end-line-2 : tie.Need-slice-aggregate-end-line-2
 slice-aggregate-end-line-2 c = search needs
@@ -28,7 +28,7 @@ same-length-2 : tie.Need-same-length-2
 same-length-2 c = search needs
 
 returns-2 : tie.Need-returns-2
-returns-2 c = search ends
+returns-2 c = end-open _ (c .before .before .before .before .before .if1 .left) (c .before .before .end-line2 .ensures)
 
 pub put-end-spec : {M : Type 1} → statement M
 put-end-spec =

@@ -1,4 +1,4 @@
-use Rattle.listing.proofs.LineLaws.{calls}
+use Rattle.listing.proofs.LineLaws.{call-more, call-lines}
 use borrow.Author.Needs.{needs}
 use Rattle.listing.proofs.put_call.Statement.{statement}
 use Rattle.listing.proofs.put_call.Tie as tie
@@ -7,7 +7,7 @@ answer-number-requires : tie.Need-answer-number-requires
 answer-number-requires c κs = search needs
 
 returns : tie.Need-returns
-returns c = search calls
+returns c = call-more _ _ _ _ _ (c .before .answer-number .ensures) (c .if1 .taken)
 
 put-answer-requires : tie.Need-put-answer-requires
 put-answer-requires c κs = search needs
@@ -19,7 +19,11 @@ same-length : tie.Need-same-length
 same-length c = search needs
 
 returns-2 : tie.Need-returns-2
-returns-2 c = search calls
+returns-2 c =
+    let r = c .before .before in
+    let a = r .before .before .before .before in
+    let e = a .before .before in
+    call-lines _ _ _ _ _ (e .before .answer-number .ensures) (e .if1 .left) (a .put-answer .ensures) (r .put-reply .ensures)
 
 pub put-call-spec : {M : Type 1} → statement M
 put-call-spec =

@@ -1,10 +1,10 @@
-use Rattle.reply_lines.proofs.LineLaws.{replies}
+use Rattle.reply_lines.proofs.LineLaws.{no-reply, some-reply}
 use borrow.Author.Needs.{needs}
 use Rattle.reply_lines.proofs.reply_line.Statement.{statement}
 use Rattle.reply_lines.proofs.reply_line.Tie as tie
 
 returns : tie.Need-returns
-returns c = search replies
+returns c = no-reply _ (c .if1 .taken)
 
 slice-aggregate-put : tie.Need-slice-aggregate-put
 slice-aggregate-put c = search needs
@@ -25,7 +25,7 @@ same-length : tie.Need-same-length
 same-length c = search needs
 
 returns-2 : tie.Need-returns-2
-returns-2 c = search replies
+returns-2 c = some-reply _ (c .before .before .before .before .before .before .before .before .before .before .before .before .before .before .if1 .left) (c .before .before .before .before .before .before .before .before .before .before .before .put .ensures) (c .before .before .before .before .before .before .before .put-hex-word .ensures) (c .before .before .put2 .ensures)
 
 pub reply-line-spec : {M : Type 1} → statement M
 reply-line-spec =

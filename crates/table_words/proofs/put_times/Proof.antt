@@ -1,4 +1,4 @@
-use Rattle.store_words.proofs.LineLaws.{definitions}
+use Rattle.store_words.proofs.LineLaws.{no-times, times}
 use borrow.Author.Needs.{needs}
 use Rattle.table_words.proofs.put_times.Statement.{statement}
 use Rattle.table_words.proofs.put_times.Tie as tie
@@ -13,7 +13,7 @@ same-length : tie.Need-same-length
 same-length c = search needs
 
 returns : tie.Need-returns
-returns c = search definitions
+returns c = no-times _ (c .before .before .before .before .before .if1 .taken) (c .before .before .put-word .ensures)
 
 cast-put-number : tie.Need-cast-put-number
 cast-put-number c = search needs
@@ -28,7 +28,7 @@ same-length-2 : tie.Need-same-length-2
 same-length-2 c = search needs
 
 returns-2 : tie.Need-returns-2
-returns-2 c = search definitions
+returns-2 c = times _ (c .before .before .before .before .before .before .before .before .before .if1 .left) (c .before .before .before .before .before .before .put-number .ensures) (c .before .before .put-periods .ensures)
 
 pub put-times-spec : {M : Type 1} → statement M
 put-times-spec =

@@ -1,4 +1,4 @@
-use Rattle.store_words.proofs.LineLaws.{types-words}
+use Rattle.store_words.proofs.LineLaws.{types-words, three-words}
 use Rattle.table_words.proofs.put_types.Statement.{statement}
 use Rattle.table_words.proofs.put_types.Tie as tie
 
@@ -21,7 +21,7 @@ same-length : tie.Need-same-length
 same-length c = search types-words
 
 returns : tie.Need-returns
-returns c = search types-words
+returns c = three-words _ _ _ (c .before .before .before .before .before .before .before .before .before .before .before .put-number .ensures) (c .before .before .before .before .before .before .before .put-number2 .ensures) (c .before .before .put-number3 .ensures)
 
 pub put-types-spec : {M : Type 1} → statement M
 put-types-spec =

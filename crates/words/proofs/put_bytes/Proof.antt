@@ -1,4 +1,4 @@
-use Rattle.text.proofs.Words.{bytes-or-none}
+use Rattle.text.proofs.Words.{no-bytes, some-bytes}
 use borrow.Author.Needs.{needs}
 use Rattle.words.proofs.put_bytes.Statement.{statement}
 use Rattle.words.proofs.put_bytes.Tie as tie
@@ -13,7 +13,7 @@ same-length : tie.Need-same-length
 same-length c = search needs
 
 returns : tie.Need-returns
-returns c = search bytes-or-none
+returns c = no-bytes _ (c .before .before .before .before .before .if1 .taken) (c .before .before .put-word .ensures)
 
 put-hex-word-requires : tie.Need-put-hex-word-requires
 put-hex-word-requires c κs = search needs
@@ -22,7 +22,7 @@ same-length-2 : tie.Need-same-length-2
 same-length-2 c = search needs
 
 returns-2 : tie.Need-returns-2
-returns-2 c = search bytes-or-none
+returns-2 c = some-bytes _ (c .before .before .before .before .if1 .left) (c .before .before .put-hex-word .ensures)
 
 pub put-bytes-spec : {M : Type 1} → statement M
 put-bytes-spec =

@@ -1,4 +1,4 @@
-use Rattle.text.proofs.Words.{putting-word}
+use Rattle.text.proofs.Words.{putting-word, a-word}
 use Rattle.words.proofs.put_word.Statement.{statement}
 use Rattle.words.proofs.put_word.Tie as tie
 
@@ -15,7 +15,7 @@ same-length : tie.Need-same-length
 same-length c = search putting-word
 
 returns : tie.Need-returns
-returns c = search putting-word
+returns c = a-word _ (c .before .before .before .before .before .before .put .ensures) (c .before .before .put2 .ensures)
 
 pub put-word-spec : {M : Type 1} → statement M
 put-word-spec =
