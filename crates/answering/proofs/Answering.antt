@@ -1,20 +1,24 @@
 -- An answer with its reply: what is put into the room, and what is returned.
 use Prim.Native.Nat.{ℕ, _≤_}
 use native.Mathlib.Omega.{arith}
-use mathlib.Core.Path.{_≡_, sym, ap, _∙_}
+use mathlib.Core.Path.{_≡_, refl, sym, ap, _∙_}
 use mathlib.Core.List.{List, []}
 use lib.ListN.{length, take}
 use lib.Seq.{length-take-le}
 use borrow.Author.Needs.{needs}
+use Rattle.store.specs.declared.Store.{Store}
+use Rattle.session.specs.declared.Connection.{Connection}
 use Rattle.session.specs.declared.Session.{Session}
 use Rattle.session.specs.declared.Reply.{Reply}
 use Rattle.session.specs.Answers.{replyOf}
 use Rattle.session.specs.Session.{holding}
 use Rattle.message.specs.declared.Settled.{Settled}
+use Rattle.message.specs.declared.Asked.{Asked}
 use Rattle.message.specs.Effects.{Effect}
-use Rattle.message.specs.Settled.{settledOf}
-use Rattle.steps.specs.declared.Step.{Step}
-use Rattle.steps.specs.Steps.{answers, replied}
+use Rattle.message.specs.Settled.{Settles, AsksWith, Finishes}
+use Rattle.reassembly.specs.Judge.{judge, effectOf}
+use Rattle.settling.specs.OnStores.{judgeOn}
+use Rattle.steps.specs.Steps.{applied, answers, replied}
 use Rattle.steps.proofs.Making.{replied-long, replied-short}
 
 -- ---- the reply
@@ -29,21 +33,25 @@ pub ruleset replying = (needs, prefix-length, prefix-within, replied-long, repli
 
 -- ---- the answer
 
-module _ (x : Settled) (e : Effect) (p : x ≡ settledOf e) where
-  reply-is : x .reply ≡ replyOf (e .reply)
-  unfolding settledOf
-  reply-is = ap (λ (y : Settled). y .reply) p
+-- where a is what the bytes ask for, and x what that comes to
+module _ (c : Connection) (t : Store) (u : List ℕ) (a : Asked) (p : AsksWith c (t .tables) (judgeOn c u) a) (x : Settled)
+    (q : Finishes c (t .entries) a x) where
+  abbrev effect : Effect
+  effect = effectOf c t (judge c t u)
 
-  len-is : x .reply .len ≡ length (e .reply)
+  settles : Settles t effect x
+  unfolding judgeOn
+  settles = q .on t effect refl (p .on t refl)
+
+  len-is : x .reply .len ≡ length (effect .reply)
   unfolding replyOf
-  len-is = ap (λ (k : Reply). k .len) reply-is
+  len-is = ap (λ (k : Reply). k .len) (settles .reply)
 
   pub answer-made : (s : Session) (count : ℕ) → s ≡ holding (x .connection) []
-      → _≡_ {A = Step}
-      (record { outcome = record { taken = count; «reply_len» = x .reply .len; answer = x .answer }; session = s; store = x .store })
-      (answers count e)
-  unfolding answers settledOf
-  answer-made s count q = rw (q, len-is, p)
+      → applied t (record { outcome = record { taken = count; «reply_len» = x .reply .len; answer = x .answer }; session = s; change = x .change })
+      ≡ answers count (effectOf c t (judge c t u))
+  unfolding applied answers
+  answer-made s count e = rw (e, len-is, settles .answer, settles .connection, settles .store)
 
-  pub answer-replied : (room final : List ℕ) → final ≡ replied (x .reply) room → final ≡ replied (replyOf (e .reply)) room
-  answer-replied room final q = q ∙ ap (λ (k : Reply). replied k room) reply-is
+  pub answer-replied : (room final : List ℕ) → final ≡ replied (x .reply) room → final ≡ replied (replyOf (effectOf c t (judge c t u) .reply)) room
+  answer-replied room final e = e ∙ ap (λ (k : Reply). replied k room) (settles .reply)

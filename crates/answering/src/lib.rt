@@ -1,15 +1,16 @@
-// What a reading call by value gives back, where its bytes come to an answer.
+// What a reading call comes to, where its bytes come to an answer.
+use commits::finish;
 use session::Connection;
 use session::Outcome;
 use session::Reply;
 use settling::settle;
-use steps::Step;
+use steps::StepChange;
 use steps::record_with;
 use store::Store;
 ghost use mathlib.Core.Path.{_≡_};
 ghost use Rattle.session.specs.Answers.{replyOf};
 ghost use Rattle.reassembly.specs.Judge.{judge, effectOf};
-ghost use Rattle.steps.specs.Steps.{answers, replied};
+ghost use Rattle.steps.specs.Steps.{applied, answers, replied};
 
 // The reply goes to the front of the room, if both have room for it.
 fn put_reply(room: &mut [u8], reply: Reply)
@@ -30,11 +31,13 @@ pub fn answer(
     bytes: &[u8],
     count: usize,
     reply: &mut [u8],
-) -> Step
-    ensures result { λ r. ⌜ r ≡ answers count (effectOf connection store (judge connection store (now (bytes .entry)))) ⌝ }
+) -> StepChange
+    ensures result { λ r. ⌜ applied store r ≡ answers count (effectOf connection store (judge connection store (now (bytes .entry)))) ⌝ }
     ensures content { λ _. ⌜ now (reply .exit) ≡ replied (replyOf (effectOf connection store (judge connection store (now (bytes .entry))) .reply)) (now (reply .entry)) ⌝ }
 {
-    let settled = settle(connection, store, bytes);
+    let tables = store.tables;
+    let entries = store.entries;
+    let settled = finish(connection, entries, settle(connection, tables, bytes));
     let written = settled.reply;
     put_reply(reply, written);
     let next = settled.connection;
@@ -45,10 +48,10 @@ pub fn answer(
         reply_len: written.len,
         answer: given,
     };
-    let kept = settled.store;
-    Step {
+    let change = settled.change;
+    StepChange {
         outcome,
         session,
-        store: kept,
+        change,
     }
 }

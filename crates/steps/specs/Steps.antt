@@ -13,15 +13,21 @@ use Rattle.session.specs.declared.Answer.the-variants as answer
 use Rattle.session.specs.declared.Reply.{Reply}
 use Rattle.session.specs.Session.{holding}
 use Rattle.message.specs.Effects.{Effect}
+use Rattle.message.specs.Settled.{noChange, changed}
 use Rattle.steps.specs.declared.Step.{Step}
+use Rattle.steps.specs.declared.StepChange.{StepChange}
 
 -- nothing is taken
-unfoldable pub stays : Session → Store → Answer → Step
-stays s t a = record { outcome = record { taken = 0; «reply_len» = 0; answer = a }; session = s; store = t }
+unfoldable pub stays : Session → Answer → StepChange
+stays s a = record { outcome = record { taken = 0; «reply_len» = 0; answer = a }; session = s; change = noChange }
 
 -- the whole piece is taken, and more is wanted
-unfoldable pub waits : Connection → Store → List ℕ → ℕ → Step
-waits c t u count = record { outcome = record { taken = count; «reply_len» = 0; answer = answer.More }; session = holding c u; store = t }
+unfoldable pub waits : Connection → List ℕ → ℕ → StepChange
+waits c u count = record { outcome = record { taken = count; «reply_len» = 0; answer = answer.More }; session = holding c u; change = noChange }
+
+-- the step on a store
+unfoldable pub applied : Store → StepChange → Step
+applied t r = record { outcome = r .outcome; session = r .session; store = changed t (r .change) }
 
 -- a message's answer, after so many bytes
 unfoldable pub answers : ℕ → Effect → Step

@@ -6,6 +6,9 @@ use Rattle.answering.proofs.answer.Tie as tie
 settle-requires : tie.Need-settle-requires
 settle-requires c κs = search needs
 
+finish-requires : tie.Need-finish-requires
+finish-requires c κs = search needs
+
 put-reply-requires : tie.Need-put-reply-requires
 put-reply-requires c κs = search needs
 
@@ -22,9 +25,10 @@ returns : tie.Need-returns
 returns c =
     let r = c .before in
     let p = r .before .before .before .before .before in
-    let s = p .before .before .before in (
-      answer-made _ _ (s .settle .ensures) _ _ (r .record-with .ensures),
-      answer-replied _ _ (s .settle .ensures) _ _ (p .put-reply .ensures),
+    let f = p .before .before .before in
+    let s = f .before in (
+      answer-made _ _ _ _ (s .settle .ensures) _ (f .finish .ensures) _ _ (r .record-with .ensures),
+      answer-replied _ _ _ _ (s .settle .ensures) _ (f .finish .ensures) _ _ (p .put-reply .ensures),
     )
 
 pub answer-spec : {M : Type 1} → statement M
@@ -32,6 +36,7 @@ answer-spec =
     tie.close
     (tie.spec
     settle-requires
+    finish-requires
     put-reply-requires
     slice-aggregate-record-with
     record-with-requires
