@@ -78,7 +78,7 @@ fn keys_are_distinct(entries: &[Entry]) -> bool {
 }
 
 /// A number for a table and key, modulo a prime: four bytes at a time, as the library takes them.
-fn mark(entry: &Entry) -> u32 {
+pub fn mark(entry: &Entry) -> u32 {
     const PRIME: u64 = 2_147_483_647;
     let words = entry.key[..entry.key_len].chunks_exact(4);
     let last = words.remainder().iter().map(|&b| u64::from(b));
@@ -88,7 +88,7 @@ fn mark(entry: &Entry) -> u32 {
 }
 
 /// The same by comparing all pairs. Key bytes past the length are zero, so whole arrays are compared.
-pub fn pairs_are_distinct(entries: &[Entry]) -> bool {
+fn pairs_are_distinct(entries: &[Entry]) -> bool {
     let same = |a: &Entry, b: &Entry| {
         b.held == 1 && a.table == b.table && a.key_len == b.key_len && a.key == b.key
     };
