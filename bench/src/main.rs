@@ -2,30 +2,30 @@
 
 #![forbid(unsafe_code)]
 
-use bench::measure::{calls, clock, in_turns, times, Load};
+use bench::measure::{calls, clock, in_turns, times, Load, MESSAGES};
 use bench::receivers::{Library, Plain, Second, ROOM};
 use bench::rows::{heading, heading_of_bytes, row, row_of_bytes, row_of_ratios};
 use bench::streams::{filling, long_filling, long_updates, message, update, updates};
 use bench::{archive, shares};
 
 /// Rounds of each measurement, of which the best counts.
-const ROUNDS: usize = 15;
+const ROUNDS: usize = 100;
 
 /// Heartbeats, and updates of held keys.
 fn store_levels() {
     heading("By entries held");
-    let heartbeats = |entries| Load::new(filling(entries), vec![vec![0, 4]; 400]);
+    let heartbeats = |entries| Load::new(filling(entries), vec![vec![0, 4]; MESSAGES]);
     row("0 entries, heartbeat", times(&heartbeats(0), ROUNDS));
     for (level, entries) in [("1 entry", 1), ("64 entries", 64), ("128 entries", 128)] {
-        let single = Load::new(filling(entries), updates(400, entries));
+        let single = Load::new(filling(entries), updates(MESSAGES as u32, entries));
         let joined = Load {
-            messages: 400,
+            messages: MESSAGES,
             ..Load::new(filling(entries), vec![single.pieces.concat()])
         };
         for (what, load) in [
             ("heartbeat", &heartbeats(entries)),
             ("update, one to a piece", &single),
-            ("update, 400 to a piece", &joined),
+            ("update, 40 to a piece", &joined),
         ] {
             row(&format!("{level}, {what}"), times(load, ROUNDS));
         }
@@ -39,7 +39,7 @@ fn new_keys() {
         clock(ROUNDS)
     ));
     for entries in [0, 64, 127] {
-        let load = Load::cloned(filling(entries), update(1000, entries), 100);
+        let load = Load::cloned(filling(entries), update(1000, entries), MESSAGES);
         row(&format!("{entries} entries before"), times(&load, ROUNDS));
     }
 }
@@ -50,7 +50,7 @@ fn lengths() {
     for body in [0, 16, 64, 256, 1024] {
         let whole = message(200, &vec![7; body]);
         let len = whole.len();
-        let load = Load::new(filling(1), vec![whole; 400]);
+        let load = Load::new(filling(1), vec![whole; MESSAGES]);
         row_of_bytes(&format!("{body} bytes"), times(&load, ROUNDS), len);
     }
 }
@@ -59,14 +59,19 @@ fn lengths() {
 fn reassembly() {
     let whole = message(200, &[7; 1024]);
     heading_of_bytes(&format!("One message of {} bytes in pieces", whole.len()));
-    for (piece, messages) in [(whole.len(), 400), (256, 100), (16, 20), (1, 2)] {
+    for (piece, messages, rounds) in [
+        (whole.len(), MESSAGES, ROUNDS),
+        (256, 10, ROUNDS),
+        (16, 1, ROUNDS),
+        (1, 1, 20),
+    ] {
         let pieces: Vec<_> = whole.chunks(piece).map(<[u8]>::to_vec).collect();
         let load = Load {
             messages,
             ..Load::new(filling(1), vec![pieces; messages].concat())
         };
-        let name = format!("pieces of {piece}");
-        row_of_bytes(&name, times(&load, ROUNDS), whole.len());
+        let name = format!("pieces of {piece}, best of {rounds} rounds");
+        row_of_bytes(&name, times(&load, rounds), whole.len());
     }
 }
 
@@ -94,7 +99,7 @@ fn fronts() {
 /// Many messages in one session.
 fn message_counts() {
     heading("n updates of 128 held keys, one after another");
-    for (count, rounds) in [(1_000, ROUNDS), (10_000, 5), (100_000, 3)] {
+    for (count, rounds) in [(1_000, 15), (10_000, 5), (100_000, 2)] {
         let load = Load::new(filling(128), updates(count, 128));
         let name = format!("{count} updates, best of {rounds} rounds");
         row(&name, times(&load, rounds));
@@ -105,7 +110,7 @@ fn message_counts() {
 fn one_mark() {
     heading("An update of 128 held keys of 64 bytes");
     let [apart, same] = [false, true].map(|twins| {
-        let load = Load::new(long_filling(twins), long_updates(400, twins));
+        let load = Load::new(long_filling(twins), long_updates(MESSAGES as u32, twins));
         times(&load, ROUNDS)
     });
     row("128 entries", apart);

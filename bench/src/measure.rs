@@ -4,8 +4,12 @@ use crate::receivers::{Library, Plain, Receiver, Role, Second};
 use std::hint::black_box;
 use std::time::{Duration, Instant};
 
-/// Calls of a round that repeats one call.
-const CALLS: usize = 400;
+/// How many times a call is made, or a message offered, before the clock is asked.
+pub const MESSAGES: usize = 40;
+
+/// How long a round is at the least: so long that every receiver is warm, and so short that a busy machine seldom interrupts it. Where
+/// the slower receiver alone had longer rounds, it would be interrupted more, and its ratio would show that.
+const ROUND: Duration = Duration::from_millis(1);
 
 /// What is measured: a state to start from, and pieces that are each offered until taken.
 pub struct Load {
@@ -72,14 +76,19 @@ pub fn times(load: &Load, rounds: usize) -> [f64; 3] {
     )
 }
 
-/// Nanoseconds per message in one round.
+/// Nanoseconds per message in one round: the load again and again, each time from the start.
 pub fn round<R: Receiver>(start: &R, load: &Load) -> f64 {
-    let parts = match load.cloned {
-        true => load.pieces.chunks(1),
-        false => load.pieces.chunks(load.pieces.len()),
+    let part = match load.cloned {
+        true => 1,
+        false => load.pieces.len(),
     };
-    let spent: Duration = parts.map(|pieces| taking(start, pieces)).sum();
-    spent.as_nanos() as f64 / load.messages as f64
+    let (mut spent, mut messages) = (Duration::ZERO, 0);
+    while spent < ROUND {
+        let parts = load.pieces.chunks(part);
+        spent += parts.map(|pieces| taking(start, pieces)).sum();
+        messages += load.messages;
+    }
+    spent.as_nanos() as f64 / messages as f64
 }
 
 /// How long a clone takes for some pieces.
@@ -100,16 +109,19 @@ pub fn calls<R: Receiver>(start: &R, piece: &[u8], room: &mut [u8]) -> f64 {
 
 /// Nanoseconds of a function that is called again and again.
 pub fn repeated(mut function: impl FnMut()) -> f64 {
-    let began = Instant::now();
-    (0..CALLS).for_each(|_| function());
-    began.elapsed().as_nanos() as f64 / CALLS as f64
+    let (began, mut count) = (Instant::now(), 0);
+    while began.elapsed() < ROUND {
+        (0..MESSAGES).for_each(|_| function());
+        count += MESSAGES;
+    }
+    began.elapsed().as_nanos() as f64 / count as f64
 }
 
 /// Nanoseconds that the clock itself takes.
 pub fn clock(rounds: usize) -> f64 {
     let mut round = || {
-        let spent: Duration = (0..CALLS).map(|_| Instant::now().elapsed()).sum();
-        spent.as_nanos() as f64 / CALLS as f64
+        let spent: Duration = (0..MESSAGES).map(|_| Instant::now().elapsed()).sum();
+        spent.as_nanos() as f64 / MESSAGES as f64
     };
     let [best] = in_turns(rounds, [&mut round]);
     best

@@ -1,6 +1,6 @@
 //! Where the time of a call goes: library and plain receiver side by side.
 
-use crate::measure::{calls, in_turns, repeated, round, Load};
+use crate::measure::{calls, in_turns, repeated, round, Load, MESSAGES};
 use crate::plain;
 use crate::receivers::{Library, Plain, Receiver, ROOM};
 use crate::streams::{filling, message, update};
@@ -40,18 +40,18 @@ pub fn print(rounds: usize) {
     let names = names.map(|name| format!("{name:>13}")).concat();
     println!("{:<32}{names}{names}", "");
     let full = || filling(128);
-    let updating = |number| vec![update(1000, number); 400];
+    let updating = |number| vec![update(1000, number); MESSAGES];
     for (name, load) in [
-        ("heartbeat", Load::new(full(), vec![vec![0, 4]; 400])),
+        ("heartbeat", Load::new(full(), vec![vec![0, 4]; MESSAGES])),
         (
             "skipped message",
-            Load::new(full(), vec![message(200, &[7; 16]); 400]),
+            Load::new(full(), vec![message(200, &[7; 16]); MESSAGES]),
         ),
         ("update at the first place", Load::new(full(), updating(0))),
         ("update at the last place", Load::new(full(), updating(127))),
         (
             "update of a new key, 127 before",
-            Load::cloned(filling(127), update(1000, 127), 100),
+            Load::cloned(filling(127), update(1000, 127), MESSAGES),
         ),
     ] {
         line(name, &load, rounds);
