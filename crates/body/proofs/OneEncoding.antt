@@ -1,21 +1,17 @@
 -- Bytes stand for one update only: where the encodings of two updates, each with bytes behind it, are equal, so are their fields.
-use Prim.Native.Nat.{ℕ, zero, suc, _+_, _^_, _≤_, _<_, min}
+use Prim.Native.Nat.{ℕ, suc, _^_, _<_, min}
 use native.Mathlib.Omega.{arith}
 use mathlib.Core.Path.{_≡_, refl, sym, ap, _∙_}
 use mathlib.Core.List.{List, [], _∷_, _++_, append-assoc}
-use mathlib.Core.Bool.{true, false, cond}
-use lib.ListN.{length, take, drop, getD, length-append, length-take}
+use mathlib.Core.Bool.{true, false}
+use lib.ListN.{length, take, drop, getD, length-take}
 use lib.Seq.{drop-append-seam, take-append-seam}
 use lib.IntN.{ℤ, pos}
 use lib.Signed.{mag}
-use lib.Dec.{leb, eqb}
 use borrow.Author.Tests.{eqb-true}
 use mir.Val.{SFits}
 use mir.Syntax.{w32}
-use Rattle.lists.proofs.Cases.{by-test, cond-true, cond-false}
-use Rattle.wire.specs.declared.Int.the-variants as int
-use Rattle.wire.specs.declared.Number.the-variants as number
-use Rattle.wire.specs.declared.Signed.the-variants as signed
+use Rattle.lists.proofs.Cases.{by-test, cond-false}
 use Rattle.wire.specs.Integer.{encodeInt, readInt}
 use Rattle.wire.specs.Number.{encodeNumber, readNumber}
 use Rattle.wire.specs.Server.{serverWord, serverIdOf}
