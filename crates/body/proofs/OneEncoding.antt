@@ -1,31 +1,33 @@
--- Bytes stand for one update only: where the encodings of two updates, each with bytes behind it, are equal, so are their fields.
-use Prim.Native.Nat.{ℕ, suc, _^_, _<_, min}
+-- Bytes stand for one update or definition only: where the encodings of two, each with bytes behind it, are equal, so are their fields.
+use Prim.Native.Nat.{ℕ, suc, _^_, _<_, min, _≤_}
 use native.Mathlib.Omega.{arith}
 use mathlib.Core.Path.{_≡_, refl, sym, ap, _∙_}
 use mathlib.Core.List.{List, [], _∷_, _++_, append-assoc}
 use mathlib.Core.Bool.{true, false}
-use lib.ListN.{length, take, drop, getD, length-take}
+use lib.ListN.{length, take, drop, getD, length-take, replicate}
 use lib.Seq.{drop-append-seam, take-append-seam}
 use lib.IntN.{ℤ, pos}
 use lib.Signed.{mag}
-use borrow.Author.Tests.{eqb-true}
+use lib.Dec.{eqb}
+use borrow.Author.Tests.{eqb-true, eqb-false}
 use mir.Val.{SFits}
 use mir.Syntax.{w32}
 use Rattle.lists.proofs.Cases.{by-test, cond-false}
 use Rattle.wire.specs.Integer.{encodeInt, readInt}
 use Rattle.wire.specs.Number.{encodeNumber, readNumber}
 use Rattle.wire.specs.Server.{serverWord, serverIdOf}
+use Rattle.wire.proofs.Advance.{advance}
 use Rattle.wire.proofs.RoundTrip.{round-trip}
 use Rattle.wire.proofs.Numbers.{number-trip}
 use Rattle.wire.proofs.Server.{word-small, id-of-word}
 use Rattle.store.specs.declared.Table.{Table}
 use Rattle.store.specs.declared.Entry.{Entry}
-use Rattle.store.specs.Limits.{keyKind, isString, present, slotTypes}
-use Rattle.store.specs.Shape.{Cells}
+use Rattle.store.specs.Limits.{keyKind, isString, present, slotTypes, rateTypes}
+use Rattle.store.specs.Shape.{Cells, TableShape}
 use Rattle.store.specs.Sound.{entryKeyLengthOk}
-use Rattle.store.specs.Store.{keyOf}
-use Rattle.store.proofs.Rules.{slot-count}
-use Rattle.body.specs.Encodings.{messageBytes, eachBytes, keyBytes, serverBytes, valueBytes, dataBytes, entryBytes, updateBytes, incrementalBytes}
+use Rattle.store.specs.Store.{keyOf, nameOf}
+use Rattle.store.proofs.Rules.{slot-count, rate-count}
+use Rattle.body.specs.Encodings.{messageBytes, eachBytes, keyBytes, serverBytes, valueBytes, dataBytes, entryBytes, updateBytes, incrementalBytes, periodBytes, timesBytes, definitionBytes}
 use Rattle.body.proofs.Taken.{Along}
 
 -- ---- bytes before others
@@ -98,21 +100,22 @@ value-once types t v w p q a b e =
     (λ h. let f : encodeInt v ++ p ≡ encodeInt w ++ q = rw (h) at e in integer-once v w p q (a .small) (b .small) f)
     (λ h. let f : p ≡ q = rw (h) at e in (a .none h ∙ sym (b .none h), f))
 
-values-once : (types : ℕ) (ts vs ws p q : List ℕ) → Along (Number types) ts vs → Along (Number types) ts ws
-    → eachBytes (valueBytes types) ts vs ++ p ≡ eachBytes (valueBytes types) ts ws ++ q → (vs ≡ ws) × (p ≡ q)
+-- so of a value for each of the types ts, where it is so of each
+each-once : (encode : ℕ → ℕ → List ℕ) (Q : ℕ → ℕ → Type 0)
+    → ((t v w : ℕ) (p q : List ℕ) → Q t v → Q t w → encode t v ++ p ≡ encode t w ++ q → (v ≡ w) × (p ≡ q))
+    → (ts vs ws p q : List ℕ) → Along Q ts vs → Along Q ts ws → eachBytes encode ts vs ++ p ≡ eachBytes encode ts ws ++ q → (vs ≡ ws) × (p ≡ q)
 unfolding eachBytes Along
-values-once types [] [] [] p q a b e = (refl, e)
-values-once types [] [] (w ∷ ws) p q a b e = absurd b
-values-once types [] (v ∷ vs) ws p q a b e = absurd a
-values-once types (t ∷ ts) [] ws p q a b e = absurd a
-values-once types (t ∷ ts) (v ∷ vs) [] p q a b e = absurd b
-values-once types (t ∷ ts) (v ∷ vs) (w ∷ ws) p q a b e =
-    let xs = eachBytes (valueBytes types) ts vs in
-    let ys = eachBytes (valueBytes types) ts ws in
-    let f : valueBytes types t v ++ (xs ++ p) ≡ valueBytes types t w ++ (ys ++ q) =
-    sym (append-assoc (valueBytes types t v) xs p) ∙ (e ∙ append-assoc (valueBytes types t w) ys q) in
-    let r = value-once types t v w (xs ++ p) (ys ++ q) (a .0) (b .0) f in
-    let k = values-once types ts vs ws p q (a .1) (b .1) (r .1) in
+each-once encode Q one [] [] [] p q a b e = (refl, e)
+each-once encode Q one [] [] (w ∷ ws) p q a b e = absurd b
+each-once encode Q one [] (v ∷ vs) ws p q a b e = absurd a
+each-once encode Q one (t ∷ ts) [] ws p q a b e = absurd a
+each-once encode Q one (t ∷ ts) (v ∷ vs) [] p q a b e = absurd b
+each-once encode Q one (t ∷ ts) (v ∷ vs) (w ∷ ws) p q a b e =
+    let xs = eachBytes encode ts vs in
+    let ys = eachBytes encode ts ws in
+    let f : encode t v ++ (xs ++ p) ≡ encode t w ++ (ys ++ q) = sym (append-assoc (encode t v) xs p) ∙ (e ∙ append-assoc (encode t w) ys q) in
+    let r = one t v w (xs ++ p) (ys ++ q) (a .0) (b .0) f in
+    let k = each-once encode Q one ts vs ws p q (a .1) (b .1) (r .1) in
     (ap (λ (n : ℕ). n ∷ vs) (r .0) ∙ ap (λ (l : List ℕ). w ∷ l) (k .0), k .1)
 
 along-from : (Q : ℕ → ℕ → Type 0) (ts vs : List ℕ) → length vs ≡ length ts → ((i : ℕ) → i < length ts → Q (getD ts i 0) (getD vs i 0)) → Along Q ts vs
@@ -176,7 +179,7 @@ module _ (t : Table) where
         let b : (yk ++ (ys ++ yv)) ++ q ≡ yk ++ (ys ++ (yv ++ q)) = simp append-assoc in
         let r₁ = key-once (t .«key_type») (keyOf e) (keyOf f) (xs ++ (xv ++ p)) (ys ++ (yv ++ q)) (key-small e h) (key-small f k) lengths-same (sym a ∙ (z ∙ b)) in
         let r₂ = server-once types (e .«server_id») (f .«server_id») (xv ++ p) (yv ++ q) (h .server) (k .server) (h .noServer) (k .noServer) (r₁ .1) in
-        let r₃ = values-once types slotTypes (e .values) (f .values) p q (numbers e h) (numbers f k) (r₂ .1) in
+        let r₃ = each-once (valueBytes types) (Number types) (value-once types) slotTypes (e .values) (f .values) p q (numbers e h) (numbers f k) (r₂ .1) in
         record { key = r₁ .0; server = r₂ .0; values = r₃ .0 }
 
     pub incremental-once : (p q : List ℕ) → incrementalBytes t e ++ p ≡ incrementalBytes t f ++ q → SameFields e f
@@ -189,6 +192,123 @@ module _ (t : Table) where
         let a = sym (append-assoc (encodeNumber i) (entryBytes t e) p) ∙ (z ∙ append-assoc (encodeNumber j) (entryBytes t f) q) in
         let r = number-once i j (entryBytes t e ++ p) (entryBytes t f ++ q) l m a in
         (r .0, entry-once p q (r .1))
+
+-- ---- a table
+
+period-once : (types t v w : ℕ) (p q : List ℕ) → Number types t v → Number types t w → periodBytes types t v ++ p ≡ periodBytes types t w ++ q → (v ≡ w) × (p ≡ q)
+unfolding periodBytes
+period-once types t v w p q a b e =
+    by-test (present types t)
+    (λ h.
+    let f : (encodeInt t ++ encodeInt v) ++ p ≡ (encodeInt t ++ encodeInt w) ++ q = rw (h) at e in
+    let g : encodeInt t ++ (encodeInt v ++ p) ≡ encodeInt t ++ (encodeInt w ++ q) =
+    sym (append-assoc (encodeInt t) (encodeInt v) p) ∙ (f ∙ append-assoc (encodeInt t) (encodeInt w) q) in
+    integer-once v w p q (a .small) (b .small) (rest-once (encodeInt t) (encodeInt v ++ p) (encodeInt w ++ q) g))
+    (λ h. let f : p ≡ q = rw (h) at e in (a .none h ∙ sym (b .none h), f))
+
+-- an integer has a byte
+some-byte : (v : ℕ) (p : List ℕ) → v < 2 ^ 64 → encodeInt v ++ p ≡ [] → ⊥
+some-byte v p l e =
+    let a = advance [] 0 v _ (sym (ap (λ (x : List ℕ). readInt x 0) e) ∙ round-trip [] p v l) in
+    omega (arith, a .0, a .1)
+
+-- what a definition's bytes need to stand for it alone, where `ignored` are the bytes behind it
+pub record FittingTable (id : ℕ) (t : Table) (ignored : List ℕ) : Type 0 where
+  pub small : id < 2 ^ 32
+  pub shape : TableShape t
+  pub timed : t .timed ≤ 1
+  pub untimed : t .timed ≡ 0 → ignored ≡ []
+  pub none : t .timed ≡ 0 → (t .expiry ≡ 0) × (t .periods ≡ replicate 8 0)
+  pub absent : (i : ℕ) → i < 8 → present (t .«data_types») (getD rateTypes i 0) ≡ false → getD (t .periods) i 0 ≡ 0
+
+pub record SameTimes (t u : Table) : Type 0 where
+  pub timed : t .timed ≡ u .timed
+  pub expiry : t .expiry ≡ u .expiry
+  pub periods : t .periods ≡ u .periods
+
+pub record SameTable (t u : Table) : Type 0 where
+  pub name : nameOf t ≡ nameOf u
+  pub keyType : t .«key_type» ≡ u .«key_type»
+  pub keyLength : t .«key_len» ≡ u .«key_len»
+  pub dataTypes : t .«data_types» ≡ u .«data_types»
+  pub times : SameTimes t u
+
+module _ (id : ℕ) (t : Table) (p : List ℕ) (h : FittingTable id t p) where
+  name-small : length (nameOf t) < 2 ^ 64
+  unfolding nameOf
+  name-small = omega (arith, length-take (t .«name_len») (t .name), h .shape .name .size)
+
+  untimed-is : eqb (t .timed) 1 ≡ false → t .timed ≡ 0
+  untimed-is z = let n = eqb-false (t .timed) 1 z in omega (arith, h .timed, n)
+
+  periods-are : (types : ℕ) → t .«data_types» ≡ types → Along (Number types) rateTypes (t .periods)
+  periods-are types e =
+      along-from (Number types) rateTypes (t .periods) (h .shape .periods .size ∙ sym rate-count)
+      (λ i l.
+      record {
+        small = let k = h .shape .periods .small i in omega arith;
+        none = λ z. h .absent i (omega (arith, rate-count)) (ap (λ (n : ℕ). present n (getD rateTypes i 0)) e ∙ z);
+      })
+
+  times-there : eqb (t .timed) 1 ≡ true
+      → timesBytes t ++ p ≡ encodeInt (t .expiry) ++ (eachBytes (periodBytes (t .«data_types»)) rateTypes (t .periods) ++ p)
+  unfolding timesBytes
+  times-there z = rw z (append-assoc (encodeInt (t .expiry)) _ p)
+
+  times-none : eqb (t .timed) 1 ≡ false → timesBytes t ++ p ≡ []
+  unfolding timesBytes
+  times-none z = rw z (h .untimed (untimed-is z))
+
+  expiry-small : t .expiry < 2 ^ 64
+  expiry-small = let k = h .shape .expiry in omega arith
+
+  some-times : eqb (t .timed) 1 ≡ true → timesBytes t ++ p ≡ [] → ⊥
+  some-times z e = some-byte (t .expiry) _ expiry-small (sym (times-there z) ∙ e)
+
+module _ (i : ℕ) (t : Table) (p : List ℕ) (h : FittingTable i t p) (j : ℕ) (u : Table) (q : List ℕ) (k : FittingTable j u q) where
+  times-once : t .«data_types» ≡ u .«data_types» → timesBytes t ++ p ≡ timesBytes u ++ q → SameTimes t u
+  times-once d e =
+      by-test (eqb (t .timed) 1)
+      (λ a.
+      by-test (eqb (u .timed) 1)
+      (λ b.
+      let types = u .«data_types» in
+      let x = eachBytes (periodBytes (t .«data_types»)) rateTypes (t .periods) in
+      let y = eachBytes (periodBytes types) rateTypes (u .periods) in
+      let r = integer-once (t .expiry) (u .expiry) (x ++ p) (y ++ q) (expiry-small i t p h) (expiry-small j u q k)
+      (sym (times-there i t p h a) ∙ (e ∙ times-there j u q k b)) in
+      let f : eachBytes (periodBytes types) rateTypes (t .periods) ++ p ≡ y ++ q =
+      ap (λ (n : ℕ). eachBytes (periodBytes n) rateTypes (t .periods) ++ p) (sym d) ∙ r .1 in
+      let w = each-once (periodBytes types) (Number types) (period-once types) rateTypes (t .periods) (u .periods) p q
+      (periods-are i t p h types d) (periods-are j u q k types refl) f in
+      record { timed = eqb-true (t .timed) 1 a ∙ sym (eqb-true (u .timed) 1 b); expiry = r .0; periods = w .0 })
+      (λ b. absurd (some-times i t p h a (e ∙ times-none j u q k b))))
+      (λ a.
+      by-test (eqb (u .timed) 1)
+      (λ b. absurd (some-times j u q k b (sym e ∙ times-none i t p h a)))
+      (λ b.
+      let y = untimed-is i t p h a in
+      let z = untimed-is j u q k b in
+      record { timed = y ∙ sym z; expiry = h .none y .0 ∙ sym (k .none z .0); periods = h .none y .1 ∙ sym (k .none z .1) }))
+
+  pub definition-once : definitionBytes i t ++ p ≡ definitionBytes j u ++ q → (i ≡ j) × SameTable t u
+  unfolding definitionBytes
+  definition-once e =
+      let a : definitionBytes i t ++ p
+      ≡ encodeInt i ++ (encodeInt (length (nameOf t)) ++ (nameOf t ++ (encodeInt (t .«key_type») ++ (encodeInt (t .«key_len») ++ (encodeInt (t .«data_types») ++ (timesBytes t ++ p)))))) =
+      simp append-assoc in
+      let b : definitionBytes j u ++ q
+      ≡ encodeInt j ++ (encodeInt (length (nameOf u)) ++ (nameOf u ++ (encodeInt (u .«key_type») ++ (encodeInt (u .«key_len») ++ (encodeInt (u .«data_types») ++ (timesBytes u ++ q)))))) =
+      simp append-assoc in
+      let x = h .shape in
+      let y = k .shape in
+      let r₁ = integer-once i j _ _ (omega (arith, h .small)) (omega (arith, k .small)) (sym a ∙ (e ∙ b)) in
+      let r₂ = integer-once (length (nameOf t)) (length (nameOf u)) _ _ (name-small i t p h) (name-small j u q k) (r₁ .1) in
+      let r₃ = part-once (nameOf t) (nameOf u) _ _ (r₂ .0) (r₂ .1) in
+      let r₄ = integer-once (t .«key_type») (u .«key_type») _ _ (omega (arith, x .keyType)) (omega (arith, y .keyType)) (r₃ .1) in
+      let r₅ = integer-once (t .«key_len») (u .«key_len») _ _ (x .keyLength) (y .keyLength) (r₄ .1) in
+      let r₆ = integer-once (t .«data_types») (u .«data_types») _ _ (omega (arith, x .dataTypes)) (omega (arith, y .dataTypes)) (r₅ .1) in
+      (r₁ .0, record { name = r₃ .0; keyType = r₄ .0; keyLength = r₅ .0; dataTypes = r₆ .0; times = times-once (r₆ .0) (r₆ .1) })
 
 -- ---- a message
 

@@ -1,5 +1,5 @@
 -- The message of an accepted definition is the encoding of the table that the call left, and then ignored bytes.
-use Prim.Native.Nat.{ℕ, _-_, _≤_, _<_}
+use Prim.Native.Nat.{ℕ, _-_, _^_, _≤_, _<_}
 use native.Mathlib.Omega.{arith}
 use mathlib.Core.Path.{_≡_, refl, sym, ap, subst, _∙_}
 use mathlib.Core.Bool.{true}
@@ -19,7 +19,7 @@ use Rattle.store.specs.Limits.{present, rateTypes}
 use Rattle.store.specs.Shape.{TableShape}
 use Rattle.store.specs.Sound.{soundTable}
 use Rattle.store.specs.Store.{tableHeld, makeTable, findTable, freeTable, findEntry, freeEntry, putTable, noTable}
-use Rattle.store.proofs.Facts.{facts-table}
+use Rattle.store.proofs.Facts.{table-facts, facts-table}
 use Rattle.store.proofs.Kept.{table-found, table-place}
 use Rattle.store.proofs.Ruled.{made-name}
 use Rattle.frame.specs.declared.Frame.{Frame}
@@ -39,13 +39,14 @@ use Rattle.body.specs.Bodies.{Definition, definitionFields, Update}
 use Rattle.body.proofs.Spans.{span-length}
 use Rattle.body.proofs.Within.{definition-within}
 use Rattle.body.proofs.DefinitionEncoding.{TableRead, definition-encoded, definition-ends, definition-none, definition-absent}
+use Rattle.body.proofs.OneEncoding.{FittingTable, definition-once, body-once}
 use Rattle.message.specs.Effects.{Effect, refuse, note, fieldsThen, control, controlAnswer, peerError, definedTable, defineAt, defineNew, defineNamed, agrees, definition, switchTo, switch, acknowledgement, skipped, updatedEntry, commitAt, commitNew, commitUpdate, withFields, incrementalOf, update, incremental, stickTable}
 use Rattle.reassembly.specs.Judge.{Judged, waiting, settled, frameJudged, judge}
 use Rattle.streams.specs.Calls.{Call}
 use Rattle.receiver.specs.Model.{State}
 use Rattle.receiver.specs.Promise.{Made, ReadPromise, callOf}
 use Rattle.receiver.specs.Corollaries.{messageOf}
-use Rattle.receiver.specs.MessageBytes.{tableAt, DefinitionMessage, BytesOfDefinition}
+use Rattle.receiver.specs.MessageBytes.{tableAt, DefinitionMessage, BytesOfDefinition, OneDefinition}
 use Rattle.receiver.proofs.EffectKinds.{bodyIn}
 use Rattle.receiver.proofs.Ways.{Way, Judging, staying, waiting-on, judging, ways, answer-is, record-holds}
 use Rattle.receiver.proofs.Acknowledging.{judged, held, bytes}
@@ -357,3 +358,34 @@ by-way s t m place p h (judging e j) =
 
 pub bytes-of-definition : BytesOfDefinition
 bytes-of-definition s t m place p h = by-way s t m place p h (ways s t m p)
+
+-- ---- one reading
+
+fitting : (s : Session) (before : Store) (m : Made) (place id : ℕ) (t : Table) (h : DefinitionMessage s before m place id t) → FittingTable id t (h .ignored)
+fitting s before m place id t h = record {
+  small = h .id-32-bit;
+  shape = h .shape;
+  timed = table-facts t (h .sound) (h .held) .timed;
+  untimed = h .untimed;
+  none = h .no-times;
+  absent = h .no-period;
+}
+
+pub one-definition : OneDefinition
+one-definition s before m place id t place′ id′ u h k =
+    let short : (n : ℕ) → n ≤ 1024 → n < 2 ^ 64 = λ n l. omega arith in
+    let same : h .body ≡ k .body =
+    body-once 130 130 (h .body) (k .body) (short _ (h .body-most)) (short _ (k .body-most)) (sym (h .message) ∙ k .message) in
+    let r = definition-once id t (h .ignored) (fitting s before m place id t h) id′ u (k .ignored) (fitting s before m place′ id′ u k)
+    (sym (h .fields) ∙ (same ∙ k .fields)) in
+    let x = r .1 in
+    record {
+      id = r .0;
+      name = x .name;
+      key-type = x .keyType;
+      key-length = x .keyLength;
+      data-types = x .dataTypes;
+      timed = x .times .timed;
+      expiry = x .times .expiry;
+      periods = x .times .periods;
+    }

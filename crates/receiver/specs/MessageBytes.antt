@@ -1,5 +1,6 @@
 -- "which bytes stood for this counter?": the message of an accepted update or definition, from its first byte to its last.
--- The records below fix the reading by themselves: two entries that fit one message have one key, one server ID and the same values.
+-- The records below fix the reading by themselves: no other key, server ID or values fit the message of an update, and no other ID, name,
+-- shape or times that of a definition.
 use Prim.Native.Nat.{ℕ, _+_, _%_, _^_, _≤_, _<_}
 use mathlib.Core.Path.{_≡_}
 use mathlib.Core.Logic.{_⊎_}
@@ -17,7 +18,7 @@ use Rattle.store.specs.declared.Store.{Store}
 use Rattle.store.specs.Limits.{valueCount, rateCount, slotTypes, rateTypes, present}
 use Rattle.store.specs.Shape.{Cells, TableShape, EntryShape}
 use Rattle.store.specs.Sound.{soundTable, soundEntry, entryKeyLengthOk, keyRestZero, valuesOk}
-use Rattle.store.specs.Store.{tableHeld, entryHeld, keyOf, noTable, noEntry}
+use Rattle.store.specs.Store.{tableHeld, entryHeld, nameOf, keyOf, noTable, noEntry}
 use Rattle.session.specs.declared.Session.{Session}
 use Rattle.session.specs.declared.Commit.{Commit}
 use Rattle.session.specs.declared.Answer.the-variants as answer
@@ -144,3 +145,20 @@ abbrev pub BytesOfDefinition : Type 0
 BytesOfDefinition =
     (s : Session) (t : Store) (m : Made) (place : ℕ) → ReadPromise s t m → m .outcome .answer ≡ answer.Table place
     → DefinitionMessage s t m place (bindingAt (m .session .connection) place .id) (tableAt m place)
+
+-- What the bytes fix: the ID, and the table's name, key type, key length, data types, expiry and periods.
+pub record SameDefinition (number : ℕ) (t : Table) (number′ : ℕ) (u : Table) : Type 0 where
+  pub id : number ≡ number′
+  pub name : nameOf t ≡ nameOf u
+  pub key-type : t .«key_type» ≡ u .«key_type»
+  pub key-length : t .«key_len» ≡ u .«key_len»
+  pub data-types : t .«data_types» ≡ u .«data_types»
+  pub timed : t .timed ≡ u .timed
+  pub expiry : t .expiry ≡ u .expiry
+  pub periods : t .periods ≡ u .periods
+
+-- A message is a definition in one way only.
+abbrev pub OneDefinition : Type 0
+OneDefinition =
+    (s : Session) (before : Store) (m : Made) (place id : ℕ) (t : Table) (place′ id′ : ℕ) (u : Table) → DefinitionMessage s before m place id t
+    → DefinitionMessage s before m place′ id′ u → SameDefinition id t id′ u
