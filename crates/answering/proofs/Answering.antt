@@ -1,20 +1,26 @@
 -- An answer with its reply: what is put into the room, and what is returned.
 use Prim.Native.Nat.{ℕ, _≤_}
 use native.Mathlib.Omega.{arith}
-use mathlib.Core.Path.{_≡_, sym, ap, _∙_}
+use mathlib.Core.Path.{_≡_, refl, sym, ap, _∙_}
 use mathlib.Core.List.{List, []}
 use lib.ListN.{length, take}
+use mathlib.Core.Bool.{false}
 use lib.Seq.{length-take-le}
 use borrow.Author.Needs.{needs}
+use Rattle.store.specs.declared.Store.{Store}
+use Rattle.session.specs.declared.Connection.{Connection}
 use Rattle.session.specs.declared.Session.{Session}
 use Rattle.session.specs.declared.Reply.{Reply}
 use Rattle.session.specs.Answers.{replyOf}
 use Rattle.session.specs.Session.{holding}
 use Rattle.message.specs.declared.Settled.{Settled}
+use Rattle.message.specs.declared.Asked.{Asked}
 use Rattle.message.specs.Effects.{Effect}
-use Rattle.message.specs.Settled.{settledOf}
-use Rattle.steps.specs.declared.Step.{Step}
-use Rattle.steps.specs.Steps.{answers, replied}
+use Rattle.message.specs.Settled.{Settles, Asks, AsksWith, Finishes}
+use Rattle.reassembly.specs.Judge.{judge, effectOf}
+use Rattle.settling.specs.OnStores.{judgeOn}
+use Rattle.steps.specs.declared.StepChange.{StepChange}
+use Rattle.steps.specs.Steps.{gives, applied, answers, replied}
 use Rattle.steps.proofs.Making.{replied-long, replied-short}
 
 -- ---- the reply
@@ -29,21 +35,46 @@ pub ruleset replying = (needs, prefix-length, prefix-within, replied-long, repli
 
 -- ---- the answer
 
-module _ (x : Settled) (e : Effect) (p : x ≡ settledOf e) where
-  reply-is : x .reply ≡ replyOf (e .reply)
-  unfolding settledOf
-  reply-is = ap (λ (y : Settled). y .reply) p
+pub gave : (x : Settled) (s : Session) (count : ℕ) → s ≡ holding (x .connection) []
+    → _≡_ {A = StepChange}
+    (record { outcome = record { taken = count; «reply_len» = x .reply .len; answer = x .answer }; session = s; change = x .change })
+    (gives count x)
+unfolding gives
+gave x s count e = rw e
 
+pub ruleset giving = (needs, gave)
+
+module _ (t : Store) (e : Effect) (x : Settled) (h : Settles t e x) where
   len-is : x .reply .len ≡ length (e .reply)
   unfolding replyOf
-  len-is = ap (λ (k : Reply). k .len) reply-is
+  len-is = ap (λ (k : Reply). k .len) (h .reply)
 
-  pub answer-made : (s : Session) (count : ℕ) → s ≡ holding (x .connection) []
-      → _≡_ {A = Step}
-      (record { outcome = record { taken = count; «reply_len» = x .reply .len; answer = x .answer }; session = s; store = x .store })
-      (answers count e)
-  unfolding answers settledOf
-  answer-made s count q = rw (q, len-is, p)
+  settled-made : (count : ℕ) → applied t (gives count x) ≡ answers count e
+  unfolding applied gives answers
+  settled-made count = rw (len-is, h .answer, h .connection, h .store)
 
-  pub answer-replied : (room final : List ℕ) → final ≡ replied (x .reply) room → final ≡ replied (replyOf (e .reply)) room
-  answer-replied room final q = q ∙ ap (λ (k : Reply). replied k room) reply-is
+-- where a is what the bytes ask for
+module _ (c : Connection) (t : Store) (u : List ℕ) (a : Asked) (p : AsksWith c (t .tables) (judgeOn c u) a) (count : ℕ) (r : StepChange) where
+  abbrev effect : Effect
+  effect = effectOf c t (judge c t u)
+
+  asks : Asks c t effect a
+  unfolding judgeOn
+  asks = p .on t refl
+
+  module _ (x : Settled) (q : Finishes c (t .entries) a x) where
+    pub commit-made : r ≡ gives count x → applied t r ≡ answers count (effectOf c t (judge c t u))
+    commit-made e = ap (applied t) e ∙ settled-made t effect x (q .on t effect refl asks) count
+
+    pub commit-replied : (room final : List ℕ) → final ≡ replied (x .reply) room → final ≡ replied (replyOf (effectOf c t (judge c t u) .reply)) room
+    commit-replied room final e = e ∙ ap (λ (k : Reply). replied k room) (q .on t effect refl asks .reply)
+
+  module _ (z : a .commits ≡ false) where
+    pub answer-made : r ≡ gives count (a .settled) → applied t r ≡ answers count (effectOf c t (judge c t u))
+    answer-made e = ap (applied t) e ∙ settled-made t effect (a .settled) (asks .settles z) count
+
+    pub answer-replied : (room final : List ℕ) → final ≡ replied (a .settled .reply) room
+        → final ≡ replied (replyOf (effectOf c t (judge c t u) .reply)) room
+    answer-replied room final e = e ∙ ap (λ (k : Reply). replied k room) (asks .settles z .reply)
+
+pub ruleset answering = (needs, commit-made, commit-replied, answer-made, answer-replied)

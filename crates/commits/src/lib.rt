@@ -1,5 +1,7 @@
 // Committing an entry, and the acknowledgement of its update.
-use lists::Found;
+use lookup::Place;
+use lookup::find_entry;
+use message::Asked;
 use message::Settled;
 use message::binding_at;
 use message::refuse;
@@ -7,13 +9,15 @@ use session::Answer;
 use session::Commit;
 use session::Connection;
 use session::Reply;
+use store::ENTRIES;
 use store::Entry;
-use store::Store;
+use store::KEY_MAX;
 ghost use mathlib.Core.Path.{_≡_};
-ghost use Rattle.store.specs.Store.{freeEntry};
 ghost use Rattle.session.specs.Answers.{replyOf};
-ghost use Rattle.message.specs.Effects.{acknowledge, commitAt, commitNew};
-ghost use Rattle.message.specs.Settled.{settledOf};
+ghost use Rattle.message.specs.Effects.{acknowledge};
+ghost use Rattle.message.specs.OnStores.{commitAtOn};
+ghost use Rattle.message.specs.Settled.{SettlesAll, Finishes};
+ghost use Rattle.commits.specs.Targets.{lookedUp, Goes, targetOf};
 
 // The acknowledgement of an update: class 10, type 133, the length of its body, the table's bound ID and the update's ID.
 pub fn acknowledge(id: u32, update: u32) -> Reply
@@ -31,23 +35,22 @@ pub fn acknowledge(id: u32, update: u32) -> Reply
     }
 }
 
-// The entry goes to a place, the update's ID is the table's last committed one, and the acknowledgement has the table's bound ID and this ID.
+// The entry goes to a place, the update's ID is its table's last committed one, and the acknowledgement has the table's bound ID and this ID.
 pub fn commit_at(
     connection: Connection,
-    store: Store,
-    table: usize,
     id: u32,
     entry: Entry,
     place: usize,
     how: Commit,
 ) -> Settled
-    ensures { λ r. ⌜ r ≡ settledOf (commitAt connection store table id entry place how) ⌝ }
+    ensures { λ r. ⌜ SettlesAll (commitAtOn connection id entry place how) r ⌝ }
 {
-    let held = store::put_entry(store, place, entry);
+    let table = entry.table;
     let committed = bindings::commit_update(connection, table, id);
     let bindings = connection.bindings;
     let b = binding_at(bindings, table);
     let reply = acknowledge(b.id, id);
+    let change = message::entry_change(place, entry);
     Settled {
         answer: Answer::Update {
             table,
@@ -57,22 +60,73 @@ pub fn commit_at(
         },
         reply,
         connection: committed,
-        store: held,
+        change,
     }
 }
 
-// A new key takes the lowest free place.
-pub fn commit_new(
-    connection: Connection,
-    store: Store,
-    table: usize,
-    id: u32,
-    entry: Entry,
-) -> Settled
-    ensures { λ r. ⌜ r ≡ settledOf (commitNew connection store table id entry (freeEntry store)) ⌝ }
+// The bytes that a key is looked up by: a key longer than the longest is no entry's, as any key of one byte more.
+fn looked_up(key_len: usize) -> usize
+    ensures { λ r. ⌜ r ≡ lookedUp «key_len» ⌝ }
 {
-    match lookup::free_entry(store) {
-        Found::At(place) => commit_at(connection, store, table, id, entry, place, Commit::New),
-        Found::Nothing => refuse(connection, store, 29),
+    if KEY_MAX < key_len {
+        return KEY_MAX + 1;
     }
+    key_len
+}
+
+// Where an entry goes, by its table and its key.
+fn place_of(entries: [Entry; ENTRIES], entry: Entry) -> Place
+    ensures { λ r. ⌜ Goes entries entry r ⌝ }
+{
+    let held = entry.key;
+    let mut key = [0u8; KEY_MAX + 1];
+    lists::pad(&mut key, &held);
+    let n = looked_up(entry.key_len);
+    find_entry(entries, entry.table, &key[..n])
+}
+
+// The place that an entry is put at, and how; `full` says that there is none.
+struct Target {
+    full: bool,
+    place: usize,
+    how: Commit,
+}
+
+fn target_of(found: Place) -> Target
+    ensures { λ r. ⌜ r ≡ targetOf found ⌝ }
+{
+    match found {
+        Place::Held(place) => Target {
+            full: false,
+            place,
+            how: Commit::Replaced,
+        },
+        Place::Free(place) => Target {
+            full: false,
+            place,
+            how: Commit::New,
+        },
+        Place::Full => Target {
+            full: true,
+            place: 0,
+            how: Commit::New,
+        },
+    }
+}
+
+// What was asked is done: where an entry is committed, it goes to the place of its key, else to the lowest free place.
+pub fn finish(connection: Connection, entries: [Entry; ENTRIES], asked: Asked) -> Settled
+    ensures { λ r. ⌜ Finishes connection entries asked r ⌝ }
+{
+    if !asked.commits {
+        let settled = asked.settled;
+        return settled;
+    }
+    let entry = asked.entry;
+    let target = target_of(place_of(entries, entry));
+    if target.full {
+        return refuse(connection, 29);
+    }
+    let how = target.how;
+    commit_at(connection, asked.id, entry, target.place, how)
 }

@@ -3,67 +3,64 @@ use handshake::Hello;
 use handshake::Status;
 use hello_effects::accepted_hello;
 use message::Settled;
+use message::no_change;
+use message::refuse;
 use replies::no_reply;
 use session::Answer;
 use session::Connection;
 use session::establish_connection;
 use status_reading::judge_status;
-use store::Store;
 use waiting::hello_of;
-ghost use mathlib.Core.Path.{_≡_};
 ghost use mathlib.Core.List.{[]};
 ghost use Rattle.handshake.specs.Handshake.{judgeHello, judgeStatus};
 ghost use Rattle.session.specs.Session.{localName, remoteName, establish};
-ghost use Rattle.message.specs.Effects.{note};
-ghost use Rattle.message.specs.Settled.{settledOf};
-ghost use Rattle.reassembly.specs.Judge.{helloJudged, statusJudged, effectOf};
+ghost use Rattle.message.specs.OnStores.{noteOn};
+ghost use Rattle.message.specs.Settled.{SettlesAll};
+ghost use Rattle.handshake_effects.specs.OnStores.{helloOn, statusOn};
 
-pub fn more(connection: Connection, store: Store) -> Settled
-    ensures { λ r. ⌜ r ≡ settledOf (note connection store Answer.More []) ⌝ }
+pub fn more(connection: Connection) -> Settled
+    ensures { λ r. ⌜ SettlesAll (noteOn connection Answer.More []) r ⌝ }
 {
     let reply = no_reply();
+    let change = no_change();
     Settled {
         answer: Answer::More,
         reply,
         connection,
-        store,
+        change,
     }
 }
 
-pub fn settle_hello(connection: Connection, store: Store, u: &[u8]) -> Settled
-    ensures { λ r. ⌜ r ≡ settledOf (effectOf connection store (helloJudged connection store (judgeHello (localName connection) (remoteName connection) (now (u .entry))))) ⌝ }
+pub fn settle_hello(connection: Connection, u: &[u8]) -> Settled
+    ensures { λ r. ⌜ SettlesAll (helloOn connection (judgeHello (localName connection) (remoteName connection) (now (u .entry)))) r ⌝ }
 {
     match hello_of(connection, u) {
-        Hello::Waiting => more(connection, store),
-        Hello::Accepted { process, relative } => accepted_hello(
-            connection,
-            store,
-            process,
-            relative,
-        ),
-        Hello::Refused(number) => message::refuse(connection, store, number),
+        Hello::Waiting => more(connection),
+        Hello::Accepted { process, relative } => accepted_hello(connection, process, relative),
+        Hello::Refused(number) => refuse(connection, number),
     }
 }
 
-fn accepted_status(connection: Connection, store: Store) -> Settled
-    ensures { λ r. ⌜ r ≡ settledOf (note (establish connection) store Answer.Status []) ⌝ }
+fn accepted_status(connection: Connection) -> Settled
+    ensures { λ r. ⌜ SettlesAll (noteOn (establish connection) Answer.Status []) r ⌝ }
 {
     let established = establish_connection(connection);
     let reply = no_reply();
+    let change = no_change();
     Settled {
         answer: Answer::Status,
         reply,
         connection: established,
-        store,
+        change,
     }
 }
 
-pub fn settle_status(connection: Connection, store: Store, u: &[u8]) -> Settled
-    ensures { λ r. ⌜ r ≡ settledOf (effectOf connection store (statusJudged connection store (judgeStatus (now (u .entry))))) ⌝ }
+pub fn settle_status(connection: Connection, u: &[u8]) -> Settled
+    ensures { λ r. ⌜ SettlesAll (statusOn connection (judgeStatus (now (u .entry)))) r ⌝ }
 {
     match judge_status(u) {
-        Status::Waiting => more(connection, store),
-        Status::Accepted => accepted_status(connection, store),
-        Status::Refused(number) => message::refuse(connection, store, number),
+        Status::Waiting => more(connection),
+        Status::Accepted => accepted_status(connection),
+        Status::Refused(number) => refuse(connection, number),
     }
 }

@@ -1,3 +1,4 @@
 pub mod Effects
+pub mod OnStores
 pub mod Settled
 pub mod Examples

@@ -24,6 +24,7 @@ use Rattle.session.proofs.Basics.{told}
 use Rattle.soundness.specs.Sound.{sound}
 use Rattle.soundness.specs.Sound as sounds
 use Rattle.message.specs.Effects.{Effect}
+use Rattle.message.specs.Settled.{noChange, changed}
 use Rattle.reassembly.specs.declared.Taken.{Taken}
 use Rattle.reassembly.specs.Judge.{Judged, settled, judge, effectOf}
 use Rattle.reassembly.specs.Pieces.{Part, takePiece, takenOf}
@@ -33,12 +34,13 @@ use Rattle.streams.specs.Calls.{Call, scan}
 use Rattle.streams.proofs.Basics.{by-fed}
 use Rattle.streams.proofs.OneCall.{scan-nil, scan-quiet, scan-answered}
 use Rattle.steps.specs.declared.Step.{Step}
+use Rattle.steps.specs.declared.StepChange.{StepChange}
 use Rattle.receiver.specs.Model.{State, heldBy, feed, isByte, peers}
 use Rattle.receiver.specs.Good.{Good}
 use Rattle.receiver.specs.Promise.{Shaped, outcomeOf, sessionOf}
 use Rattle.receiver.specs.Parts.{judgedCall, partCall}
 use Rattle.steps.proofs.Making.{replied-front}
-use Rattle.steps.specs.Steps.{stays, waits, answers, replied}
+use Rattle.steps.specs.Steps.{stays, waits, applied, answers, replied}
 use Rattle.receiving.specs.Steps.{stepOf}
 use Rattle.receiver.proofs.Piece.{judged-as, judged-settled, scan-takes, waited-call, settled-call}
 use Rattle.receiver.proofs.Chained.{good-held}
@@ -64,12 +66,12 @@ module _ (s : Session) (t : Store) (a : Part) where
   abbrev call : Call State Answer
   call = partCall (s .connection) t a
 
-  stayed-step : a ≡ record { bytes = unfinished s; taken = 0; ended = false } → stays s t answer.More ≡ stepOf s call
-  unfolding stays stepOf partCall judgedCall outcomeOf sessionOf
+  stayed-step : a ≡ record { bytes = unfinished s; taken = 0; ended = false } → applied t (stays s answer.More) ≡ stepOf s call
+  unfolding applied stays changed noChange stepOf partCall judgedCall outcomeOf sessionOf
   stayed-step e = rw e
 
-  waited-step : a .ended ≡ false → (a .taken ≡ 0 → ⊥) → waits (s .connection) t (a .bytes) (a .taken) ≡ stepOf s call
-  unfolding waits stepOf judgedCall outcomeOf sessionOf
+  waited-step : a .ended ≡ false → (a .taken ≡ 0 → ⊥) → applied t (waits (s .connection) (a .bytes) (a .taken)) ≡ stepOf s call
+  unfolding applied waits changed noChange stepOf judgedCall outcomeOf sessionOf
   waited-step e n = rw (waited-call s t a e, ne-eqb (a .taken) 0 n)
 
   settled-step : (e : Effect) → a .ended ≡ true → judge (s .connection) t (a .bytes) ≡ settled e → (a .taken ≡ 0 → ⊥)
@@ -141,8 +143,8 @@ module _ (s : Session) (t : Store) (piece : List ℕ) (x : Taken) (p : x ≡ tak
   nothing : x .count ≡ 0 → part ≡ record { bytes = unfinished s; taken = 0; ended = false }
   nothing z = part-none (s .connection) (unfinished s) piece few (sym count-is ∙ z)
 
-  pub stays-step : (r : Step) → x .count ≡ 0 → r ≡ stays s t answer.More → r ≡ stepOf s model
-  stays-step r z q = q ∙ (stayed-step s t part (nothing z) ∙ ap (stepOf s) (sym is-part))
+  pub stays-step : (r : StepChange) → x .count ≡ 0 → r ≡ stays s answer.More → applied t r ≡ stepOf s model
+  stays-step r z q = ap (applied t) q ∙ (stayed-step s t part (nothing z) ∙ ap (stepOf s) (sym is-part))
 
   pub stays-room : (room : List ℕ) → x .count ≡ 0 → room ≡ front (model .reply) room
   stays-room room z =
@@ -156,11 +158,12 @@ module _ (s : Session) (t : Store) (piece : List ℕ) (x : Taken) (p : x ≡ tak
 
     -- more is wanted
 
-    pub waits-step : (r : Step) → x .ended ≡ false → r ≡ waits (s .connection) t (take (x .len) (x .bytes)) (x .count) → r ≡ stepOf s model
+    pub waits-step : (r : StepChange) → x .ended ≡ false → r ≡ waits (s .connection) (take (x .len) (x .bytes)) (x .count)
+        → applied t r ≡ stepOf s model
     waits-step r z q =
-        q
-        ∙ (ap (λ (u : List ℕ). waits (s .connection) t u (x .count)) prefix-is
-        ∙ (ap (waits (s .connection) t (part .bytes)) count-is
+        ap (applied t) q
+        ∙ (ap (λ (u : List ℕ). applied t (waits (s .connection) u (x .count))) prefix-is
+        ∙ (ap (λ (k : ℕ). applied t (waits (s .connection) (part .bytes) k)) count-is
         ∙ (waited-step s t part (sym ended-is ∙ z) some-taken ∙ ap (stepOf s) (sym is-part))))
 
     -- an answer

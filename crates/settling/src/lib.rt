@@ -4,40 +4,41 @@ use frame::judge_frame;
 use handshake_effects::more;
 use handshake_effects::settle_hello;
 use handshake_effects::settle_status;
-use message::Settled;
+use message::Asked;
+use message::ask_nothing;
 use session::AWAITING_HELLO;
 use session::AWAITING_STATUS;
 use session::Connection;
-use store::Store;
-ghost use mathlib.Core.Path.{_≡_};
+use store::TABLES;
+use store::Table;
 ghost use Rattle.frame.specs.Frame.{judgeFrame};
-ghost use Rattle.message.specs.Settled.{settledOf};
-ghost use Rattle.reassembly.specs.Judge.{frameJudged, judge, effectOf};
+ghost use Rattle.message.specs.Settled.{AsksWith};
+ghost use Rattle.settling.specs.OnStores.{frameOn, judgeOn};
 
-fn settle_frame(connection: Connection, store: Store, u: &[u8]) -> Settled
-    ensures { λ r. ⌜ r ≡ settledOf (effectOf connection store (frameJudged connection store (now (u .entry)) (judgeFrame (now (u .entry))))) ⌝ }
+fn settle_frame(connection: Connection, tables: [Table; TABLES], u: &[u8]) -> Asked
+    ensures { λ r. ⌜ AsksWith connection tables (frameOn connection (now (u .entry)) (judgeFrame (now (u .entry)))) r ⌝ }
 {
     match judge_frame(u) {
-        Frame::Waiting => more(connection, store),
-        Frame::Control(kind) => message::control(connection, store, kind),
-        Frame::Error(kind) => message::peer_error(connection, store, kind),
+        Frame::Waiting => ask_nothing(more(connection)),
+        Frame::Control(kind) => ask_nothing(message::control(connection, kind)),
+        Frame::Error(kind) => ask_nothing(message::peer_error(connection, kind)),
         Frame::Body { kind, start, end } => {
-            stick_tables::stick_table(connection, store, kind, &u[start..end])
+            stick_tables::stick_table(connection, tables, kind, &u[start..end])
         }
-        Frame::Refused(number) => message::refuse(connection, store, number),
+        Frame::Refused(number) => ask_nothing(message::refuse(connection, number)),
     }
 }
 
-// What unfinished bytes come to: answer, reply, and the new connection and store. Bytes that end nothing and show no refusal come to
-// more wanted, and change nothing.
-pub fn settle(connection: Connection, store: Store, u: &[u8]) -> Settled
-    ensures { λ r. ⌜ r ≡ settledOf (effectOf connection store (judge connection store (now (u .entry)))) ⌝ }
+// What unfinished bytes come to before the entries are looked at. Bytes that end nothing and show no refusal come to more wanted, and
+// change nothing.
+pub fn settle(connection: Connection, tables: [Table; TABLES], u: &[u8]) -> Asked
+    ensures { λ r. ⌜ AsksWith connection tables (judgeOn connection (now (u .entry))) r ⌝ }
 {
     if connection.phase == AWAITING_HELLO {
-        return settle_hello(connection, store, u);
+        return ask_nothing(settle_hello(connection, u));
     }
     if connection.phase == AWAITING_STATUS {
-        return settle_status(connection, store, u);
+        return ask_nothing(settle_status(connection, u));
     }
-    settle_frame(connection, store, u)
+    settle_frame(connection, tables, u)
 }

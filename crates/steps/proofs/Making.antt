@@ -1,7 +1,7 @@
 -- The steps' code: what each function makes, and a reply at the front of a room.
 use Prim.Native.Nat.{ℕ, _+_, _≤_, _<_}
 use native.Mathlib.Omega.{arith}
-use mathlib.Core.Path.{_≡_, refl, ap, _∙_}
+use mathlib.Core.Path.{_≡_}
 use mathlib.Core.List.{List}
 use lib.ListN.{length, take}
 use borrow.Author.Needs.{needs}
@@ -9,7 +9,6 @@ use borrow.Author.Tests.{lt-ltb, le-ltb, le-leb}
 use Rattle.lists.specs.Lists.{padTo, front, overlay}
 use Rattle.lists.proofs.Bytes.{pad-take}
 use Rattle.wire.specs.Room.{putRoom}
-use Rattle.store.specs.declared.Store.{Store}
 use Rattle.session.specs.declared.Connection.{Connection}
 use Rattle.session.specs.declared.Session.{Session}
 use Rattle.session.specs.declared.Answer.{Answer}
@@ -17,7 +16,9 @@ use Rattle.session.specs.declared.Answer.the-variants as answer
 use Rattle.session.specs.declared.Reply.{Reply}
 use Rattle.session.specs.Answers.{replyOf}
 use Rattle.session.specs.Session.{holding}
-use Rattle.steps.specs.declared.Step.{Step}
+use Rattle.message.specs.declared.Change.{Change}
+use Rattle.message.specs.Settled.{noChange}
+use Rattle.steps.specs.declared.StepChange.{StepChange}
 use Rattle.steps.specs.Steps.{stays, waits, replied}
 
 -- ---- a record with unfinished bytes
@@ -27,15 +28,16 @@ pub record-made : (c : Connection) (u buffer : List ℕ) → buffer ≡ padTo 10
 unfolding holding
 record-made c u buffer e = rw e
 
-pub stay-made : (s : Session) (t : Store) (a : Answer)
-    → _≡_ {A = Step} (record { outcome = record { taken = 0; «reply_len» = 0; answer = a }; session = s; store = t }) (stays s t a)
-unfolding stays
-stay-made s t a = refl
+module _ (d : Change) (z : d ≡ noChange) where
+  pub stay-made : (s : Session) (a : Answer)
+      → _≡_ {A = StepChange} (record { outcome = record { taken = 0; «reply_len» = 0; answer = a }; session = s; change = d }) (stays s a)
+  unfolding stays
+  stay-made s a = rw z
 
-pub wait-made : (c : Connection) (s : Session) (t : Store) (u : List ℕ) (count : ℕ) → s ≡ holding c u
-    → _≡_ {A = Step} (record { outcome = record { taken = count; «reply_len» = 0; answer = answer.More }; session = s; store = t }) (waits c t u count)
-unfolding waits
-wait-made c s t u count e = rw e
+  pub wait-made : (c : Connection) (s : Session) (u : List ℕ) (count : ℕ) → s ≡ holding c u
+      → _≡_ {A = StepChange} (record { outcome = record { taken = count; «reply_len» = 0; answer = answer.More }; session = s; change = d }) (waits c u count)
+  unfolding waits
+  wait-made c s u count e = rw (e, z)
 
 pub ruleset making = (needs, record-made, stay-made, wait-made)
 

@@ -1,5 +1,7 @@
 // What a reading call by value gives back, where nothing is taken and where more is wanted.
 use lists::pad;
+use message::Change;
+use message::no_change;
 use session::Answer;
 use session::Connection;
 use session::Outcome;
@@ -17,6 +19,13 @@ pub struct Step {
     pub store: Store,
 }
 
+// The same with the change of the store in place of the store.
+pub struct StepChange {
+    pub outcome: Outcome,
+    pub session: Session,
+    pub change: Change,
+}
+
 // A record with unfinished bytes, zeros behind them.
 pub fn record_with(connection: Connection, bytes: &[u8]) -> Session
     ensures { λ r. ⌜ r ≡ holding connection (now (bytes .entry)) ⌝ }
@@ -31,25 +40,26 @@ pub fn record_with(connection: Connection, bytes: &[u8]) -> Session
     }
 }
 
-// Nothing is taken: record and store are the ones that came.
-pub fn stay(session: Session, store: Store, answer: Answer) -> Step
-    ensures { λ r. ⌜ r ≡ stays session store answer ⌝ }
+// Nothing is taken: the record is the one that came, and the store stays.
+pub fn stay(session: Session, answer: Answer) -> StepChange
+    ensures { λ r. ⌜ r ≡ stays session answer ⌝ }
 {
     let outcome = Outcome {
         taken: 0,
         reply_len: 0,
         answer,
     };
-    Step {
+    let change = no_change();
+    StepChange {
         outcome,
         session,
-        store,
+        change,
     }
 }
 
 // The whole piece is taken, and more is wanted.
-pub fn wait(connection: Connection, store: Store, bytes: &[u8], count: usize) -> Step
-    ensures { λ r. ⌜ r ≡ waits connection store (now (bytes .entry)) count ⌝ }
+pub fn wait(connection: Connection, bytes: &[u8], count: usize) -> StepChange
+    ensures { λ r. ⌜ r ≡ waits connection (now (bytes .entry)) count ⌝ }
 {
     let session = record_with(connection, bytes);
     let answer = Answer::More;
@@ -58,9 +68,10 @@ pub fn wait(connection: Connection, store: Store, bytes: &[u8], count: usize) ->
         reply_len: 0,
         answer,
     };
-    Step {
+    let change = no_change();
+    StepChange {
         outcome,
         session,
-        store,
+        change,
     }
 }

@@ -1,54 +1,57 @@
 // What each stick table message does to session and store, by its type.
 use body::AcknowledgementBody;
 use lists::Found;
+use message::Asked;
 use message::Settled;
+use message::ask_nothing;
+use message::no_change;
 use message::refuse;
 use message::skipped;
 use replies::no_reply;
 use session::Answer;
 use session::Connection;
-use store::Store;
+use store::TABLES;
+use store::Table;
 use table_definition::definition;
 use updates::incremental;
 use updates::update;
 use wire::Field;
-ghost use mathlib.Core.Path.{_≡_};
-ghost use Rattle.session.specs.Session.{findBound};
-ghost use Rattle.message.specs.Effects.{switchTo, switch, acknowledgement, stickTable};
-ghost use Rattle.message.specs.Settled.{settledOf};
+ghost use Rattle.message.specs.OnStores.{switchToOn, switchOn, acknowledgementOn, stickTableOn};
+ghost use Rattle.message.specs.Settled.{SettlesAll, AsksWith};
 
-fn switch_to(connection: Connection, store: Store, id: u32) -> Settled
-    ensures { λ r. ⌜ r ≡ settledOf (switchTo connection store (findBound connection id)) ⌝ }
+fn switch_to(connection: Connection, id: u32) -> Settled
+    ensures { λ r. ⌜ SettlesAll (switchToOn connection id) r ⌝ }
 {
     match bindings::find_bound(connection, id) {
         Found::At(place) => {
             let switched = session::make_current(connection, place);
             let reply = no_reply();
+            let change = no_change();
             Settled {
                 answer: Answer::Switch(place),
                 reply,
                 connection: switched,
-                store,
+                change,
             }
         }
-        Found::Nothing => refuse(connection, store, 27),
+        Found::Nothing => refuse(connection, 27),
     }
 }
 
 // A switch: the table bound to its ID becomes current.
-pub fn switch(connection: Connection, store: Store, body: &[u8]) -> Settled
-    ensures { λ r. ⌜ r ≡ settledOf (switch connection store (now (body .entry))) ⌝ }
+pub fn switch(connection: Connection, body: &[u8]) -> Settled
+    ensures { λ r. ⌜ SettlesAll (switchOn connection (now (body .entry))) r ⌝ }
 {
     match body::read_switch(body) {
-        Field::Value { value, next: _ } => switch_to(connection, store, value as u32),
-        Field::Short => refuse(connection, store, 23),
-        Field::OutOfRange => refuse(connection, store, 24),
+        Field::Value { value, next: _ } => switch_to(connection, value as u32),
+        Field::Short => refuse(connection, 23),
+        Field::OutOfRange => refuse(connection, 24),
     }
 }
 
 // An acknowledgement changes nothing.
-pub fn acknowledgement(connection: Connection, store: Store, body: &[u8]) -> Settled
-    ensures { λ r. ⌜ r ≡ settledOf (acknowledgement connection store (now (body .entry))) ⌝ }
+pub fn acknowledgement(connection: Connection, body: &[u8]) -> Settled
+    ensures { λ r. ⌜ SettlesAll (acknowledgementOn connection (now (body .entry))) r ⌝ }
 {
     match body::read_acknowledgement(body) {
         AcknowledgementBody::Fields {
@@ -57,28 +60,29 @@ pub fn acknowledgement(connection: Connection, store: Store, body: &[u8]) -> Set
             next: _,
         } => {
             let reply = no_reply();
+            let change = no_change();
             Settled {
                 answer: Answer::Acknowledgement { id, update },
                 reply,
                 connection,
-                store,
+                change,
             }
         }
-        AcknowledgementBody::Short => refuse(connection, store, 23),
-        AcknowledgementBody::OutOfRange => refuse(connection, store, 24),
+        AcknowledgementBody::Short => refuse(connection, 23),
+        AcknowledgementBody::OutOfRange => refuse(connection, 24),
     }
 }
 
 // A stick table message of this type, from 128 up, with its body.
-pub fn stick_table(connection: Connection, store: Store, kind: u8, body: &[u8]) -> Settled
-    ensures { λ r. ⌜ r ≡ settledOf (stickTable connection store kind (now (body .entry))) ⌝ }
+pub fn stick_table(connection: Connection, tables: [Table; TABLES], kind: u8, body: &[u8]) -> Asked
+    ensures { λ r. ⌜ AsksWith connection tables (stickTableOn connection kind (now (body .entry))) r ⌝ }
 {
     match kind {
-        128 => update(connection, store, body),
-        129 => incremental(connection, store, body),
-        130 => definition(connection, store, body),
-        131 => switch(connection, store, body),
-        133 => acknowledgement(connection, store, body),
-        _ => skipped(connection, store, kind),
+        128 => update(connection, tables, body),
+        129 => incremental(connection, tables, body),
+        130 => ask_nothing(definition(connection, tables, body)),
+        131 => ask_nothing(switch(connection, body)),
+        133 => ask_nothing(acknowledgement(connection, body)),
+        _ => ask_nothing(skipped(connection, kind)),
     }
 }

@@ -7,12 +7,12 @@ use message::table_at;
 use replies::no_reply;
 use session::Answer;
 use session::Connection;
-use store::Store;
+use store::TABLES;
 use store::Table;
 ghost use mathlib.Core.Path.{_≡_};
-ghost use Rattle.store.specs.Store.{findTable, freeTable};
-ghost use Rattle.message.specs.Effects.{defineAt, defineNew, agrees, defineNamed, definition};
-ghost use Rattle.message.specs.Settled.{settledOf};
+ghost use Rattle.message.specs.Effects.{agrees};
+ghost use Rattle.message.specs.OnStores.{defineAtOn, defineNewOn, defineNamedOn, definitionOn};
+ghost use Rattle.message.specs.Settled.{SettlesAll, SettlesWith};
 
 // Whether a held table agrees with a defined one.
 fn agree(held: Table, defined: Table) -> bool
@@ -28,49 +28,54 @@ fn agree(held: Table, defined: Table) -> bool
 }
 
 // The defined table goes to a place, and the ID to it alone.
-fn define_at(connection: Connection, store: Store, id: u32, table: Table, place: usize) -> Settled
-    ensures { λ r. ⌜ r ≡ settledOf (defineAt connection store id table place) ⌝ }
+fn define_at(connection: Connection, id: u32, table: Table, place: usize) -> Settled
+    ensures { λ r. ⌜ SettlesAll (defineAtOn connection id table place) r ⌝ }
 {
     let bound = bindings::bind_table(connection, place, id);
     let reply = no_reply();
-    let put = store::put_table(store, place, table);
+    let change = message::table_change(place, table);
     Settled {
         answer: Answer::Table(place),
         reply,
         connection: bound,
-        store: put,
+        change,
     }
 }
 
 // A name that isn't held takes the lowest free place.
-fn define_new(connection: Connection, store: Store, id: u32, table: Table) -> Settled
-    ensures { λ r. ⌜ r ≡ settledOf (defineNew connection store id table (freeTable store)) ⌝ }
+fn define_new(connection: Connection, tables: [Table; TABLES], id: u32, table: Table) -> Settled
+    ensures { λ r. ⌜ SettlesWith tables (defineNewOn connection id table) r ⌝ }
 {
-    match lookup::free_table(store) {
-        Found::At(place) => define_at(connection, store, id, table, place),
-        Found::Nothing => refuse(connection, store, 26),
+    match lookup::free_table(tables) {
+        Found::At(place) => define_at(connection, id, table, place),
+        Found::Nothing => refuse(connection, 26),
     }
 }
 
 // The table held under the name must agree with the defined one, which takes its place.
-fn define_named(connection: Connection, store: Store, id: u32, table: Table, name: &[u8]) -> Settled
-    ensures { λ r. ⌜ r ≡ settledOf (defineNamed connection store id table (findTable store (now (name .entry)))) ⌝ }
+fn define_named(
+    connection: Connection,
+    tables: [Table; TABLES],
+    id: u32,
+    table: Table,
+    name: &[u8],
+) -> Settled
+    ensures { λ r. ⌜ SettlesWith tables (defineNamedOn connection id table (now (name .entry))) r ⌝ }
 {
-    match lookup::find_table(store, name) {
+    match lookup::find_table(tables, name) {
         Found::At(place) => {
-            let tables = store.tables;
             if agree(table_at(tables, place), table) {
-                return define_at(connection, store, id, table, place);
+                return define_at(connection, id, table, place);
             }
-            refuse(connection, store, 25)
+            refuse(connection, 25)
         }
-        Found::Nothing => define_new(connection, store, id, table),
+        Found::Nothing => define_new(connection, tables, id, table),
     }
 }
 
 // A definition: its fields, then the table that it describes.
-pub fn definition(connection: Connection, store: Store, body: &[u8]) -> Settled
-    ensures { λ r. ⌜ r ≡ settledOf (definition connection store (now (body .entry))) ⌝ }
+pub fn definition(connection: Connection, tables: [Table; TABLES], body: &[u8]) -> Settled
+    ensures { λ r. ⌜ SettlesWith tables (definitionOn connection (now (body .entry))) r ⌝ }
 {
     let d = definition_body::read_definition(body);
     let reading = d.reading;
@@ -89,9 +94,9 @@ pub fn definition(connection: Connection, store: Store, body: &[u8]) -> Settled
                 periods,
             };
             let table = store::make_table(name, described);
-            define_named(connection, store, d.id, table, name)
+            define_named(connection, tables, d.id, table, name)
         }
-        Reading::Short => refuse(connection, store, 23),
-        Reading::OutOfRange => refuse(connection, store, 24),
+        Reading::Short => refuse(connection, 23),
+        Reading::OutOfRange => refuse(connection, 24),
     }
 }

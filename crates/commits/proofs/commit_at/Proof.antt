@@ -2,9 +2,6 @@ use Rattle.message.proofs.Committing.{committing}
 use Rattle.commits.proofs.commit_at.Statement.{statement}
 use Rattle.commits.proofs.commit_at.Tie as tie
 
-put-entry-requires : tie.Need-put-entry-requires
-put-entry-requires c κs = search committing
-
 commit-update-requires : tie.Need-commit-update-requires
 commit-update-requires c κs = search committing
 
@@ -14,6 +11,9 @@ binding-at-requires c κs = search committing
 acknowledge-requires : tie.Need-acknowledge-requires
 acknowledge-requires c κs = search committing
 
+entry-change-requires : tie.Need-entry-change-requires
+entry-change-requires c κs = search committing
+
 returns : tie.Need-returns
 returns c = search committing
 
@@ -21,8 +21,8 @@ pub commit-at-spec : {M : Type 1} → statement M
 commit-at-spec =
     tie.close
     (tie.spec
-    put-entry-requires
     commit-update-requires
     binding-at-requires
     acknowledge-requires
+    entry-change-requires
     returns)

@@ -1,4 +1,4 @@
-use Rattle.reassembly.proofs.Settling.{hellos}
+use Rattle.handshake_effects.proofs.Judging.{hellos}
 use Rattle.handshake_effects.proofs.settle_hello.Statement.{statement}
 use Rattle.handshake_effects.proofs.settle_hello.Tie as tie
 

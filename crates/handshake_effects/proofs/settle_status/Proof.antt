@@ -1,4 +1,4 @@
-use Rattle.reassembly.proofs.Settling.{statuses}
+use Rattle.handshake_effects.proofs.Judging.{statuses}
 use Rattle.handshake_effects.proofs.settle_status.Statement.{statement}
 use Rattle.handshake_effects.proofs.settle_status.Tie as tie
 

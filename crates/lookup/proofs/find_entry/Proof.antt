@@ -1,28 +1,29 @@
-use Rattle.store.proofs.Lookup.{looking, Looking, Matching, no-long-key, shaped-keys, look, look-past, match-fails}
-use Rattle.store.proofs.Typed.{store-shape}
+use Prim.Native.Nat.{_-_}
 use mathlib.Core.Path.{refl}
 use mathlib.Core.Logic.{⊎-elim}
-use Prim.Native.Nat.{_-_}
+use Rattle.lookup.proofs.Looking.{looking, Looking, Matching, array-keys, look, look-past, look-next, byte-differs, key-too-long}
 use Rattle.lookup.proofs.find_entry.Statement.{statement}
 use Rattle.lookup.proofs.find_entry.Tie as tie
 
 abbrev Inv-bytes : tie.InvT-bytes
-Inv-bytes table key n entries i bytes j₀ j = Matching table key n entries i bytes j
+Inv-bytes table key entries n free i e bytes j₀ j = Matching table key n entries free i bytes j
 
 abbrev μ-bytes : tie.MeasureT-bytes
-μ-bytes table key n entries i bytes j₀ j = n - j
+μ-bytes table key entries n free i e bytes j₀ j = n - j
 
 abbrev Inv-entries : tie.InvT-entries
-Inv-entries table key n entries i₀ i = Looking table key n entries i
+Inv-entries table key entries n free₀ i₀ free i = Looking table key n entries free i
 
 abbrev μ-entries : tie.MeasureT-entries
-μ-entries table key n entries i₀ i = 128 - i
-
-returns : tie.Need-returns Inv-bytes μ-bytes Inv-entries μ-entries
-returns c = let a = c .before .before in no-long-key (a .args .store) (a .args .table) (a .args .key .now) (shaped-keys (a .args .store) (store-shape (a .args .store) _ (a .good .0))) (c .if1 .taken)
+μ-entries table key entries n free₀ i₀ free i = 128 - i
 
 entries-holds : tie.Need-entries-holds Inv-bytes μ-bytes Inv-entries μ-entries
-entries-holds c = let a = c .before .before .before in look (a .args .table) (a .args .key .now) _ (shaped-keys (a .args .store) (store-shape (a .args .store) _ (a .good .0))) refl (c .before .if1 .left)
+entries-holds c =
+    let a = c .before in
+    look (a .args .table) (a .args .key .now) _ (array-keys (a .args .t1) _ (a .good .0)) refl
+
+free-place-requires : tie.Need-free-place-requires Inv-bytes μ-bytes Inv-entries μ-entries
+free-place-requires c κs = search looking
 
 mul-e : tie.Need-mul-e Inv-bytes μ-bytes Inv-entries μ-entries
 mul-e c = search looking
@@ -51,6 +52,9 @@ bytes-less c = search looking
 bytes-again : tie.Need-bytes-again Inv-bytes μ-bytes Inv-entries μ-entries
 bytes-again c = search looking
 
+next-free-requires : tie.Need-next-free-requires Inv-bytes μ-bytes Inv-entries μ-entries
+next-free-requires c κs = search looking
+
 add-i : tie.Need-add-i Inv-bytes μ-bytes Inv-entries μ-entries
 add-i c = search looking
 
@@ -59,18 +63,24 @@ entries-less c = search looking
 
 entries-again : tie.Need-entries-again Inv-bytes μ-bytes Inv-entries μ-entries
 entries-again c =
-    ⊎-elim
-    (λ w. match-fails (w .2 .inv) (w .3 .left) (w .5 .taken))
-    (λ w.
-    let a = c .before .before .before in
-    look-past (a .before .entries .inv) (a .if2 .left) (c .before .entry-of .ensures) (w .left))
-    (c .if3 .came)
+    let a = c .before .before .before .before in
+    let r = a .before .entries .inv in
+    look-next
+    r
+    (a .if1 .left)
+    (⊎-elim
+    (λ w. key-too-long (w .2 .inv) (w .3 .left) (w .4 .taken))
+    (⊎-elim
+    (λ w. byte-differs (w .2 .inv) (w .3 .left) (w .4 .left) (w .6 .taken))
+    (λ w. look-past r (c .before .before .entry-of .ensures) (w .left)))
+    (c .before .if2 .came))
+    (c .next-free .ensures)
+
+returns : tie.Need-returns Inv-bytes μ-bytes Inv-entries μ-entries
+returns c = search looking
 
 returns-2 : tie.Need-returns-2 Inv-bytes μ-bytes Inv-entries μ-entries
 returns-2 c = search looking
-
-returns-3 : tie.Need-returns-3 Inv-bytes μ-bytes Inv-entries μ-entries
-returns-3 c = search looking
 
 pub find-entry-spec : {M : Type 1} → statement M
 find-entry-spec =
@@ -80,8 +90,8 @@ find-entry-spec =
     μ-bytes
     Inv-entries
     μ-entries
-    returns
     entries-holds
+    free-place-requires
     mul-e
     array-copy-out-e
     entry-of-requires
@@ -91,8 +101,9 @@ find-entry-spec =
     add-j
     bytes-less
     bytes-again
+    next-free-requires
     add-i
     entries-less
     entries-again
-    returns-2
-    returns-3)
+    returns
+    returns-2)

@@ -1,15 +1,21 @@
-use Rattle.reassembly.proofs.Settling.{phases}
+use Rattle.settling.proofs.Judging.{phases}
 use Rattle.settling.proofs.settle.Statement.{statement}
 use Rattle.settling.proofs.settle.Tie as tie
 
 settle-hello-requires : tie.Need-settle-hello-requires
 settle-hello-requires c κs = search phases
 
+ask-nothing-requires : tie.Need-ask-nothing-requires
+ask-nothing-requires c κs = search phases
+
 returns : tie.Need-returns
 returns c = search phases
 
 settle-status-requires : tie.Need-settle-status-requires
 settle-status-requires c κs = search phases
+
+ask-nothing-requires-2 : tie.Need-ask-nothing-requires-2
+ask-nothing-requires-2 c κs = search phases
 
 returns-2 : tie.Need-returns-2
 returns-2 c = search phases
@@ -25,8 +31,10 @@ settle-spec =
     tie.close
     (tie.spec
     settle-hello-requires
+    ask-nothing-requires
     returns
     settle-status-requires
+    ask-nothing-requires-2
     returns-2
     settle-frame-requires
     returns-3)

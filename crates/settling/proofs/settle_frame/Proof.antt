@@ -1,4 +1,4 @@
-use Rattle.reassembly.proofs.Settling.{frames}
+use Rattle.settling.proofs.Judging.{frames}
 use Rattle.settling.proofs.settle_frame.Statement.{statement}
 use Rattle.settling.proofs.settle_frame.Tie as tie
 
@@ -11,17 +11,26 @@ enum-told c = search frames
 more-requires : tie.Need-more-requires
 more-requires c κs = search frames
 
+ask-nothing-requires : tie.Need-ask-nothing-requires
+ask-nothing-requires c κs = search frames
+
 enum-known-kind : tie.Need-enum-known-kind
 enum-known-kind c = search frames
 
 control-requires : tie.Need-control-requires
 control-requires c κs = search frames
 
+ask-nothing-requires-2 : tie.Need-ask-nothing-requires-2
+ask-nothing-requires-2 c κs = search frames
+
 enum-known-kind-2 : tie.Need-enum-known-kind-2
 enum-known-kind-2 c = search frames
 
 peer-error-requires : tie.Need-peer-error-requires
 peer-error-requires c κs = search frames
+
+ask-nothing-requires-3 : tie.Need-ask-nothing-requires-3
+ask-nothing-requires-3 c κs = search frames
 
 enum-known-kind-3 : tie.Need-enum-known-kind-3
 enum-known-kind-3 c = search frames
@@ -43,6 +52,9 @@ enum-known-number c = search frames
 
 refuse-requires : tie.Need-refuse-requires
 refuse-requires c κs = search frames
+
+ask-nothing-requires-4 : tie.Need-ask-nothing-requires-4
+ask-nothing-requires-4 c κs = search frames
 
 returns : tie.Need-returns
 returns c = search frames
@@ -66,10 +78,13 @@ settle-frame-spec =
     judge-frame-requires
     enum-told
     more-requires
+    ask-nothing-requires
     enum-known-kind
     control-requires
+    ask-nothing-requires-2
     enum-known-kind-2
     peer-error-requires
+    ask-nothing-requires-3
     enum-known-kind-3
     sub-stick-table
     part-stick-table-start
@@ -77,6 +92,7 @@ settle-frame-spec =
     stick-table-requires
     enum-known-number
     refuse-requires
+    ask-nothing-requires-4
     returns
     returns-2
     returns-3

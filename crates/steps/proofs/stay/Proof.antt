@@ -2,8 +2,11 @@ use Rattle.steps.proofs.Making.{making}
 use Rattle.steps.proofs.stay.Statement.{statement}
 use Rattle.steps.proofs.stay.Tie as tie
 
+no-change-requires : tie.Need-no-change-requires
+no-change-requires c κs = search making
+
 returns : tie.Need-returns
 returns c = search making
 
 pub stay-spec : {M : Type 1} → statement M
-stay-spec = tie.close (tie.spec returns)
+stay-spec = tie.close (tie.spec no-change-requires returns)

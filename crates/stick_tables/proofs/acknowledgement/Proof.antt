@@ -11,6 +11,9 @@ enum-known-id c = search noting
 no-reply-requires : tie.Need-no-reply-requires
 no-reply-requires c κs = search noting
 
+no-change-requires : tie.Need-no-change-requires
+no-change-requires c κs = search noting
+
 enum-told : tie.Need-enum-told
 enum-told c = search noting
 
@@ -39,6 +42,7 @@ acknowledgement-spec =
     read-acknowledgement-requires
     enum-known-id
     no-reply-requires
+    no-change-requires
     enum-told
     refuse-requires
     enum-told-2

@@ -11,14 +11,26 @@ incremental-requires c κs = search typing
 definition-requires : tie.Need-definition-requires
 definition-requires c κs = search typing
 
+ask-nothing-requires : tie.Need-ask-nothing-requires
+ask-nothing-requires c κs = search typing
+
 switch-requires : tie.Need-switch-requires
 switch-requires c κs = search typing
+
+ask-nothing-requires-2 : tie.Need-ask-nothing-requires-2
+ask-nothing-requires-2 c κs = search typing
 
 acknowledgement-requires : tie.Need-acknowledgement-requires
 acknowledgement-requires c κs = search typing
 
+ask-nothing-requires-3 : tie.Need-ask-nothing-requires-3
+ask-nothing-requires-3 c κs = search typing
+
 skipped-requires : tie.Need-skipped-requires
 skipped-requires c κs = search typing
+
+ask-nothing-requires-4 : tie.Need-ask-nothing-requires-4
+ask-nothing-requires-4 c κs = search typing
 
 returns : tie.Need-returns
 returns c = search typing
@@ -45,9 +57,13 @@ stick-table-spec =
     update-requires
     incremental-requires
     definition-requires
+    ask-nothing-requires
     switch-requires
+    ask-nothing-requires-2
     acknowledgement-requires
+    ask-nothing-requires-3
     skipped-requires
+    ask-nothing-requires-4
     returns
     returns-2
     returns-3

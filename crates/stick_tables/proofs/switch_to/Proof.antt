@@ -14,6 +14,9 @@ make-current-requires c κs = search switching
 no-reply-requires : tie.Need-no-reply-requires
 no-reply-requires c κs = search switching
 
+no-change-requires : tie.Need-no-change-requires
+no-change-requires c κs = search switching
+
 enum-told : tie.Need-enum-told
 enum-told c = search switching
 
@@ -34,6 +37,7 @@ switch-to-spec =
     enum-known-place
     make-current-requires
     no-reply-requires
+    no-change-requires
     enum-told
     refuse-requires
     returns

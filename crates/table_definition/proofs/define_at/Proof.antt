@@ -8,12 +8,12 @@ bind-table-requires c κs = search defining
 no-reply-requires : tie.Need-no-reply-requires
 no-reply-requires c κs = search defining
 
-put-table-requires : tie.Need-put-table-requires
-put-table-requires c κs = search defining
+table-change-requires : tie.Need-table-change-requires
+table-change-requires c κs = search defining
 
 returns : tie.Need-returns
 returns c = search defining
 
 pub define-at-spec : {M : Type 1} → statement M
 define-at-spec =
-    tie.close (tie.spec bind-table-requires no-reply-requires put-table-requires returns)
+    tie.close (tie.spec bind-table-requires no-reply-requires table-change-requires returns)

@@ -2,8 +2,8 @@ use Rattle.message.proofs.Updating.{updating}
 use Rattle.updates.proofs.incremental.Statement.{statement}
 use Rattle.updates.proofs.incremental.Tie as tie
 
-refuse-requires : tie.Need-refuse-requires
-refuse-requires c κs = search updating
+ask-refusal-requires : tie.Need-ask-refusal-requires
+ask-refusal-requires c κs = search updating
 
 returns : tie.Need-returns
 returns c = search updating
@@ -20,4 +20,4 @@ returns-2 c = search updating
 pub incremental-spec : {M : Type 1} → statement M
 incremental-spec =
     tie.close
-    (tie.spec refuse-requires returns sub-incremental-of incremental-of-requires returns-2)
+    (tie.spec ask-refusal-requires returns sub-incremental-of incremental-of-requires returns-2)

@@ -5,8 +5,8 @@ use Rattle.updates.proofs.incremental_of.Tie as tie
 binding-at-requires : tie.Need-binding-at-requires
 binding-at-requires c κs = search updating
 
-refuse-requires : tie.Need-refuse-requires
-refuse-requires c κs = search updating
+ask-refusal-requires : tie.Need-ask-refusal-requires
+ask-refusal-requires c κs = search updating
 
 returns : tie.Need-returns
 returns c = search updating
@@ -31,7 +31,7 @@ incremental-of-spec =
     tie.close
     (tie.spec
     binding-at-requires
-    refuse-requires
+    ask-refusal-requires
     returns
     wrapping-add-u32-requires
     table-at-requires

@@ -2,8 +2,8 @@ use Rattle.message.proofs.Updating.{updating}
 use Rattle.updates.proofs.update.Statement.{statement}
 use Rattle.updates.proofs.update.Tie as tie
 
-refuse-requires : tie.Need-refuse-requires
-refuse-requires c κs = search updating
+ask-refusal-requires : tie.Need-ask-refusal-requires
+ask-refusal-requires c κs = search updating
 
 returns : tie.Need-returns
 returns c = search updating
@@ -27,7 +27,7 @@ pub update-spec : {M : Type 1} → statement M
 update-spec =
     tie.close
     (tie.spec
-    refuse-requires
+    ask-refusal-requires
     returns
     sub-place
     table-at-requires
