@@ -2,9 +2,12 @@
 
 #![forbid(unsafe_code)]
 
+pub mod archive;
 pub mod measure;
 pub mod plain;
 pub mod receivers;
+pub mod rows;
+pub mod shares;
 pub mod streams;
 
 pub use peers::layout;

@@ -1,161 +1,132 @@
 //! Prints what a reading call costs, beside two other receivers on the same streams in the same run.
 
-use bench::measure::{alone, prepared, times, Load};
-use bench::plain;
-use bench::receivers::{Library, Plain, Receiver, Second, ROOM};
-use bench::streams::{filling, message, updates};
-use std::hint::black_box;
+#![forbid(unsafe_code)]
+
+use bench::measure::{calls, clock, in_turns, times, Load, MESSAGES};
+use bench::receivers::{Library, Plain, Second, ROOM};
+use bench::rows::{heading, heading_of_bytes, row, row_of_bytes, row_of_ratios};
+use bench::streams::{filling, long_filling, long_updates, message, update, updates};
+use bench::{archive, shares};
 
 /// Rounds of each measurement, of which the best counts.
-const ROUNDS: usize = 15;
+const ROUNDS: usize = 100;
 
-/// Measures one load and prints a line of it.
-fn line(name: &str, load: &Load) {
-    let t = times::<Library, Plain, Second>(load, ROUNDS);
-    println!(
-        "{name:<44} {:>9.0} {:>9.0} {:>9.0} {:>10.0} {:>7.2} {:>7.2}",
-        t.library,
-        t.plain,
-        t.second,
-        1e9 / t.library,
-        t.library / t.plain,
-        t.library / t.second
-    );
-}
-
-fn heading(title: &str) {
-    println!("\n{title}");
-    println!(
-        "{:<44} {:>9} {:>9} {:>9} {:>10} {:>7} {:>7}",
-        "", "library", "plain", "second", "per second", "/plain", "/second"
-    );
-}
-
-/// Messages per second by what the store holds, and by how many messages a piece has.
+/// Heartbeats, and updates of held keys.
 fn store_levels() {
-    heading("One call, in nanoseconds, by entries held");
+    heading("By entries held");
+    let heartbeats = |entries| Load::new(filling(entries), vec![vec![0, 4]; MESSAGES]);
+    row("0 entries, heartbeat", times(&heartbeats(0), ROUNDS));
     for (level, entries) in [("1 entry", 1), ("64 entries", 64), ("128 entries", 128)] {
-        let pieces = updates(400, entries);
-        let heartbeats = vec![vec![0, 4]; 400];
-        let many = vec![pieces.concat()];
-        for (what, pieces) in [
-            ("heartbeat", heartbeats),
-            ("update, one to a piece", pieces),
-            ("update, 400 to a piece", many),
+        let single = Load::new(filling(entries), updates(MESSAGES as u32, entries));
+        let joined = Load {
+            messages: MESSAGES,
+            ..Load::new(filling(entries), vec![single.pieces.concat()])
+        };
+        for (what, load) in [
+            ("heartbeat", &heartbeats(entries)),
+            ("update, one to a piece", &single),
+            ("update, 40 to a piece", &joined),
         ] {
-            let before = filling(entries);
-            line(&format!("{level}, {what}"), &Load { before, pieces });
+            row(&format!("{level}, {what}"), times(load, ROUNDS));
         }
     }
 }
 
-/// One message of growing length, whole and byte by byte.
-fn piece_lengths() {
-    heading("One message of n body bytes in one piece");
-    for body in [0, 16, 64, 256, 1024] {
-        let pieces = vec![message(200, &vec![7; body]); 400];
-        let before = filling(1);
-        line(&format!("{body} bytes"), &Load { before, pieces });
+/// Updates of keys that aren't held.
+fn new_keys() {
+    heading(&format!(
+        "An update of a new key, each to a clone of the state; the clock's {:.0} ns are in it",
+        clock(ROUNDS)
+    ));
+    for entries in [0, 64, 127] {
+        let load = Load::cloned(filling(entries), update(1000, entries), MESSAGES);
+        row(&format!("{entries} entries before"), times(&load, ROUNDS));
     }
-    heading("A heartbeat at the front of a piece of n bytes");
-    for len in [2, 100, 10_000, 1_000_000] {
-        front_of_piece(len);
+}
+
+/// One message of growing length.
+fn lengths() {
+    heading_of_bytes("One message of n body bytes in one piece");
+    for body in [0, 16, 64, 256, 1024] {
+        let whole = message(200, &vec![7; body]);
+        let len = whole.len();
+        let load = Load::new(filling(1), vec![whole; MESSAGES]);
+        row_of_bytes(&format!("{body} bytes"), times(&load, ROUNDS), len);
+    }
+}
+
+/// One message whole and in pieces, down to byte by byte.
+fn reassembly() {
+    let whole = message(200, &[7; 1024]);
+    heading_of_bytes(&format!("One message of {} bytes in pieces", whole.len()));
+    for (piece, messages, rounds) in [
+        (whole.len(), MESSAGES, ROUNDS),
+        (256, 10, ROUNDS),
+        (16, 1, ROUNDS),
+        (1, 1, 20),
+    ] {
+        let pieces: Vec<_> = whole.chunks(piece).map(<[u8]>::to_vec).collect();
+        let load = Load {
+            messages,
+            ..Load::new(filling(1), vec![pieces; messages].concat())
+        };
+        let name = format!("pieces of {piece}, best of {rounds} rounds");
+        row_of_bytes(&name, times(&load, rounds), whole.len());
     }
 }
 
 /// What one call costs where most of its piece stays untaken.
-fn front_of_piece(len: usize) {
-    let load = Load {
-        before: filling(1),
-        pieces: vec![],
-    };
-    let piece = [vec![0, 4], vec![0; len - 2]].concat();
-    let mut room = [0; ROOM];
-    let mut library: Library = prepared(&load);
-    let mut plain: Plain = prepared(&load);
-    let mut second: Second = prepared(&load);
-    let a = alone(ROUNDS, 400, || _ = library.read(&piece, &mut room));
-    let b = alone(ROUNDS, 400, || _ = plain.read(&piece, &mut room));
-    let c = alone(ROUNDS, 400, || _ = second.read(&piece, &mut room));
-    println!(
-        "{:<44} {a:>9.0} {b:>9.0} {c:>9.0} {:>10.0} {:>7.2} {:>7.2}",
-        format!("{len} bytes"),
-        1e9 / a,
-        a / b,
-        a / c
-    );
-}
-
-/// The cost of a call after many messages.
-fn message_counts() {
-    heading("An update of 128 held keys, after n messages");
-    for earlier in [0, 1_000, 10_000, 100_000] {
-        let mut before = filling(128);
-        before.extend(vec![[0, 4]; earlier].concat());
-        let pieces = updates(400, 128);
-        line(&format!("{earlier} messages"), &Load { before, pieces });
+fn fronts() {
+    heading("A heartbeat at the front of a piece of n bytes");
+    let load = Load::new(filling(1), vec![]);
+    let library: Library = load.receiver();
+    let plain: Plain = load.receiver();
+    let second: Second = load.receiver();
+    for len in [2, 100, 10_000, 1_000_000] {
+        let piece = &[vec![0, 4], vec![0; len - 2]].concat();
+        let times = in_turns(
+            ROUNDS,
+            [
+                &mut || calls(&library, piece, &mut [0; ROOM]),
+                &mut || calls(&plain, piece, &mut [0; ROOM]),
+                &mut || calls(&second, piece, &mut [0; ROOM]),
+            ],
+        );
+        row(&format!("{len} bytes"), times);
     }
 }
 
-/// Where the time of a call goes, with 128 entries.
-fn shares() {
-    println!("\nWhere the time goes, with 128 entries held, in nanoseconds");
-    let load = Load {
-        before: filling(128),
-        pieces: vec![],
-    };
-    let piece = &updates(1, 128)[0];
-    let mut room = [0; ROOM];
-    let mut library: Library = prepared(&load);
-    let mut narrow = [0; ROOM - 1];
-    let refused = alone(ROUNDS, 400, || {
-        black_box(library.session.read(&mut library.store, piece, &mut narrow));
+/// Many messages in one session.
+fn message_counts() {
+    heading("n updates of 128 held keys, one after another");
+    for (count, rounds) in [(1_000, 15), (10_000, 5), (100_000, 2)] {
+        let load = Load::new(filling(128), updates(count, 128));
+        let name = format!("{count} updates, best of {rounds} rounds");
+        row(&name, times(&load, rounds));
+    }
+}
+
+/// Keys with one mark have to be compared themselves.
+fn one_mark() {
+    heading("An update of 128 held keys of 64 bytes");
+    let [apart, same] = [false, true].map(|twins| {
+        let load = Load::new(long_filling(twins), long_updates(MESSAGES as u32, twins));
+        times(&load, ROUNDS)
     });
-    println!(
-        "{:<44} {refused:>9.0}",
-        "library: refused with 1, before any test"
-    );
-    let mut closed = library.clone();
-    closed.take_all(&[1, 0]);
-    let tested = alone(ROUNDS, 400, || {
-        black_box(closed.session.read(&mut closed.store, piece, &mut room));
-    });
-    println!(
-        "{:<44} {tested:>9.0}",
-        "library: refused with 2, after all tests"
-    );
-    let whole = alone(ROUNDS, 400, || _ = library.read(piece, &mut room));
-    println!("{:<44} {whole:>9.0}", "library: an update");
-    let mut own: Plain = prepared(&load);
-    let sound = alone(ROUNDS, 400, || {
-        assert!(plain::is_sound(black_box(&own.session), &own.store));
-    });
-    println!("{:<44} {sound:>9.0}", "plain: the test of soundness alone");
-    let pairs = alone(ROUNDS, 400, || {
-        assert!(plain::pairs_are_distinct(black_box(&own.store.entries)));
-    });
-    println!(
-        "{:<44} {pairs:>9.0}",
-        "plain: all pairs of keys compared instead"
-    );
-    let received = alone(ROUNDS, 400, || {
-        black_box(plain::receive(
-            &mut own.session,
-            &mut own.store,
-            piece,
-            &mut room,
-        ));
-    });
-    println!(
-        "{:<44} {received:>9.0}",
-        "plain: an update without that test"
-    );
+    row("128 entries", apart);
+    row("128 entries, two keys with one mark", same);
+    row_of_ratios("two keys with one mark to none", same, apart);
 }
 
 fn main() {
-    println!("Best of {ROUNDS} rounds, receivers in turns; ratios are library to plain and library to second.");
+    println!("Library: {}", archive::text());
+    println!("Best of {ROUNDS} rounds where no other number is told, receivers in turns.");
     store_levels();
-    piece_lengths();
+    new_keys();
+    lengths();
+    reassembly();
+    fronts();
     message_counts();
-    shares();
+    one_mark();
+    shares::print(ROUNDS);
 }

@@ -1,7 +1,15 @@
-//! Time per message, taken from the best of several rounds in which the receivers take turns.
+//! Nanoseconds per message: the best of several rounds, in which all that is compared takes turns.
 
-use crate::receivers::{Receiver, Role};
-use std::time::Instant;
+use crate::receivers::{Library, Plain, Receiver, Role, Second};
+use std::hint::black_box;
+use std::time::{Duration, Instant};
+
+/// How many times a call is made, or a message offered, before the clock is asked.
+pub const MESSAGES: usize = 40;
+
+/// How long a round is at the least: so long that every receiver is warm, and so short that a busy machine seldom interrupts it. Where
+/// the slower receiver alone had longer rounds, it would be interrupted more, and its ratio would show that.
+const ROUND: Duration = Duration::from_millis(1);
 
 /// What is measured: a state to start from, and pieces that are each offered until taken.
 pub struct Load {
@@ -9,61 +17,112 @@ pub struct Load {
     pub before: Vec<u8>,
     /// Pieces that are timed.
     pub pieces: Vec<Vec<u8>>,
+    /// How many messages all pieces hold.
+    pub messages: usize,
+    /// Whether each piece goes to a clone of its own, and is timed by itself.
+    pub cloned: bool,
 }
 
-/// Nanoseconds per call of each receiver.
-#[derive(Clone, Copy)]
-pub struct Times {
-    /// The static library.
-    pub library: f64,
-    /// The plain receiver.
-    pub plain: f64,
-    /// The second program's.
-    pub second: f64,
+impl Load {
+    /// Pieces of one message, taken one after another.
+    pub fn new(before: Vec<u8>, pieces: Vec<Vec<u8>>) -> Load {
+        Load {
+            messages: pieces.len(),
+            before,
+            pieces,
+            cloned: false,
+        }
+    }
+
+    /// One message, taken so many times by a clone of the state before.
+    pub fn cloned(before: Vec<u8>, piece: Vec<u8>, times: usize) -> Load {
+        Load {
+            cloned: true,
+            ..Load::new(before, vec![piece; times])
+        }
+    }
+
+    /// A receiver that has taken what comes before.
+    pub fn receiver<R: Receiver>(&self) -> R {
+        let mut receiver = R::open(Role::Answerer);
+        receiver.take_all(&self.before);
+        receiver
+    }
 }
 
-/// Nanoseconds per call in one round.
-fn round<R: Receiver>(start: &R, load: &Load) -> f64 {
-    let mut receiver = start.clone();
-    let began = Instant::now();
-    let calls: usize = load.pieces.iter().map(|p| receiver.take_all(p)).sum();
-    began.elapsed().as_nanos() as f64 / calls as f64
-}
-
-/// A receiver that has taken what comes before.
-pub fn prepared<R: Receiver>(load: &Load) -> R {
-    let mut receiver = R::open(Role::Answerer);
-    receiver.take_all(&load.before);
-    receiver
-}
-
-/// The best of `rounds`, in turns.
-pub fn times<A: Receiver, B: Receiver, C: Receiver>(load: &Load, rounds: usize) -> Times {
-    let (a, b, c) = (
-        prepared::<A>(load),
-        prepared::<B>(load),
-        prepared::<C>(load),
-    );
-    let mut best = Times {
-        library: f64::MAX,
-        plain: f64::MAX,
-        second: f64::MAX,
-    };
+/// The best of several rounds, in turns; a round gives nanoseconds.
+pub fn in_turns<const N: usize>(rounds: usize, mut all: [&mut dyn FnMut() -> f64; N]) -> [f64; N] {
+    let mut best = [f64::MAX; N];
     for _ in 0..rounds {
-        best.library = best.library.min(round(&a, load));
-        best.plain = best.plain.min(round(&b, load));
-        best.second = best.second.min(round(&c, load));
+        for (best, round) in best.iter_mut().zip(&mut all) {
+            *best = best.min(round());
+        }
     }
     best
 }
 
-/// Nanoseconds of one call of a function, the best of several rounds.
-pub fn alone(rounds: usize, calls: usize, mut function: impl FnMut()) -> f64 {
-    let mut best = f64::MAX;
-    for _ in 0..rounds {
-        let began = Instant::now();
-        (0..calls).for_each(|_| function());
-        best = best.min(began.elapsed().as_nanos() as f64 / calls as f64);
+/// Nanoseconds per message of the library, the plain receiver and the second program's.
+pub fn times(load: &Load, rounds: usize) -> [f64; 3] {
+    let library: Library = load.receiver();
+    let plain: Plain = load.receiver();
+    let second: Second = load.receiver();
+    in_turns(
+        rounds,
+        [
+            &mut || round(&library, load),
+            &mut || round(&plain, load),
+            &mut || round(&second, load),
+        ],
+    )
+}
+
+/// Nanoseconds per message in one round: the load again and again, each time from the start.
+pub fn round<R: Receiver>(start: &R, load: &Load) -> f64 {
+    let part = match load.cloned {
+        true => 1,
+        false => load.pieces.len(),
+    };
+    let (mut spent, mut messages) = (Duration::ZERO, 0);
+    while spent < ROUND {
+        let parts = load.pieces.chunks(part);
+        spent += parts.map(|pieces| taking(start, pieces)).sum();
+        messages += load.messages;
     }
+    spent.as_nanos() as f64 / messages as f64
+}
+
+/// How long a clone takes for some pieces.
+fn taking<R: Receiver>(start: &R, pieces: &[Vec<u8>]) -> Duration {
+    let mut receiver = start.clone();
+    let began = Instant::now();
+    for piece in pieces {
+        black_box(receiver.take_all(black_box(piece)));
+    }
+    began.elapsed()
+}
+
+/// Nanoseconds of one call that is made again and again, whatever it takes.
+pub fn calls<R: Receiver>(start: &R, piece: &[u8], room: &mut [u8]) -> f64 {
+    let mut receiver = start.clone();
+    repeated(|| _ = black_box(receiver.read(black_box(piece), room)))
+}
+
+/// Nanoseconds of a function that is called again and again.
+pub fn repeated(mut function: impl FnMut()) -> f64 {
+    let (began, mut count) = (Instant::now(), 0);
+    while began.elapsed() < ROUND {
+        (0..MESSAGES).for_each(|_| function());
+        count += MESSAGES;
+    }
+    began.elapsed().as_nanos() as f64 / count as f64
+}
+
+/// Nanoseconds that the clock itself takes.
+pub fn clock(rounds: usize) -> f64 {
+    let mut round = || {
+        let spent: Duration = (0..MESSAGES).map(|_| Instant::now().elapsed()).sum();
+        spent.as_nanos() as f64 / MESSAGES as f64
+    };
+    let [best] = in_turns(rounds, [&mut round]);
     best
 }

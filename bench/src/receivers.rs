@@ -23,7 +23,7 @@ pub trait Receiver: Clone {
     fn reconnect(&mut self, role: Role);
 
     /// One reading call: the bytes taken.
-    fn read(&mut self, piece: &[u8], room: &mut [u8; ROOM]) -> usize;
+    fn read(&mut self, piece: &[u8], room: &mut [u8]) -> usize;
 
     /// One reading call, with all that it told.
     fn told(&mut self, piece: &[u8], room: &mut [u8]) -> Told;
@@ -107,7 +107,7 @@ impl Receiver for Library {
         self.session = session(role);
     }
 
-    fn read(&mut self, piece: &[u8], room: &mut [u8; ROOM]) -> usize {
+    fn read(&mut self, piece: &[u8], room: &mut [u8]) -> usize {
         self.session.read(&mut self.store, piece, room).taken
     }
 
@@ -141,7 +141,7 @@ impl Receiver for Plain {
         self.session = *session(role).layout();
     }
 
-    fn read(&mut self, piece: &[u8], room: &mut [u8; ROOM]) -> usize {
+    fn read(&mut self, piece: &[u8], room: &mut [u8]) -> usize {
         plain::read(&mut self.session, &mut self.store, piece, room).taken
     }
 
@@ -204,7 +204,7 @@ impl Receiver for Second {
         self.record = Record::opened(role, b"east", b"west");
     }
 
-    fn read(&mut self, piece: &[u8], room: &mut [u8; ROOM]) -> usize {
+    fn read(&mut self, piece: &[u8], room: &mut [u8]) -> usize {
         second::call::read(&mut self.record, &mut self.store, piece, room).taken
     }
 

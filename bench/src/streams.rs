@@ -41,7 +41,10 @@ pub fn key(number: u32) -> Vec<u8> {
 
 /// An update of a key in the current table.
 pub fn update(id: u32, number: u32) -> Vec<u8> {
-    let key = key(number);
+    update_of(id, &key(number))
+}
+
+fn update_of(id: u32, key: &[u8]) -> Vec<u8> {
     let mut body = id.to_be_bytes().to_vec();
     body.push(key.len() as u8);
     body.extend(key);
@@ -64,4 +67,36 @@ pub fn updates(count: u32, entries: u32) -> Vec<Vec<u8>> {
     (0..count)
         .map(|n| update(1000 + n, n.wrapping_mul(37) % entries))
         .collect()
+}
+
+// ---- keys of 64 bytes
+
+/// The key of one of 128 entries. With `twins` the last key has the first one's mark: as the mark is
+/// `(mark * 65599 + word) % 2147483647` over words of four bytes, one more in the first word is 65599 less in the second.
+pub fn long_key(number: u32, twins: bool) -> Vec<u8> {
+    if !(twins && number == 127) {
+        return format!("{number:k>64}").into_bytes();
+    }
+    let mut key = long_key(0, false);
+    let [first, second] = [0, 4].map(|at| word(&key[at..at + 4]));
+    key[..4].copy_from_slice(&(first + 1).to_le_bytes());
+    key[4..8].copy_from_slice(&(second - 65_599).to_le_bytes());
+    key
+}
+
+fn word(bytes: &[u8]) -> u32 {
+    bytes.iter().rev().fold(0, |n, &b| n << 8 | u32::from(b))
+}
+
+/// As `filling(128)`, with keys of 64 bytes.
+pub fn long_filling(twins: bool) -> Vec<u8> {
+    let mut bytes = filling(0);
+    bytes.extend((0..128).flat_map(|n| update_of(n, &long_key(n, twins))));
+    bytes
+}
+
+/// As `updates`, of these keys.
+pub fn long_updates(count: u32, twins: bool) -> Vec<Vec<u8>> {
+    let key = |n: u32| long_key(n.wrapping_mul(37) % 128, twins);
+    (0..count).map(|n| update_of(1000 + n, &key(n))).collect()
 }

@@ -1,7 +1,8 @@
 //! The three receivers tell the same on the same calls, and the library and the plain one leave the same record and store.
 
+use bench::plain::mark;
 use bench::receivers::{Library, Plain, Receiver, Role, Second};
-use bench::streams::{filling, message, updates};
+use bench::streams::{filling, long_filling, long_updates, message, updates, HELLO};
 use second::generate;
 use second::replay::{command, Command};
 
@@ -42,6 +43,16 @@ impl All {
         library.0
     }
 
+    /// Calls until all bytes are taken.
+    fn take(&mut self, bytes: &[u8]) {
+        let mut rest = bytes;
+        while !rest.is_empty() {
+            let taken = self.call(rest, 12);
+            assert!(taken > 0, "an open session takes a byte");
+            rest = &rest[taken..];
+        }
+    }
+
     fn states_agree(&self) {
         assert!(*self.library.session.layout() == self.plain.session);
         assert!(self.library.store.layout() == &*self.plain.store);
@@ -54,10 +65,22 @@ fn on_the_benchmark_streams() {
     let mut bytes = filling(128);
     bytes.extend(updates(200, 128).concat());
     bytes.extend(message(200, &[7; 1024]));
-    let mut rest = &bytes[..];
-    while !rest.is_empty() {
-        let taken = all.call(rest, 12);
-        rest = &rest[taken..];
+    all.take(&bytes);
+    for piece in bytes[HELLO.len()..].chunks(16) {
+        all.take(piece);
+    }
+}
+
+#[test]
+fn on_keys_of_which_two_have_one_mark() {
+    for twins in [false, true] {
+        let mut all = All::open(Role::Answerer);
+        all.take(&long_filling(twins));
+        all.take(&long_updates(200, twins).concat());
+        let mut marks: Vec<_> = all.plain.store.entries.iter().map(mark).collect();
+        marks.sort_unstable();
+        marks.dedup();
+        assert_eq!(marks.len(), 128 - usize::from(twins));
     }
 }
 

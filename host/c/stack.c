@@ -3,15 +3,26 @@
 #include "test.h"
 #include <pthread.h>
 
-#define STACK (1 << 20)
+#define STACK (4 << 20)
+
+/* A reading call, and the answer that it must give. */
+struct reading {
+    const char *name;
+    const char *piece;
+    size_t len;
+    uint32_t number;
+    struct state state;
+};
 
 static void *nothing(void *argument) { return argument; }
 
 static void *one_call(void *argument) {
-    struct state *state = argument;
-    static const uint8_t piece[] = {10, 128, 9, 0, 0, 0, 9, 'k', 'e', 'y', 't', 7};
+    struct reading *reading = argument;
+    struct state state = reading->state;
     uint8_t reply[12];
-    CHECK(peers_read(state->session, state->store, piece, sizeof piece, reply, sizeof reply).number == PEERS_UPDATE);
+    struct peers_outcome outcome =
+        peers_read(state.session, state.store, (const uint8_t *)reading->piece, reading->len, reply, sizeof reply);
+    CHECK(outcome.number == reading->number);
     return NULL;
 }
 
@@ -44,14 +55,30 @@ static size_t stack_of(void *(*function)(void *), void *argument) {
     return STACK - untouched;
 }
 
+/* The most that one of the messages of a session takes beyond what the thread itself does. */
+static void print_readings(struct state state, size_t thread) {
+    struct reading readings[] = {
+        {"hello", "HAProxyS 2.1\neast\nwest 7 0\n", 27, PEERS_HELLO, state},
+        {"definition", "\x0A\x82\x06\x01\x01t\x00\x04\x04", 9, PEERS_TABLE, state},
+        {"update", "\x0A\x80\x09\x00\x00\x00\x09keyt\x07", 12, PEERS_UPDATE, state},
+        {"incremental", "\x0A\x81\x05keyt\x08", 8, PEERS_UPDATE, state},
+    };
+    size_t most = 0, at = 0;
+    for (size_t i = 0; i < sizeof readings / sizeof *readings; i++) {
+        size_t used = stack_of(one_call, &readings[i]) - thread;
+        if (used > most) most = used, at = i;
+    }
+    printf("stack of a reading call: %zu bytes (%s, the most of hello, definition, update and incremental)\n", most,
+           readings[at].name);
+}
+
 int main(void) {
     static struct peers_opened opened;
     edge = EDGE_BEFORE;
     struct state state = lend_state();
-    establish(state);
-    define(state, 1, "t", PEERS_KEY_INTEGER, 4, 1u << PEERS_GPC0);
+    open_answerer(state);
     size_t thread = stack_of(nothing, NULL);
-    printf("stack of a reading call: %zu bytes\n", stack_of(one_call, &state) - thread);
+    print_readings(state, thread);
     printf("stack of opening: %zu bytes\n", stack_of(one_opening, &opened) - thread);
     printf("stack of an empty store: %zu bytes\n", stack_of(one_store, state.store) - thread);
     give_back_state(state);

@@ -9,7 +9,8 @@ mod wire;
 
 use crate::layout::{Connection, Outcome, Session, Store, UNFINISHED_MAX};
 
-pub use sound::{is_sound, pairs_are_distinct};
+use sound::is_sound;
+pub use sound::mark;
 
 /// Room that a reading call asks for.
 const READING_ROOM: usize = 12;

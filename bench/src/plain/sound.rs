@@ -4,7 +4,7 @@ use super::frame::{self, Frame};
 use super::handshake::{hello_waits, is_name};
 use super::message::{has, is_wide, key_length_fits, SLOT_TYPES};
 use crate::layout::{
-    Binding, Connection, Entry, Session, Store, Table, ENTRIES, TABLES, UNFINISHED_MAX,
+    Binding, Connection, Entry, Session, Store, Table, ENTRIES, NAME_MAX, TABLES, UNFINISHED_MAX,
 };
 
 /// Whether record and store are what the rules allow together.
@@ -78,7 +78,7 @@ fn keys_are_distinct(entries: &[Entry]) -> bool {
 }
 
 /// A number for a table and key, modulo a prime: four bytes at a time, as the library takes them.
-fn mark(entry: &Entry) -> u32 {
+pub fn mark(entry: &Entry) -> u32 {
     const PRIME: u64 = 2_147_483_647;
     let words = entry.key[..entry.key_len].chunks_exact(4);
     let last = words.remainder().iter().map(|&b| u64::from(b));
@@ -88,7 +88,7 @@ fn mark(entry: &Entry) -> u32 {
 }
 
 /// The same by comparing all pairs. Key bytes past the length are zero, so whole arrays are compared.
-pub fn pairs_are_distinct(entries: &[Entry]) -> bool {
+fn pairs_are_distinct(entries: &[Entry]) -> bool {
     let same = |a: &Entry, b: &Entry| {
         b.held == 1 && a.table == b.table && a.key_len == b.key_len && a.key == b.key
     };
@@ -99,16 +99,21 @@ pub fn pairs_are_distinct(entries: &[Entry]) -> bool {
 
 // ---- the record
 
+/// All of it is zeros but for the closed mark and the number.
 fn is_refused_opening(session: &Session) -> bool {
     let c = &session.connection;
+    let empty = |b: &Binding| b.bound == 0 && b.updated == 0 && b.id == 0 && b.previous == 0;
     c.closed == 1
         && matches!(c.number, 1 | 3)
-        && session.len == 0
         && c.phase == 0
         && c.current == 0
         && c.local_len == 0
         && c.remote_len == 0
-        && c.bindings.iter().all(|b| b.bound == 0 && b.updated == 0)
+        && session.len == 0
+        && c.local == [0; NAME_MAX]
+        && c.remote == [0; NAME_MAX]
+        && c.bindings.iter().all(empty)
+        && session.buffer == [0; UNFINISHED_MAX]
 }
 
 fn record_is_sound(session: &Session, store: &Store) -> bool {

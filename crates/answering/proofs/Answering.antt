@@ -4,6 +4,7 @@ use native.Mathlib.Omega.{arith}
 use mathlib.Core.Path.{_≡_, refl, sym, ap, _∙_}
 use mathlib.Core.List.{List, []}
 use lib.ListN.{length, take}
+use mathlib.Core.Bool.{false}
 use lib.Seq.{length-take-le}
 use borrow.Author.Needs.{needs}
 use Rattle.store.specs.declared.Store.{Store}
@@ -15,10 +16,11 @@ use Rattle.session.specs.Session.{holding}
 use Rattle.message.specs.declared.Settled.{Settled}
 use Rattle.message.specs.declared.Asked.{Asked}
 use Rattle.message.specs.Effects.{Effect}
-use Rattle.message.specs.Settled.{Settles, AsksWith, Finishes}
+use Rattle.message.specs.Settled.{Settles, Asks, AsksWith, Finishes}
 use Rattle.reassembly.specs.Judge.{judge, effectOf}
 use Rattle.settling.specs.OnStores.{judgeOn}
-use Rattle.steps.specs.Steps.{applied, answers, replied}
+use Rattle.steps.specs.declared.StepChange.{StepChange}
+use Rattle.steps.specs.Steps.{gives, applied, answers, replied}
 use Rattle.steps.proofs.Making.{replied-long, replied-short}
 
 -- ---- the reply
@@ -33,25 +35,46 @@ pub ruleset replying = (needs, prefix-length, prefix-within, replied-long, repli
 
 -- ---- the answer
 
--- where a is what the bytes ask for, and x what that comes to
-module _ (c : Connection) (t : Store) (u : List ℕ) (a : Asked) (p : AsksWith c (t .tables) (judgeOn c u) a) (x : Settled)
-    (q : Finishes c (t .entries) a x) where
+pub gave : (x : Settled) (s : Session) (count : ℕ) → s ≡ holding (x .connection) []
+    → _≡_ {A = StepChange}
+    (record { outcome = record { taken = count; «reply_len» = x .reply .len; answer = x .answer }; session = s; change = x .change })
+    (gives count x)
+unfolding gives
+gave x s count e = rw e
+
+pub ruleset giving = (needs, gave)
+
+module _ (t : Store) (e : Effect) (x : Settled) (h : Settles t e x) where
+  len-is : x .reply .len ≡ length (e .reply)
+  unfolding replyOf
+  len-is = ap (λ (k : Reply). k .len) (h .reply)
+
+  settled-made : (count : ℕ) → applied t (gives count x) ≡ answers count e
+  unfolding applied gives answers
+  settled-made count = rw (len-is, h .answer, h .connection, h .store)
+
+-- where a is what the bytes ask for
+module _ (c : Connection) (t : Store) (u : List ℕ) (a : Asked) (p : AsksWith c (t .tables) (judgeOn c u) a) (count : ℕ) (r : StepChange) where
   abbrev effect : Effect
   effect = effectOf c t (judge c t u)
 
-  settles : Settles t effect x
+  asks : Asks c t effect a
   unfolding judgeOn
-  settles = q .on t effect refl (p .on t refl)
+  asks = p .on t refl
 
-  len-is : x .reply .len ≡ length (effect .reply)
-  unfolding replyOf
-  len-is = ap (λ (k : Reply). k .len) (settles .reply)
+  module _ (x : Settled) (q : Finishes c (t .entries) a x) where
+    pub commit-made : r ≡ gives count x → applied t r ≡ answers count (effectOf c t (judge c t u))
+    commit-made e = ap (applied t) e ∙ settled-made t effect x (q .on t effect refl asks) count
 
-  pub answer-made : (s : Session) (count : ℕ) → s ≡ holding (x .connection) []
-      → applied t (record { outcome = record { taken = count; «reply_len» = x .reply .len; answer = x .answer }; session = s; change = x .change })
-      ≡ answers count (effectOf c t (judge c t u))
-  unfolding applied answers
-  answer-made s count e = rw (e, len-is, settles .answer, settles .connection, settles .store)
+    pub commit-replied : (room final : List ℕ) → final ≡ replied (x .reply) room → final ≡ replied (replyOf (effectOf c t (judge c t u) .reply)) room
+    commit-replied room final e = e ∙ ap (λ (k : Reply). replied k room) (q .on t effect refl asks .reply)
 
-  pub answer-replied : (room final : List ℕ) → final ≡ replied (x .reply) room → final ≡ replied (replyOf (effectOf c t (judge c t u) .reply)) room
-  answer-replied room final e = e ∙ ap (λ (k : Reply). replied k room) (settles .reply)
+  module _ (z : a .commits ≡ false) where
+    pub answer-made : r ≡ gives count (a .settled) → applied t r ≡ answers count (effectOf c t (judge c t u))
+    answer-made e = ap (applied t) e ∙ settled-made t effect (a .settled) (asks .settles z) count
+
+    pub answer-replied : (room final : List ℕ) → final ≡ replied (a .settled .reply) room
+        → final ≡ replied (replyOf (effectOf c t (judge c t u) .reply)) room
+    answer-replied room final e = e ∙ ap (λ (k : Reply). replied k room) (asks .settles z .reply)
+
+pub ruleset answering = (needs, commit-made, commit-replied, answer-made, answer-replied)

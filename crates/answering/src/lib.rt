@@ -1,5 +1,6 @@
 // What a reading call comes to, where its bytes come to an answer.
 use commits::finish;
+use message::Settled;
 use session::Connection;
 use session::Outcome;
 use session::Reply;
@@ -10,7 +11,7 @@ use store::Store;
 ghost use mathlib.Core.Path.{_≡_};
 ghost use Rattle.session.specs.Answers.{replyOf};
 ghost use Rattle.reassembly.specs.Judge.{judge, effectOf};
-ghost use Rattle.steps.specs.Steps.{applied, answers, replied};
+ghost use Rattle.steps.specs.Steps.{gives, applied, answers, replied};
 
 // The reply goes to the front of the room, if both have room for it.
 fn put_reply(room: &mut [u8], reply: Reply)
@@ -24,20 +25,11 @@ fn put_reply(room: &mut [u8], reply: Reply)
     room::put_bytes(room, 0, &text[..n]);
 }
 
-// The bytes come to an answer; its reply stands at the front of the room.
-pub fn answer(
-    connection: Connection,
-    store: Store,
-    bytes: &[u8],
-    count: usize,
-    reply: &mut [u8],
-) -> StepChange
-    ensures result { λ r. ⌜ applied store r ≡ answers count (effectOf connection store (judge connection store (now (bytes .entry)))) ⌝ }
-    ensures content { λ _. ⌜ now (reply .exit) ≡ replied (replyOf (effectOf connection store (judge connection store (now (bytes .entry))) .reply)) (now (reply .entry)) ⌝ }
+// A settled message is answered; its reply stands at the front of the room.
+fn give(settled: Settled, count: usize, reply: &mut [u8]) -> StepChange
+    ensures result { λ r. ⌜ r ≡ gives count settled ⌝ }
+    ensures content { λ _. ⌜ now (reply .exit) ≡ replied (settled .reply) (now (reply .entry)) ⌝ }
 {
-    let tables = store.tables;
-    let entries = store.entries;
-    let settled = finish(connection, entries, settle(connection, tables, bytes));
     let written = settled.reply;
     put_reply(reply, written);
     let next = settled.connection;
@@ -54,4 +46,25 @@ pub fn answer(
         session,
         change,
     }
+}
+
+// The bytes come to an answer. The entries are handed on only where one is committed.
+pub fn answer(
+    connection: Connection,
+    store: Store,
+    bytes: &[u8],
+    count: usize,
+    reply: &mut [u8],
+) -> StepChange
+    ensures result { λ r. ⌜ applied store r ≡ answers count (effectOf connection store (judge connection store (now (bytes .entry)))) ⌝ }
+    ensures content { λ _. ⌜ now (reply .exit) ≡ replied (replyOf (effectOf connection store (judge connection store (now (bytes .entry))) .reply)) (now (reply .entry)) ⌝ }
+{
+    let tables = store.tables;
+    let asked = settle(connection, tables, bytes);
+    if asked.commits {
+        let entries = store.entries;
+        return give(finish(connection, entries, asked), count, reply);
+    }
+    let settled = asked.settled;
+    give(settled, count, reply)
 }

@@ -1,24 +1,25 @@
 -- What was read as a definition is its encoding: the bytes of each field, one directly behind the other, and then the bytes that are ignored.
-use Prim.Native.Nat.{ℕ, _+_}
+use Prim.Native.Nat.{ℕ, _+_, _<_}
 use native.Mathlib.Omega.{arith}
-use mathlib.Core.Path.{_≡_, ap, _∙_}
-use mathlib.Core.List.{List, [], _++_, append-assoc}
-use mathlib.Core.Bool.{cond}
-use lib.ListN.{length, drop}
+use mathlib.Core.Path.{_≡_, refl, ap, _∙_}
+use mathlib.Core.List.{List, [], _∷_, _++_, append-assoc}
+use mathlib.Core.Bool.{false, cond}
+use lib.ListN.{length, drop, getD, replicate, getD-replicate}
 use lib.Seq.{drop-length}
 use lib.Dec.{eqb}
 use borrow.Author.Tests.{eqb-true}
-use Rattle.lists.proofs.Cases.{cond-true, cond-false}
+use Rattle.lists.proofs.Cases.{never, cond-true, cond-false}
 use Rattle.wire.specs.Integer.{encodeInt}
 use Rattle.wire.specs.Value.{Bytes}
 use Rattle.store.specs.declared.Table.{Table}
 use Rattle.store.specs.Limits.{nameMax, keyLengthOk, dataTypesOk, present, rateTypes}
 use Rattle.store.specs.Store.{nameOf}
-use Rattle.body.specs.Fields.{got, integer, between, integerOf, spanIn, bytes}
+use Rattle.store.proofs.Rules.{rate-count}
+use Rattle.body.specs.Fields.{got, forEach, integer, between, integerOf, spanIn, bytes}
 use Rattle.body.specs.Bodies.{Named, namedFields, isKeyType, Shape, shapeFields, pairField, periodField, periodFields, Times, noTimes, timesThere, timesFields, Definition, defined, restFields, definitionFields}
 use Rattle.body.specs.Encodings.{eachBytes, periodBytes, timesBytes, definitionBytes}
-use Rattle.body.proofs.Taken.{Holds, held}
-use Rattle.body.proofs.Encoding.{holds-cond, holds-got, holds-each, holds-then, Stands, stands-none, stands-then, Encoded, Passed, integer-passed, integer-encoded, width-encoded, PartOf, bytes-encoded, each-encoded}
+use Rattle.body.proofs.Taken.{Holds, held, Along, along-at}
+use Rattle.body.proofs.Encoding.{holds-cond, holds-got, holds-each, holds-both, holds-then, Stands, stands-none, stands-then, Encoded, Passed, integer-passed, integer-encoded, width-encoded, PartOf, bytes-encoded, each-encoded}
 
 -- a table with the name, the shape and the times that were read
 pub record TableRead (body : List ℕ) (d : Definition) (t : Table) : Type 0 where
@@ -40,10 +41,16 @@ shapeBytes h = encodeInt (h .keyType) ++ (encodeInt (h .keyLength) ++ encodeInt 
 abbrev timesOf : ℕ → Times → List ℕ
 timesOf types x = cond (eqb (x .timed) 1) (encodeInt (x .expiry) ++ eachBytes (periodBytes types) rateTypes (x .periods)) []
 
--- where a body has no times, it ends there
+-- a number that is 0 where the data type t isn't present
+abbrev Absent : ℕ → ℕ → ℕ → Type 0
+Absent types t v = present types t ≡ false → v ≡ 0
+
+-- where a body has no times, it ends there, and expiry and periods are 0; so is the period of a rate type that isn't present
 record TimesAt (types : ℕ) (s : List ℕ) (at : ℕ) (x : Times) (next : ℕ) : Type 0 where
   here : Stands s (timesOf types x) at next
   ends : x .timed ≡ 0 → next ≡ length s
+  none : x .timed ≡ 0 → (x .expiry ≡ 0) × (x .periods ≡ replicate 8 0)
+  absent : (i : ℕ) → i < 8 → Absent types (getD rateTypes i 0) (getD (x .periods) i 0)
 
 module _ (s : List ℕ) (b : Bytes s) where
   named-encoded : (at : ℕ) → Holds (Encoded (nameBytes s) s at) (namedFields s at)
@@ -82,23 +89,51 @@ module _ (s : List ℕ) (b : Bytes s) where
       (λ e. holds-each _ Q (pairField t s at) (pair-encoded t at) λ v next r. unfold periodBytes in rw (cond-true _ _ _ e) r)
       (λ e. holds-got Q 0 at (unfold periodBytes in rw (cond-false _ _ _ e) (stands-none s at)))
 
+  period-absent : (types t at : ℕ) → Holds (λ v next. Absent types t v) (periodField types t s at)
+  unfolding periodField
+  period-absent types t at =
+      let Q : ℕ → ℕ → Type 0 = λ v next. Absent types t v in
+      holds-cond Q (present types t) (pairField t s at) (got 0 at)
+      (λ e. holds-each _ Q (pairField t s at) (pair-encoded t at) λ v next r q. never e q)
+      (λ e. holds-got Q 0 at (λ q. refl))
+
+  periods-absent : (types : ℕ) (ts : List ℕ) (at : ℕ) → Holds (λ vs next. Along (Absent types) ts vs) (forEach (periodField types) ts s at)
+  unfolding forEach Along
+  periods-absent types [] at = holds-got (λ (vs : List ℕ) (next : ℕ). Along (Absent types) [] vs) [] at tt
+  periods-absent types (t ∷ ts) at =
+      let Q : List ℕ → ℕ → Type 0 = λ vs next. Along (Absent types) (t ∷ ts) vs in
+      holds-then (λ v next. Absent types t v) Q (periodField types t s at) _ (period-absent types t at) λ v at₁ q.
+      holds-then (λ vs next. Along (Absent types) ts vs) Q (forEach (periodField types) ts s at₁) _ (periods-absent types ts at₁) λ vs at₂ r.
+      holds-got Q (v ∷ vs) at₂ (q, r)
+
   times-encoded : (types at : ℕ) → Holds (TimesAt types s at) (timesFields types s at)
   unfolding timesFields timesThere
   times-encoded types at =
       let Q : Times → ℕ → Type 0 = TimesAt types s at in
       holds-cond Q (eqb at (length s)) (got noTimes at) (timesThere types s at)
-      (λ e. holds-got Q noTimes at (record { here = stands-none s at; ends = λ z. eqb-true at (length s) e }))
+      (λ e. holds-got Q noTimes at (record { here = stands-none s at; ends = λ z. eqb-true at (length s) e; none = λ z. (refl, refl); absent = λ i l q. getD-replicate {A = ℕ} 8 i 0 0 l }))
       (λ e.
       holds-then (Encoded encodeInt s at) Q (integerOf 32 s at) _ (width-encoded s b 32 at) λ expiry at₁ p.
-      holds-then (Encoded (eachBytes (periodBytes types) rateTypes) s at₁) Q (periodFields types s at₁) _
-      (each-encoded (periodField types) (periodBytes types) s (period-encoded types) rateTypes at₁) λ periods at₂ q.
-      holds-got Q _ at₂ (record { here = stands-then s p q; ends = λ z. absurd (omega (arith, z)) }))
+      holds-then (λ periods next. Encoded (eachBytes (periodBytes types) rateTypes) s at₁ periods next × Along (Absent types) rateTypes periods) Q
+      (periodFields types s at₁) _
+      (holds-both _ _ (periodFields types s at₁)
+      (each-encoded (periodField types) (periodBytes types) s (period-encoded types) rateTypes at₁)
+      (periods-absent types rateTypes at₁)) λ periods at₂ q.
+      holds-got Q _ at₂
+      (record {
+        here = stands-then s p (q .0);
+        ends = λ z. absurd (omega (arith, z));
+        none = λ z. absurd (omega (arith, z));
+        absent = λ i l. along-at (Absent types) rateTypes periods (q .1) i (omega (arith, rate-count));
+      }))
 
 -- ---- the whole of it
 -- a definition whose encoding stands where it was read
 record DefinitionAt (s : List ℕ) (d : Definition) (next : ℕ) : Type 0 where
   here : (t : Table) → TableRead s d t → Stands s (definitionBytes (d .id) t) 0 next
   ends : d .times .timed ≡ 0 → next ≡ length s
+  none : d .times .timed ≡ 0 → (d .times .expiry ≡ 0) × (d .times .periods ≡ replicate 8 0)
+  absent : (i : ℕ) → i < 8 → Absent (d .dataTypes) (getD rateTypes i 0) (getD (d .times .periods) i 0)
 
 module _ (s : List ℕ) (named : Named) (shape : Shape) (times : Times) (t : Table) (r : TableRead s (defined named shape times) t) where
   times-are : timesBytes t ≡ timesOf (shape .dataTypes) times
@@ -121,6 +156,8 @@ module _ (s : List ℕ) (b : Bytes s) where
       (record {
         here = λ t h. rw (← definition-is s named shape times t h) (stands-then s p (stands-then s q (r .here)));
         ends = r .ends;
+        none = r .none;
+        absent = r .absent;
       })
 
   module _ (d : Definition) (next : ℕ) (q : definitionFields s ≡ got d next) where
@@ -131,3 +168,11 @@ module _ (s : List ℕ) (b : Bytes s) where
     -- none are, where it has no times
     pub definition-ends : d .times .timed ≡ 0 → drop next s ≡ []
     definition-ends z = ap (λ (n : ℕ). drop n s) (held (DefinitionAt s) _ definition-read d next q .ends z) ∙ drop-length s
+
+    -- then expiry and periods are 0
+    pub definition-none : d .times .timed ≡ 0 → (d .times .expiry ≡ 0) × (d .times .periods ≡ replicate 8 0)
+    definition-none z = held (DefinitionAt s) _ definition-read d next q .none z
+
+    -- so is the period of a rate type that isn't present
+    pub definition-absent : (i : ℕ) → i < 8 → present (d .dataTypes) (getD rateTypes i 0) ≡ false → getD (d .times .periods) i 0 ≡ 0
+    definition-absent i l h = held (DefinitionAt s) _ definition-read d next q .absent i l h

@@ -42,6 +42,13 @@ module _ {A : Type 0} (P : A → ℕ → Type 0) where
   holds-each Q short h f = tt
   holds-each Q outside h f = tt
 
+module _ {A : Type 0} (P Q : A → ℕ → Type 0) where
+  pub holds-both : (x : Read A) → Holds P x → Holds Q x → Holds (λ a next. P a next × Q a next) x
+  unfolding Holds
+  holds-both (got a next) h k = (h, k)
+  holds-both short h k = tt
+  holds-both outside h k = tt
+
 module _ {A B : Type 0} (P : A → ℕ → Type 0) (Q : B → ℕ → Type 0) where
   pub holds-then : (x : Read A) (f : A → ℕ → Read B) → Holds P x → ((a : A) (n : ℕ) → P a n → Holds Q (f a n)) → Holds Q (andThen x f)
   unfolding Holds andThen

@@ -11,3 +11,4 @@ pub mod Spans
 pub mod Encoding
 pub mod UpdateEncoding
 pub mod DefinitionEncoding
+pub mod OneEncoding

@@ -10,6 +10,7 @@ use lib.IntN.{ℤ, pos}
 use Rattle.lists.proofs.Cases.{cond-true, cond-false}
 use Rattle.wire.specs.Integer.{encodeInt}
 use Rattle.wire.specs.Number.{encodeNumber}
+use Rattle.wire.specs.Server.{serverWord}
 use Rattle.wire.specs.Value.{Bytes}
 use Rattle.store.specs.declared.Table.{Table}
 use Rattle.store.specs.declared.Entry.{Entry}
@@ -18,7 +19,7 @@ use Rattle.store.specs.Store.{keyOf}
 use Rattle.store.proofs.Rules.{slot-count}
 use Rattle.body.specs.Fields.{got, integer, between, integerOf, Span, spanIn, bytes, number4, serverId}
 use Rattle.body.specs.Bodies.{stringField, keyField, serverField, slotField, valueFields, Data, dataFields, Update, entryFields, updateFields, incrementalFields}
-use Rattle.body.specs.Encodings.{eachBytes, keyBytes, serverBytes, valueBytes, dataBytes, entryBytes, updateBytes, incrementalBytes, slotStart}
+use Rattle.body.specs.Encodings.{eachBytes, keyBytes, serverBytes, valueBytes, dataBytes, entryBytes, updateBytes, incrementalBytes, serverStart, slotStart}
 use Rattle.body.proofs.Taken.{Holds, held}
 use Rattle.body.proofs.Encoding.{holds-cond, holds-got, holds-each, holds-then, Stands, stands-none, stands-then, Encoded, integer-encoded, width-encoded, number-encoded, server-encoded, PartOf, bytes-encoded, each-encoded}
 
@@ -162,3 +163,30 @@ module _ (t : Table) (e : Entry) (i : ℕ) (l : i < 34) (size : length (e .value
   pub slot-there : (p rest : List ℕ) → take (length value) (drop (length p + slotStart t e i) (p ++ (entryBytes t e ++ rest))) ≡ value
   slot-there p rest =
       rw (entry-split p rest, ← start-is p, drop-append-seam (p ++ (key ++ (id ++ before))) (value ++ (behind ++ rest))) (take-append-seam value (behind ++ rest))
+
+-- where data type 0 is present, the server ID starts behind the key
+module _ (t : Table) (e : Entry) (h : present (t .«data_types») 0 ≡ true) where
+  abbrev word : List ℕ
+  word = encodeInt (serverWord (e .«server_id»))
+
+  abbrev before-id : List ℕ
+  before-id = keyBytes (t .«key_type») (keyOf e)
+
+  abbrev behind-id : List ℕ
+  behind-id = eachBytes (valueBytes (t .«data_types»)) slotTypes (e .values)
+
+  word-there : serverBytes (t .«data_types») (e .«server_id») ≡ word
+  unfolding serverBytes
+  word-there = cond-true _ _ _ h
+
+  server-split : (p rest : List ℕ) → p ++ (entryBytes t e ++ rest) ≡ (p ++ before-id) ++ (word ++ (behind-id ++ rest))
+  unfolding entryBytes dataBytes
+  server-split p rest = rw word-there (simp append-assoc)
+
+  server-start-is : (p : List ℕ) → length (p ++ before-id) ≡ length p + serverStart t e
+  unfolding serverStart
+  server-start-is p = simp length-append
+
+  pub server-there : (p rest : List ℕ) → take (length word) (drop (length p + serverStart t e) (p ++ (entryBytes t e ++ rest))) ≡ word
+  server-there p rest =
+      rw (server-split p rest, ← server-start-is p, drop-append-seam (p ++ before-id) (word ++ (behind-id ++ rest))) (take-append-seam word (behind-id ++ rest))

@@ -1,4 +1,4 @@
--- The bytes of a message of class 10, field by field in wire order: what a table or an entry looks like on the wire.
+-- The bytes that stand for an update or a definition, in wire order.
 use Prim.Native.Nat.{ℕ, _+_}
 use mathlib.Core.List.{List, [], _∷_, _++_}
 use mathlib.Core.Bool.{cond}
@@ -17,16 +17,21 @@ use Rattle.store.specs.Store.{nameOf, keyOf}
 unfoldable pub messageBytes : ℕ → List ℕ → List ℕ
 messageBytes type body = 0x0A ∷ type ∷ encodeInt (length body) ++ body
 
--- the bytes of a value for each of the types ts, in their order
+-- the position in its message at which this body starts: behind class, type and encoded body length
+unfoldable pub bodyStart : List ℕ → ℕ
+bodyStart body = 2 + length (encodeInt (length body))
+
+-- the bytes of a value for each of the types ts, in their order, as far as both lists go
 unfoldable pub eachBytes : (ℕ → ℕ → List ℕ) → List ℕ → List ℕ → List ℕ
-eachBytes field [] [] = []
-eachBytes field [] (v ∷ vs) = []
-eachBytes field (t ∷ ts) [] = []
-eachBytes field (t ∷ ts) (v ∷ vs) = field t v ++ eachBytes field ts vs
+eachBytes encode [] [] = []
+eachBytes encode [] (v ∷ vs) = []
+eachBytes encode (t ∷ ts) [] = []
+eachBytes encode (t ∷ ts) (v ∷ vs) = encode t v ++ eachBytes encode ts vs
 
 -- ---- update
 
--- "Key: string: encoded length (0 up to the key length), bytes; else exactly key-length bytes."
+-- "Key: string: encoded length (0 up to the key length), bytes; else exactly key-length bytes." The length of the
+-- key isn't tested here.
 unfoldable pub keyBytes : ℕ → List ℕ → List ℕ
 keyBytes keyType key = cond (isString (keyKind keyType)) (encodeInt (length key) ++ key) key
 
@@ -53,6 +58,10 @@ updateBytes t id e = encodeNumber id ++ entryBytes t e
 -- "Incremental has no ID"
 unfoldable pub incrementalBytes : Table → Entry → List ℕ
 incrementalBytes t e = entryBytes t e
+
+-- the position in an entry's bytes at which the server ID starts: behind the key
+unfoldable pub serverStart : Table → Entry → ℕ
+serverStart t e = length (keyBytes (t .«key_type») (keyOf e))
 
 -- the position in an entry's bytes at which the integer of slot i starts: behind the key, the server ID and the integers before it
 unfoldable pub slotStart : Table → Entry → ℕ → ℕ

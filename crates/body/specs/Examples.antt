@@ -14,7 +14,7 @@ use Rattle.store.specs.Limits.{keyKind, keyLengthOk, dataTypesOk, present, isRa
 use Rattle.store.specs.Store.{nameOf, keyOf}
 use Rattle.body.specs.Fields.{got, short, outside, andThen, forEach, tested, integer, between, integerOf, bytes, numberRead, number4, serverRead, serverId}
 use Rattle.body.specs.Bodies.{namedFields, isKeyType, shapeFields, pairField, periodField, Times, noTimes, timesThere, timesFields, Definition, restFields, definitionFields, switchFields, acknowledgementFields, stringField, keyField, serverField, slotField, dataFields, Update, entryFields, updateFields, incrementalFields}
-use Rattle.body.specs.Encodings.{messageBytes, eachBytes, keyBytes, serverBytes, valueBytes, dataBytes, entryBytes, updateBytes, incrementalBytes, slotStart, periodBytes, timesBytes, definitionBytes}
+use Rattle.body.specs.Encodings.{messageBytes, bodyStart, eachBytes, keyBytes, serverBytes, valueBytes, dataBytes, entryBytes, updateBytes, incrementalBytes, serverStart, slotStart, periodBytes, timesBytes, definitionBytes}
 
 -- ---- definition
 
@@ -193,6 +193,10 @@ update-examples = record {
 
 -- ---- encodings
 
+-- server ID -2^31, whose word is 2^64 - 2^31
+abbrev least : List ℕ
+least = 0xF0 ∷ 0xF1 ∷ 0xFE ∷ 0xFE ∷ 0xBE ∷ 0xFE ∷ 0xFE ∷ 0xFE ∷ 0xFE ∷ 0x0E ∷ []
+
 -- an entry with a key of so many bytes
 abbrev entry : ℕ → List ℕ → ℤ → List ℕ → Entry
 entry len key server values = record { held = 1; «server_id» = server; table = 0; «key_len» = len; key = key; values = values }
@@ -232,10 +236,30 @@ record EncodingExamples : Type 0 where
       ≡ keyed (largest ++ (0x06 ∷ 0x07 ∷ 0x08 ∷ 0x09 ∷ []))
   -- the second integer of data type 3 is in slot 3
   start : slotStart (table 0 4 0x0B) (entry42 (negsuc 0) (6 ∷ 0 ∷ 7 ∷ 8 ∷ 9 ∷ replicate 29 0)) 3 ≡ 16
+  -- the server ID stands behind the key
+  server-start : serverStart (table 0 4 0x0B) (entry42 (negsuc 0) (6 ∷ 0 ∷ 7 ∷ 8 ∷ 9 ∷ replicate 29 0)) ≡ 4
+  -- a body of 239 bytes stands behind class, type and one byte of length, one of 240 bytes behind two bytes of length
+  body-start : bodyStart (replicate 239 0) ≡ 3
+  long-body : bodyStart (replicate 240 0) ≡ 4
+  -- server ID -2^31
+  least-server : incrementalBytes (table 0 4 1) (entry42 (negsuc (2 ^ 31 - 1)) (replicate 34 0)) ≡ keyed least
+  -- the last slot, 33, is the previous count of data type 18
+  last-slot : incrementalBytes (table 0 4 (2 ^ 18)) (entry42 (pos 0) (replicate 31 0 ++ (7 ∷ 8 ∷ 9 ∷ []))) ≡ keyed (0x07 ∷ 0x08 ∷ 0x09 ∷ [])
+  last-start : slotStart (table 0 4 (2 ^ 18)) (entry42 (pos 0) (replicate 31 0 ++ (7 ∷ 8 ∷ 9 ∷ []))) 33 ≡ 6
+  -- types 13 and 15 take 64 bits
+  bytes-in : incrementalBytes (table 0 4 (2 ^ 13)) (entry42 (pos 0) (replicate 22 0 ++ ((2 ^ 64 - 1) ∷ replicate 11 0))) ≡ keyed largest
+  bytes-out : incrementalBytes (table 0 4 (2 ^ 15)) (entry42 (pos 0) (replicate 26 0 ++ ((2 ^ 64 - 1) ∷ replicate 7 0))) ≡ keyed largest
+  -- a string of 2 bytes, and of none
   string : incrementalBytes (table 3 2 2) (entryAb (300 ∷ replicate 33 0)) ≡ 0x02 ∷ 0x61 ∷ 0x62 ∷ 0xFC ∷ 0x03 ∷ []
+  empty : incrementalBytes (table 3 2 2) (entry 0 (replicate 64 0) (pos 0) (5 ∷ replicate 33 0)) ≡ 0x00 ∷ 0x05 ∷ []
+  -- the IPv6 key ::1, and a binary key of 3 bytes
+  address : incrementalBytes (table 2 16 2) (entry 16 (replicate 15 0 ++ (1 ∷ replicate 48 0)) (pos 0) (5 ∷ replicate 33 0))
+      ≡ replicate 15 0 ++ (0x01 ∷ 0x05 ∷ [])
+  binary : incrementalBytes (table 4 3 2) (entry 3 (0xFF ∷ 0x00 ∷ 0xFE ∷ replicate 61 0) (pos 0) (5 ∷ replicate 33 0))
+      ≡ 0xFF ∷ 0x00 ∷ 0xFE ∷ 0x05 ∷ []
 
 encoding-examples : EncodingExamples
-unfolding messageBytes eachBytes keyBytes serverBytes valueBytes dataBytes entryBytes updateBytes incrementalBytes slotStart periodBytes timesBytes definitionBytes nameOf keyOf encodeInt encodeRest encodeNumber serverWord keyKind present isRate among integersOf slotsFor slotTypes rateTypes
+unfolding messageBytes bodyStart eachBytes keyBytes serverBytes valueBytes dataBytes entryBytes updateBytes incrementalBytes serverStart slotStart periodBytes timesBytes definitionBytes nameOf keyOf encodeInt encodeRest encodeNumber serverWord keyKind present isRate among integersOf slotsFor slotTypes rateTypes
 encoding-examples = record {
   definition = refl;
   update = refl;
@@ -244,5 +268,16 @@ encoding-examples = record {
   rates = refl;
   server = refl;
   start = refl;
+  server-start = refl;
+  body-start = refl;
+  long-body = refl;
+  least-server = refl;
+  last-slot = refl;
+  last-start = refl;
+  bytes-in = refl;
+  bytes-out = refl;
   string = refl;
+  empty = refl;
+  address = refl;
+  binary = refl;
 }

@@ -26,7 +26,7 @@ use Rattle.body.specs.Bodies.{Update}
 use Rattle.body.specs.Results.{readAs}
 use Rattle.message.specs.declared.Change.{Change}
 use Rattle.message.specs.declared.Asked.{Asked}
-use Rattle.message.specs.Effects.{refuse, fieldsThen, acknowledge, commitAt, commitUpdate, updatedEntry, withFields}
+use Rattle.message.specs.Effects.{fieldsThen, acknowledge, commitAt, commitUpdate, updatedEntry, withFields}
 use Rattle.message.specs.OnStores.{refuseOn, commitAtOn, withFieldsOn}
 use Rattle.message.specs.Settled.{entryChange, SettlesAll, AsksAll, asksCommit, updateRead}
 use Rattle.message.proofs.Settling.{settled, entry-changed, asks-as}

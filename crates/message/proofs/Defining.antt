@@ -33,7 +33,7 @@ use Rattle.body.proofs.Within.{definition-within}
 use Rattle.body.proofs.Given.{definitionIn, definition-whole, definition-short, definition-out}
 use Rattle.message.specs.declared.Change.{Change}
 use Rattle.message.specs.declared.Settled.{Settled}
-use Rattle.message.specs.Effects.{refuse, fieldsThen, definedTable, defineAt, defineNew, agrees, defineNamed, definition}
+use Rattle.message.specs.Effects.{fieldsThen, definedTable, defineAt, defineNew, agrees, defineNamed, definition}
 use Rattle.message.specs.OnStores.{refuseOn, defineAtOn, defineNewOn, defineNamedOn, definitionOn}
 use Rattle.message.specs.Settled.{tableChange, SettlesAll, SettlesWith}
 use Rattle.message.proofs.Settling.{settled, table-changed, all-with, with-as}

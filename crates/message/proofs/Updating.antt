@@ -23,7 +23,7 @@ use Rattle.body.proofs.Within.{update-within, incremental-within}
 use Rattle.body.proofs.Given.{update-given}
 use Rattle.message.specs.declared.Settled.{Settled}
 use Rattle.message.specs.declared.Asked.{Asked}
-use Rattle.message.specs.Effects.{Effect, refuse, withFields, followingId, incrementalOf, update, incremental, definition, switch, acknowledgement, skipped, stickTable}
+use Rattle.message.specs.Effects.{Effect, refuse, followingId, incrementalOf, update, incremental, stickTable}
 use Rattle.message.specs.OnStores.{refuseOn, definitionOn, switchOn, acknowledgementOn, skippedOn, withFieldsOn, incrementalOfOn, updateOn, incrementalOn, stickTableOn}
 use Rattle.message.specs.Settled.{SettlesAll, SettlesWith, AsksAll, AsksWith, asksNothing, updateRead}
 use Rattle.message.proofs.Settling.{asks-settled, asks-settled-with, asks-all-with, asks-with-as}

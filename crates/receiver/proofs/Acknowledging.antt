@@ -140,7 +140,7 @@ only-updates l reply (answer.Acknowledgement id update) r h = never h (r .other)
 only-updates l reply (answer.Skipped kind) r h = never h (r .other)
 only-updates l reply (answer.Refused n) r h = never h (r .other)
 
-put-here : (t : Store) (place : ℕ) (e : Entry) → place < length (t .entries) → getD (putEntry t place e .entries) place noEntry ≡ e
+pub put-here : (t : Store) (place : ℕ) (e : Entry) → place < length (t .entries) → getD (putEntry t place e .entries) place noEntry ≡ e
 unfolding putEntry
 put-here t place e l = getD-set-same (t .entries) place e noEntry l
 
@@ -148,7 +148,7 @@ put-others : (t : Store) (place : ℕ) (e : Entry) (i : ℕ) → (i ≡ place �
 unfolding putEntry
 put-others t place e i n = getD-set-other (t .entries) place i e noEntry n
 
-put-tables : (t : Store) (place : ℕ) (e : Entry) → putEntry t place e .tables ≡ t .tables
+pub put-tables : (t : Store) (place : ℕ) (e : Entry) → putEntry t place e .tables ≡ t .tables
 unfolding putEntry
 put-tables t place e = refl
 
@@ -157,13 +157,14 @@ module _ (s : Session) (t : Store) (m : Made) (p : ReadPromise s t m) (e : Effec
   good : Good (heldBy s t)
   good = good-held s t (p .shaped) (j .sound)
 
-  abbrev held : Held (s .connection) t
+  pub held : Held (s .connection) t
   held = unfold heldBy in open-held (heldBy s t) good (j .opened)
 
-  judged : judge (s .connection) t (messageOf s m) ≡ settled e
+  pub judged : judge (s .connection) t (messageOf s m) ≡ settled e
   judged = ap (λ (n : ℕ). judge (s .connection) t (unfinished s ++ take n (m .piece))) (taken-is s t m p) ∙ j .judged
 
-  bytes : Bytes (messageOf s m)
+  -- each byte of the message is one
+  pub bytes : Bytes (messageOf s m)
   bytes = record {
     byte =
         small-append (unfinished s) (take (m .outcome .taken) (m .piece)) (unfold heldBy in good .unfinished)

@@ -1,5 +1,5 @@
 -- The message of an accepted definition is the encoding of the table that the call left, and then ignored bytes.
-use Prim.Native.Nat.{ℕ, _-_, _≤_, _<_}
+use Prim.Native.Nat.{ℕ, _-_, _^_, _≤_, _<_}
 use native.Mathlib.Omega.{arith}
 use mathlib.Core.Path.{_≡_, refl, sym, ap, subst, _∙_}
 use mathlib.Core.Bool.{true}
@@ -15,7 +15,11 @@ use Rattle.wire.proofs.Sizes.{drop-bytes}
 use Rattle.store.specs.declared.Table.{Table}
 use Rattle.store.specs.declared.Entry.{Entry}
 use Rattle.store.specs.declared.Store.{Store}
+use Rattle.store.specs.Limits.{present, rateTypes}
+use Rattle.store.specs.Shape.{TableShape}
+use Rattle.store.specs.Sound.{soundTable}
 use Rattle.store.specs.Store.{tableHeld, makeTable, findTable, freeTable, findEntry, freeEntry, putTable, noTable}
+use Rattle.store.proofs.Facts.{table-facts, facts-table}
 use Rattle.store.proofs.Kept.{table-found, table-place}
 use Rattle.store.proofs.Ruled.{made-name}
 use Rattle.frame.specs.declared.Frame.{Frame}
@@ -28,23 +32,25 @@ use Rattle.session.specs.declared.Commit.{Commit}
 use Rattle.session.specs.declared.Commit.the-variants as commit
 use Rattle.session.specs.declared.Answer.{Answer}
 use Rattle.session.specs.declared.Answer.the-variants as answer
-use Rattle.session.specs.Session.{bindingAt, bind, bindTo, holding, findBound, isUpdated}
+use Rattle.session.specs.Session.{bindingAt, bind, bindTo, holding, findBound, isBound, isUpdated}
 use Rattle.session.proofs.Bindings.{bound-here}
 use Rattle.body.specs.Fields.{Read, got, short, outside, spanIn}
 use Rattle.body.specs.Bodies.{Definition, definitionFields, Update}
 use Rattle.body.proofs.Spans.{span-length}
 use Rattle.body.proofs.Within.{definition-within}
-use Rattle.body.proofs.DefinitionEncoding.{TableRead, definition-encoded, definition-ends}
+use Rattle.body.proofs.DefinitionEncoding.{TableRead, definition-encoded, definition-ends, definition-none, definition-absent}
+use Rattle.body.proofs.OneEncoding.{FittingTable, definition-once, body-once}
 use Rattle.message.specs.Effects.{Effect, refuse, note, fieldsThen, control, controlAnswer, peerError, definedTable, defineAt, defineNew, defineNamed, agrees, definition, switchTo, switch, acknowledgement, skipped, updatedEntry, commitAt, commitNew, commitUpdate, withFields, incrementalOf, update, incremental, stickTable}
 use Rattle.reassembly.specs.Judge.{Judged, waiting, settled, frameJudged, judge}
 use Rattle.streams.specs.Calls.{Call}
 use Rattle.receiver.specs.Model.{State}
 use Rattle.receiver.specs.Promise.{Made, ReadPromise, callOf}
 use Rattle.receiver.specs.Corollaries.{messageOf}
-use Rattle.receiver.specs.MessageBytes.{tableAt, DefinitionMessage, BytesOfDefinition}
+use Rattle.receiver.specs.MessageBytes.{tableAt, DefinitionMessage, BytesOfDefinition, OneDefinition}
 use Rattle.receiver.proofs.EffectKinds.{bodyIn}
 use Rattle.receiver.proofs.Ways.{Way, Judging, staying, waiting-on, judging, ways, answer-is, record-holds}
-use Rattle.receiver.proofs.WholeMessage.{StickTable, body-is, message-is, judged, held, message-bytes, message-ends, by-frame}
+use Rattle.receiver.proofs.Acknowledging.{judged, held, bytes}
+use Rattle.receiver.proofs.WholeMessage.{StickTable, body-is, message-is, body-most, body-behind, kept, message-ends, by-frame}
 
 -- ---- only a definition is answered with a table
 
@@ -258,7 +264,7 @@ module _ (s : Session) (t : Store) (m : Made) (p : ReadPromise s t m) (e : Effec
   new = definedTable now (x .fields)
 
   same-body : bodyIn u (x .start) (x .end) ≡ now
-  same-body = body-is u (message-bytes s t m p e j) 130 (x .start) (x .end) (x .framed) last
+  same-body = body-is u (bytes s t m p e j) 130 (x .start) (x .end) (x .framed) last
 
   read : definitionFields now ≡ got (x .fields) (x .after)
   read = ap definitionFields (sym same-body) ∙ x .read
@@ -282,31 +288,104 @@ module _ (s : Session) (t : Store) (m : Made) (p : ReadPromise s t m) (e : Effec
       ∙ (ap (λ (k : State). bindingAt (k .connection) place .id) (j .state)
       ∙ (ap (λ (k : Connection). bindingAt k place .id) (x .connection) ∙ bound-is))
 
-  definition-message : DefinitionMessage s m (x .fields .id) new
+  bound-there : isBound (bindingAt (m .session .connection) place) ≡ true
+  unfolding holding isBound bindTo
+  bound-there =
+      let h = held s t m p e j in
+      let l : place < length (s .connection .bindings) = omega (arith, x .inside, h .storeShape .tables, h .connectionShape .places) in
+      ap (λ (k : Session). eqb (bindingAt (k .connection) place .bound) 1) (record-holds s t m p (j .some))
+      ∙ (ap (λ (k : State). eqb (bindingAt (k .connection) place .bound) 1) (j .state)
+      ∙ (ap (λ (k : Connection). eqb (bindingAt k place .bound) 1) (x .connection)
+      ∙ ap (λ (k : Binding). eqb (k .bound) 1) (bound-here (s .connection) place (x .fields .id) l)))
+
+  entries-stay : m .store .entries ≡ t .entries
+  unfolding putTable
+  entries-stay = ap (λ (k : Store). k .entries) (p .store ∙ (ap (λ (k : State). k .store) (j .state) ∙ x .store))
+
+  -- what the store that the call left holds at the place
+  there : place < length (m .store .tables)
+  there = omega (arith, x .inside, held s t m p e j .storeShape .tables, kept s t m p e j .storeShape .tables)
+
+  new-sound : soundTable new ≡ true
+  new-sound =
+      let k = kept s t m p e j .store in
+      subst (λ (y : Table). soundTable y ≡ true) table-is (facts-table (tableAt m place) (k .tableMark place there) (k .table place there))
+
+  new-shape : TableShape new
+  new-shape =
+      let k = kept s t m p e j .storeShape in
+      subst TableShape table-is (k .table place (omega (arith, there, k .tables)))
+
+  definition-message : DefinitionMessage s t m place (x .fields .id) new
   definition-message =
-      let b = drop-bytes (x .start) (message-bytes s t m p e j) in
+      let b = drop-bytes (x .start) (bytes s t m p e j) in
       let r = table-read now (x .fields) (x .after) read in
+      let g = message-is u (bytes s t m p e j) 130 (x .start) (x .end) (x .framed) last in
       record {
         body = now;
-        message = message-is u (message-bytes s t m p e j) 130 (x .start) (x .end) (x .framed) last;
+        message = g;
+        body-there = body-behind u 130 now g;
+        body-most = body-most u (bytes s t m p e j) 130 (x .start) (x .end) (x .framed) last;
         ignored = drop (x .after) now;
         fields = definition-encoded now b (x .fields) (x .after) read new r;
         untimed = λ z. definition-ends now b (x .fields) (x .after) read (sym (r .timed) ∙ z);
         held = table-held now (x .fields);
-        small = definition-within now (x .fields) (x .after) read .0 .id;
+        sound = new-sound;
+        shape = new-shape;
+        id-32-bit = definition-within now (x .fields) (x .after) read .0 .id;
+        no-times = λ z.
+            let n = definition-none now b (x .fields) (x .after) read (sym (r .timed) ∙ z) in
+            (r .expiry ∙ n .0, r .periods ∙ n .1);
+        no-period = λ i l h.
+            ap (λ (y : List ℕ). getD y i 0) (r .periods)
+            ∙ definition-absent now b (x .fields) (x .after) read i l (ap (λ (n : ℕ). present n (getD rateTypes i 0)) (sym (r .dataTypes)) ∙ h);
+        bound = bound-there;
+        bound-id = id-is;
+        entries = entries-stay;
       }
 
 by-way : (s : Session) (t : Store) (m : Made) (place : ℕ) → ReadPromise s t m → m .outcome .answer ≡ answer.Table place
     → Way s t (m .piece) (callOf s t (m .piece) (length (m .room)))
-    → DefinitionMessage s m (bindingAt (m .session .connection) place .id) (tableAt m place)
+    → DefinitionMessage s t m place (bindingAt (m .session .connection) place .id) (tableAt m place)
 by-way s t m place p h (staying n k q) =
     absurd (let r = sym (ap (λ (x : Call State Answer). x .answer) q) ∙ (sym (answer-is s t m p) ∙ h) in let z : _≡_ {A = ℕ} 0 1 = cc in omega arith)
 by-way s t m place p h (waiting-on w) =
     absurd (let r = sym (w .answer) ∙ (sym (answer-is s t m p) ∙ h) in let z : _≡_ {A = ℕ} 0 1 = cc in omega arith)
 by-way s t m place p h (judging e j) =
     let a = sym (j .answer) ∙ (sym (answer-is s t m p) ∙ h) in
-    subst (λ (n : ℕ). DefinitionMessage s m n (tableAt m place)) (sym (id-is s t m p e j place a))
-    (subst (DefinitionMessage s m _) (sym (table-is s t m p e j place a)) (definition-message s t m p e j place a))
+    subst (λ (n : ℕ). DefinitionMessage s t m place n (tableAt m place)) (sym (id-is s t m p e j place a))
+    (subst (DefinitionMessage s t m place _) (sym (table-is s t m p e j place a)) (definition-message s t m p e j place a))
 
 pub bytes-of-definition : BytesOfDefinition
 bytes-of-definition s t m place p h = by-way s t m place p h (ways s t m p)
+
+-- ---- one reading
+
+fitting : (s : Session) (before : Store) (m : Made) (place id : ℕ) (t : Table) (h : DefinitionMessage s before m place id t) → FittingTable id t (h .ignored)
+fitting s before m place id t h = record {
+  small = h .id-32-bit;
+  shape = h .shape;
+  timed = table-facts t (h .sound) (h .held) .timed;
+  untimed = h .untimed;
+  none = h .no-times;
+  absent = h .no-period;
+}
+
+pub one-definition : OneDefinition
+one-definition s before m place id t place′ id′ u h k =
+    let short : (n : ℕ) → n ≤ 1024 → n < 2 ^ 64 = λ n l. omega arith in
+    let same : h .body ≡ k .body =
+    body-once 130 130 (h .body) (k .body) (short _ (h .body-most)) (short _ (k .body-most)) (sym (h .message) ∙ k .message) in
+    let r = definition-once id t (h .ignored) (fitting s before m place id t h) id′ u (k .ignored) (fitting s before m place′ id′ u k)
+    (sym (h .fields) ∙ (same ∙ k .fields)) in
+    let x = r .1 in
+    record {
+      id = r .0;
+      name = x .name;
+      key-type = x .keyType;
+      key-length = x .keyLength;
+      data-types = x .dataTypes;
+      timed = x .times .timed;
+      expiry = x .times .expiry;
+      periods = x .times .periods;
+    }

@@ -68,6 +68,7 @@ pub record Committing (c : Connection) (t : Store) (u : List ℕ) (fields : Upda
   pub body-is : body ≡ bodyIn u start end
   pub type : (kind ≡ 128) ⊎ (kind ≡ 129)
   pub current : eqb (c .current) 0 ≡ false
+  pub previous : kind ≡ 129 → isUpdated (bindingAt c (c .current - 1)) ≡ true
   pub after : ℕ
   pub read : fieldsOf c t (c .current - 1) kind body ≡ got fields after
   pub inside : place < length (t .entries)
@@ -129,12 +130,12 @@ module _ (c : Connection) (t : Store) (u : List ℕ) where
     abbrev now : ℕ
     now = c .current - 1
 
-    module _ (type : (kind ≡ 128) ⊎ (kind ≡ 129)) (z : eqb (c .current) 0 ≡ false) where
+    module _ (type : (kind ≡ 128) ⊎ (kind ≡ 129)) (z : eqb (c .current) 0 ≡ false) (previous : kind ≡ 129 → isUpdated (bindingAt c now) ≡ true) where
       commit-kind : (f : Update) (after p : ℕ) (how : Commit) → fieldsOf c t now kind body ≡ got f after → p < length (t .entries)
           → Kind c t u (commitAt c t now (f .id) (updatedEntry body now f) p how)
       commit-kind f after p how r l =
           committed f body p how
-          (record { kind = kind; start = start; end = end; framed = e; body-is = refl; type = type; current = z; after = after; read = r; inside = l })
+          (record { kind = kind; start = start; end = end; framed = e; body-is = refl; type = type; current = z; previous = previous; after = after; read = r; inside = l })
 
       commit-new-kind : (f : Update) (after : ℕ) (x : Found) → fieldsOf c t now kind body ≡ got f after → freeEntry t ≡ x
           → Kind c t u (commitNew c t now (f .id) (updatedEntry body now f) x)
@@ -159,7 +160,7 @@ module _ (c : Connection) (t : Store) (u : List ℕ) where
     update-kind a =
         by-test (eqb (c .current) 0)
         (λ z. rw z (refused-with 27 (omega arith) (omega arith)))
-        (λ z. rw z (with-kind (inl (eqb-true kind 128 a)) z (updateFields (getD (t .tables) now noTable) body) (cond-true (eqb kind 128) _ _ a)))
+        (λ z. rw z (with-kind (inl (eqb-true kind 128 a)) z (λ y. absurd (omega (arith, eqb-true kind 128 a))) (updateFields (getD (t .tables) now noTable) body) (cond-true (eqb kind 128) _ _ a)))
 
     incremental-kind : eqb kind 128 ≡ false → eqb kind 129 ≡ true → Kind c t u (incremental c t body)
     unfolding incremental incrementalOf
@@ -171,7 +172,7 @@ module _ (c : Connection) (t : Store) (u : List ℕ) where
         (by-test (isUpdated (bindingAt c now))
         (λ y.
         rw y
-        (with-kind (inr (eqb-true kind 129 b)) z (incrementalFields (getD (t .tables) now noTable) (followingId (bindingAt c now .previous)) body)
+        (with-kind (inr (eqb-true kind 129 b)) z (λ x. y) (incrementalFields (getD (t .tables) now noTable) (followingId (bindingAt c now .previous)) body)
         (cond-false (eqb kind 128) _ _ a)))
         (λ y. rw y (refused-with 28 (omega arith) (omega arith)))))
 

@@ -18,7 +18,7 @@ use Rattle.session.specs.declared.Connection.{Connection}
 use Rattle.session.specs.declared.Commit.{Commit}
 use Rattle.session.specs.declared.Answer.{Answer}
 use Rattle.session.specs.declared.Answer.the-variants as answer
-use Rattle.session.specs.Session.{bindingAt}
+use Rattle.session.specs.Session.{bindingAt, isUpdated}
 use Rattle.soundness.proofs.Facts.{heldAt}
 use Rattle.soundness.proofs.Keeping.{put-held}
 use Rattle.body.specs.Fields.{got}
@@ -125,6 +125,7 @@ pub record Updated (c : Connection) (t : Store) (u : List ℕ) (table id place :
   pub framed : judgeFrame u ≡ frame.Body kind start end
   pub type : (kind ≡ 128) ⊎ (kind ≡ 129)
   pub current : c .current ≡ table + 1
+  pub previous : kind ≡ 129 → isUpdated (bindingAt c table) ≡ true
   pub fields : Update
   pub after : ℕ
   pub read : fieldsOf c t table kind (bodyIn u start end) ≡ got fields after
@@ -157,6 +158,7 @@ module _ (c : Connection) (t : Store) (u : List ℕ) (table id place : ℕ) (how
         framed = k .framed;
         type = k .type;
         current = w ∙ ap (λ (n : ℕ). n + 1) a;
+        previous = λ y. subst (λ (n : ℕ). isUpdated (bindingAt c n) ≡ true) a (k .previous y);
         fields = fields;
         after = k .after;
         read = subst (λ (x : List ℕ). fieldsOf c t table (k .kind) x ≡ got fields (k .after)) (k .body-is)

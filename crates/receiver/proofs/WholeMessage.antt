@@ -1,15 +1,13 @@
 -- The message that a call ended has no byte past its body: it is class 10, its type, the encoded body length and the body.
-use Prim.Native.Nat.{ℕ, _+_, _-_, _≤_, _<_}
+use Prim.Native.Nat.{ℕ, _+_, _-_, _≤_}
 use native.Mathlib.Omega.{arith}
 use mathlib.Core.Path.{_≡_, refl, sym, ap, subst, _∙_}
 use mathlib.Core.Bool.{true, false, _&&_}
 use mathlib.Core.List.{List, [], _∷_, _++_}
-use lib.ListN.{length, take, drop, getD, length-append, length-drop, List·getD-eq-default}
-use lib.Seq.{drop-cons, take-all}
-use lib.Dec.{ltb, leb, eqb, lit<}
-use borrow.Author.Tests.{lt-ltb, le-ltb, ltb-true, eqb-true, eq-eqb, ne-eqb}
-use Rattle.lists.specs.Lists.{every}
-use Rattle.lists.proofs.Every.{every-at}
+use lib.ListN.{length, take, drop, getD, length-append, length-drop}
+use lib.Seq.{drop-cons, drop-append-seam, take-all}
+use lib.Dec.{ltb, leb, eqb}
+use borrow.Author.Tests.{lt-ltb, le-ltb, ltb-false, eqb-true, eq-eqb, ne-eqb}
 use Rattle.lists.proofs.Cases.{by-test, never, lt-or-le, and-first}
 use Rattle.wire.specs.declared.Int.{Int}
 use Rattle.wire.specs.declared.Int.the-variants as int
@@ -17,7 +15,6 @@ use Rattle.wire.specs.Integer.{encodeInt, readInt}
 use Rattle.wire.specs.Value.{Bytes}
 use Rattle.wire.proofs.Order.{split}
 use Rattle.wire.proofs.RoundTrip.{one-encoding}
-use Rattle.wire.proofs.Sizes.{append-bytes}
 use Rattle.store.specs.declared.Store.{Store}
 use Rattle.handshake.specs.declared.Hello.{Hello}
 use Rattle.handshake.specs.declared.Hello.the-variants as hello
@@ -38,7 +35,7 @@ use Rattle.session.specs.Session.{unfinished, localName, remoteName}
 use Rattle.soundness.specs.Sound.{sound, waits}
 use Rattle.soundness.proofs.Records.{sound-session, open-facts}
 use Rattle.soundness.proofs.Waiting.{waits-frame, frame-is-waiting}
-use Rattle.body.specs.Encodings.{messageBytes}
+use Rattle.body.specs.Encodings.{messageBytes, bodyStart}
 use Rattle.body.proofs.Encoding.{Stands, stands-part}
 use Rattle.message.specs.Effects.{Effect, refuse, note}
 use Rattle.message.proofs.Kept.{Held}
@@ -46,18 +43,15 @@ use Rattle.reassembly.specs.Judge.{Judged, waiting, settled, helloJudged, statu
 use Rattle.reassembly.specs.Pieces.{Part, takePiece}
 use Rattle.reassembly.proofs.Taking.{part-bytes}
 use Rattle.streams.specs.Calls.{Call}
-use Rattle.streams.proofs.Basics.{every-take}
-use Rattle.receiver.specs.Model.{State, heldBy, ends, isByte}
-use Rattle.receiver.specs.Good.{Good}
+use Rattle.receiver.specs.Model.{State, heldBy, ends}
 use Rattle.receiver.specs.Promise.{Made, ReadPromise, callOf}
 use Rattle.receiver.specs.Parts.{judgedCall, partCall}
 use Rattle.receiver.specs.Corollaries.{messageOf}
-use Rattle.receiver.proofs.Chained.{good-held}
-use Rattle.receiver.proofs.Lawfully.{open-held}
 use Rattle.receiver.proofs.CallCases.{call-short, call-open}
 use Rattle.receiver.proofs.Piece.{scan-takes, waited-call}
 use Rattle.receiver.proofs.SettledLaws.{settled-ends}
 use Rattle.receiver.proofs.Ways.{Judging, taken-is}
+use Rattle.receiver.proofs.Acknowledging.{judged, right}
 
 -- ---- a whole body, as the frame has it
 
@@ -67,6 +61,7 @@ record Framed (u : List ℕ) (kind start end : ℕ) : Type 0 where
   type : getD u 1 0 ≡ kind
   long : 2 ≤ length u
   size : ℕ
+  most : size ≤ 1024
   read : readInt u 2 ≡ int.Value size start
   ends : end ≡ start + size
 
@@ -109,7 +104,7 @@ length-is u kind (int.Value n start) e c t l =
     rw a
     (by-test (ltb (length u) (start + n))
     (λ b. rw b tt)
-    (λ b. rw b (record { class = c; type = t; long = l; size = n; read = e; ends = refl }))))
+    (λ b. rw b (record { class = c; type = t; long = l; size = n; most = ltb-false 1024 n a; read = e; ends = refl }))))
 
 by-header : (u : List ℕ) (h : Header) → HeaderIs (getD u 0 0) (getD u 1 0) h → 2 ≤ length u → FrameIs u (withHeader u h)
 unfolding withHeader FrameIs HeaderIs
@@ -147,6 +142,17 @@ module _ (u : List ℕ) (b : Bytes u) (kind start end : ℕ) (e : judgeFrame u �
       h
       ∙ (ap (λ (x : List ℕ). getD u 0 0 ∷ x) (k ∙ ap (λ (x : List ℕ). getD u 1 0 ∷ x) (here .split))
       ∙ rw (f .class, f .type, n))
+
+  pub body-most : length (drop start u) ≤ 1024
+  body-most = let f = framed u kind start end e in simp length-drop (omega (arith, f .ends, f .most))
+
+-- a message's body stands behind class, type and encoded body length
+pub body-behind : (u : List ℕ) (kind : ℕ) (body : List ℕ) → u ≡ messageBytes kind body → drop (bodyStart body) u ≡ body
+unfolding messageBytes bodyStart
+body-behind u kind body e =
+    let front : List ℕ = 0x0A ∷ kind ∷ encodeInt (length body) in
+    let n : 2 + length (encodeInt (length body)) ≡ length front = omega arith in
+    ap (λ (i : ℕ). drop i u) n ∙ (ap (λ (l : List ℕ). drop (length front) l) e ∙ drop-append-seam front body)
 
 -- ---- a call takes no byte past the first that ends a message
 
@@ -235,14 +241,6 @@ module _ (c : Connection) (t : Store) (u : List ℕ) (e : Effect) (q : judge c t
       let n : length (l .before ++ (l .byte ∷ [])) ≡ length (l .before) + 1 = length-append (l .before) (l .byte ∷ []) in
       whole-at-last (l .before) (l .byte) kind start end w (ap judgeFrame (sym (l .whole)) ∙ f) ∙ sym (ap length (l .whole) ∙ n)
 
-every-bytes : (xs : List ℕ) → every isByte xs ≡ true → Bytes xs
-every-bytes xs h = record {
-  byte = λ i.
-      split (lt-or-le i (length xs))
-      (λ l. ltb-true (getD xs i 0) 256 (every-at isByte xs 0 i h l))
-      (λ l. rw (List·getD-eq-default xs 0 l) (lit< tt));
-}
-
 module _ (s : Session) (t : Store) (m : Made) (p : ReadPromise s t m) (e : Effect)
     (j : Judging s t (m .piece) (callOf s t (m .piece) (length (m .room))) e) where
   abbrev call : Call State Answer
@@ -282,23 +280,14 @@ module _ (s : Session) (t : Store) (m : Made) (p : ReadPromise s t m) (e : Effec
   last : waits (s .connection) (unfinished s) ≡ true → Last (s .connection) (messageOf s m)
   last w = rw is-message (part-last (s .connection) (unfinished s) (m .piece) w ended)
 
-  pub judged : judge (s .connection) t (messageOf s m) ≡ settled e
-  judged = ap (λ (n : ℕ). judge (s .connection) t (unfinished s ++ take n (m .piece))) (taken-is s t m p) ∙ j .judged
-
-  good : Good (heldBy s t)
-  good = good-held s t (p .shaped) (j .sound)
-
-  pub held : Held (s .connection) t
-  held = unfold heldBy in open-held (heldBy s t) good (j .opened)
-
-  -- each byte of the message is one
-  pub message-bytes : Bytes (messageOf s m)
-  message-bytes =
-      append-bytes (unfinished s) (record { byte = unfold heldBy in good .unfinished })
-      (every-bytes (take (m .outcome .taken) (m .piece)) (every-take isByte (m .outcome .taken) (m .piece) (p .bytes)))
+  -- record and store are sound afterwards, and of their types' shape
+  pub kept : Held (e .connection) (m .store)
+  kept =
+      subst (Held (e .connection)) (sym (p .store ∙ ap (λ (k : State). k .store) (j .state)))
+      (right s t m p e j .kept)
 
   -- the body ends with the message
   pub message-ends : StickTable (e .answer) → (kind start end : ℕ) → judgeFrame (messageOf s m) ≡ frame.Body kind start end → end ≡ length (messageOf s m)
   message-ends k kind start end f =
       let w = open-facts (t .tables) s (j .opened) (sound-session s t (j .sound)) .waiting in
-      last-ends (s .connection) t (messageOf s m) e judged k kind start end f (last w)
+      last-ends (s .connection) t (messageOf s m) e (judged s t m p e j) k kind start end f (last w)

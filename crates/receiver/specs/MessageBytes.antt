@@ -1,29 +1,33 @@
 -- "which bytes stood for this counter?": the message of an accepted update or definition, from its first byte to its last.
-use Prim.Native.Nat.{ℕ, _+_, _%_, _^_, _<_}
+-- The records below fix the reading by themselves: no other key, server ID or values fit the message of an update, and no other ID, name,
+-- shape or times that of a definition.
+use Prim.Native.Nat.{ℕ, _+_, _%_, _^_, _≤_, _<_}
 use mathlib.Core.Path.{_≡_}
 use mathlib.Core.Logic.{_⊎_}
 use mathlib.Core.List.{List, [], _++_}
 use mathlib.Core.Bool.{true, false, cond}
-use lib.ListN.{length, take, drop, getD}
+use lib.ListN.{length, take, drop, getD, replicate}
 use lib.IntN.{pos}
 use lib.Signed.{mag}
 use lib.Dec.{eqb}
 use Rattle.wire.specs.Integer.{encodeInt}
+use Rattle.wire.specs.Server.{serverWord}
 use Rattle.store.specs.declared.Table.{Table}
 use Rattle.store.specs.declared.Entry.{Entry}
 use Rattle.store.specs.declared.Store.{Store}
-use Rattle.store.specs.Limits.{valueCount, slotTypes, present}
-use Rattle.store.specs.Shape.{Cells}
-use Rattle.store.specs.Store.{tableHeld, entryHeld, noTable, noEntry}
+use Rattle.store.specs.Limits.{valueCount, rateCount, slotTypes, rateTypes, present}
+use Rattle.store.specs.Shape.{Cells, TableShape, EntryShape}
+use Rattle.store.specs.Sound.{soundTable, soundEntry, entryKeyLengthOk, keyRestZero, valuesOk}
+use Rattle.store.specs.Store.{tableHeld, entryHeld, nameOf, keyOf, noTable, noEntry}
 use Rattle.session.specs.declared.Session.{Session}
 use Rattle.session.specs.declared.Commit.{Commit}
 use Rattle.session.specs.declared.Answer.the-variants as answer
-use Rattle.session.specs.Session.{bindingAt}
-use Rattle.body.specs.Encodings.{messageBytes, updateBytes, incrementalBytes, slotStart, definitionBytes}
+use Rattle.session.specs.Session.{bindingAt, isBound, isUpdated}
+use Rattle.body.specs.Encodings.{messageBytes, bodyStart, updateBytes, incrementalBytes, serverStart, slotStart, definitionBytes}
 use Rattle.receiver.specs.Promise.{Made, ReadPromise}
 use Rattle.receiver.specs.Corollaries.{messageOf}
 
--- the table and the entry that a call left at a place
+-- The table and the entry that a call left at a place.
 abbrev pub tableAt : Made → ℕ → Table
 tableAt m place = getD (m .store .tables) place noTable
 
@@ -32,59 +36,129 @@ entryAt m place = getD (m .store .entries) place noEntry
 
 -- ---- update
 
--- the fields of an update of this type: "Update: 4-byte big-endian update ID, key, data. Incremental has no ID"
+-- The bytes of the fields of an update of this type: "Update: 4-byte big-endian update ID, key, data. Incremental has no ID".
 abbrev pub fieldBytes : ℕ → Table → ℕ → Entry → List ℕ
 fieldBytes kind t id e = cond (eqb kind 128) (updateBytes t id e) (incrementalBytes t e)
 
--- the position in its body at which the integer of slot i starts
+-- The position in its body at which the server ID starts, and the one at which the integer of slot i starts.
+abbrev pub serverIdStart : ℕ → Table → Entry → ℕ
+serverIdStart kind t e = cond (eqb kind 128) 4 0 + serverStart t e
+
 abbrev pub integerStart : ℕ → Table → Entry → ℕ → ℕ
 integerStart kind t e i = cond (eqb kind 128) 4 0 + slotStart t e i
 
--- the message that a call ended is an update of table t, at the place `table`, with this ID and with the key, server ID and values of
--- entry e: class 10, the type, the encoded body length, and a body of the encoded fields and then of bytes that are ignored
+-- The message that a call ended is an update of table t, at the place `table`, with this ID and with the key, server ID and values of
+-- entry e: class 10, the type, the encoded body length, and a body of the encoded fields and then of bytes that are ignored.
 pub record UpdateMessage (s : Session) (m : Made) (table id : ℕ) (t : Table) (e : Entry) : Type 0 where
   pub kind : ℕ
   pub type : (kind ≡ 128) ⊎ (kind ≡ 129)
   pub body : List ℕ
   pub message : messageOf s m ≡ messageBytes kind body
+  -- the position of the body in the message; "body over 1,024 bytes" is refused
+  pub body-there : drop (bodyStart body) (messageOf s m) ≡ body
+  pub body-most : length body ≤ 1024
   pub ignored : List ℕ
   pub fields : body ≡ fieldBytes kind t id e ++ ignored
+  -- the table is held and was the current one
+  pub table-held : tableHeld t ≡ true
+  pub current : s .connection .current ≡ table + 1
+  -- the entry is held by that table, and sound among the tables that the call left
   pub held : entryHeld e ≡ true
   pub owner : e .table ≡ table
-  -- "it is the table's previous ID plus one, and 4294967295 is followed by 0"
+  pub shape : EntryShape e
+  pub sound : soundEntry (m .store .tables) e ≡ true
+  -- "Key: string: encoded length (0 up to the key length), bytes; else exactly key-length bytes"; "Key bytes past the length are zero."
+  pub key-length : entryKeyLengthOk t e ≡ true
+  pub key-rest : keyRestZero e ≡ true
+  -- "Types 13 and 15 .. take 64 bits, all others 32."
+  pub widths : valuesOk t e ≡ true
+  -- "it is the table's previous ID plus one, and 4294967295 is followed by 0"; the table has a previous ID
   pub following : kind ≡ 129 → id ≡ (bindingAt (s .connection) table .previous + 1) % 2 ^ 32
-  -- a 4-byte ID, a signed 32-bit server ID and 34 values of at most 64 bits: each such number has one encoding
-  pub small : id < 2 ^ 32
-  pub signed : mag (e .«server_id») < 2 ^ 31
+  pub previous : kind ≡ 129 → isUpdated (bindingAt (s .connection) table) ≡ true
+  -- a 4-byte ID, a signed 32-bit server ID (`mag` of -2^31 is 2^31 - 1) and 34 values of at most 64 bits: each such number has one encoding
+  pub id-32-bit : id < 2 ^ 32
+  pub server-32-bit : mag (e .«server_id») < 2 ^ 31
   pub values : Cells valueCount 64 (e .values)
-  -- a slot whose data type the table has: these bytes are its integer's
+  -- where the table has data type 0, these bytes of the body are the server ID's
+  pub server : present (t .«data_types») 0 ≡ true
+      → take (length (encodeInt (serverWord (e .«server_id»)))) (drop (serverIdStart kind t e) body) ≡ encodeInt (serverWord (e .«server_id»))
+  -- a slot whose data type the table has: these bytes of the body are its integer's
   pub integer : (i : ℕ) → i < valueCount → present (t .«data_types») (getD slotTypes i 0) ≡ true
       → take (length (encodeInt (getD (e .values) i 0))) (drop (integerStart kind t e i) body) ≡ encodeInt (getD (e .values) i 0)
   -- a slot whose data type it hasn't is 0; so is the server ID
   pub absent : (i : ℕ) → i < valueCount → present (t .«data_types») (getD slotTypes i 0) ≡ false → getD (e .values) i 0 ≡ 0
   pub noServer : present (t .«data_types») 0 ≡ false → e .«server_id» ≡ pos 0
 
--- for every call that answered an update, on any record and store: of the table and the entry that it left at the answered places
+-- Every call that answered an update, on any record and store, ended such a message of the table and the entry that it left at the
+-- answered places.
 abbrev pub BytesOfUpdate : Type 0
 BytesOfUpdate =
     (s : Session) (t : Store) (m : Made) (table id place : ℕ) (how : Commit) → ReadPromise s t m
     → m .outcome .answer ≡ answer.Update table id place how → UpdateMessage s m table id (tableAt m table) (entryAt m place)
 
+-- What the bytes fix: the place of the table, the update's ID, and the entry's key, server ID and values.
+pub record SameUpdate (place number : ℕ) (e : Entry) (place′ number′ : ℕ) (f : Entry) : Type 0 where
+  pub table : place ≡ place′
+  pub id : number ≡ number′
+  pub key : keyOf e ≡ keyOf f
+  pub server : e .«server_id» ≡ f .«server_id»
+  pub values : e .values ≡ f .values
+
+-- A message is an update of a table in one way only: its bytes stand for one ID, one key, one server ID and one list of values.
+abbrev pub OneReading : Type 0
+OneReading =
+    (s : Session) (m : Made) (t : Table) (table id : ℕ) (e : Entry) (table′ id′ : ℕ) (f : Entry) → UpdateMessage s m table id t e
+    → UpdateMessage s m table′ id′ t f → SameUpdate table id e table′ id′ f
+
 -- ---- definition
 
--- the message that a call ended is a definition of table t with this ID, likewise
-pub record DefinitionMessage (s : Session) (m : Made) (id : ℕ) (t : Table) : Type 0 where
+-- The message that a call ended is a definition of table t, at the place `place`, with this ID: class 10, type 130, the encoded body
+-- length, and a body of the encoded fields and then of bytes that are ignored. The call came with the store `before`.
+pub record DefinitionMessage (s : Session) (before : Store) (m : Made) (place id : ℕ) (t : Table) : Type 0 where
   pub body : List ℕ
   pub message : messageOf s m ≡ messageBytes 130 body
+  -- the position of the body in the message; "body over 1,024 bytes" is refused
+  pub body-there : drop (bodyStart body) (messageOf s m) ≡ body
+  pub body-most : length body ≤ 1024
   pub ignored : List ℕ
   pub fields : body ≡ definitionBytes id t ++ ignored
   -- "and then, unless the body ends there, expiry and .."
   pub untimed : t .timed ≡ 0 → ignored ≡ []
+  -- the table is held, and within the limits
   pub held : tableHeld t ≡ true
-  pub small : id < 2 ^ 32
+  pub sound : soundTable t ≡ true
+  pub shape : TableShape t
+  pub id-32-bit : id < 2 ^ 32
+  -- "its expiry and periods are replaced, by none where the body has none"
+  pub no-times : t .timed ≡ 0 → (t .expiry ≡ 0) × (t .periods ≡ replicate rateCount 0)
+  -- the period of a rate type that the table hasn't is 0
+  pub no-period : (i : ℕ) → i < rateCount → present (t .«data_types») (getD rateTypes i 0) ≡ false → getD (t .periods) i 0 ≡ 0
+  -- "The ID is then this table's only one"
+  pub bound : isBound (bindingAt (m .session .connection) place) ≡ true
+  pub bound-id : bindingAt (m .session .connection) place .id ≡ id
+  -- the entries stay as they were
+  pub entries : m .store .entries ≡ before .entries
 
--- for every call that answered a table, on any record and store: of the ID and the table that it left at the answered place
+-- Every call that answered a table, on any record and store, ended such a message of the ID and the table that it left at the answered
+-- place.
 abbrev pub BytesOfDefinition : Type 0
 BytesOfDefinition =
     (s : Session) (t : Store) (m : Made) (place : ℕ) → ReadPromise s t m → m .outcome .answer ≡ answer.Table place
-    → DefinitionMessage s m (bindingAt (m .session .connection) place .id) (tableAt m place)
+    → DefinitionMessage s t m place (bindingAt (m .session .connection) place .id) (tableAt m place)
+
+-- What the bytes fix: the ID, and the table's name, key type, key length, data types, expiry and periods.
+pub record SameDefinition (number : ℕ) (t : Table) (number′ : ℕ) (u : Table) : Type 0 where
+  pub id : number ≡ number′
+  pub name : nameOf t ≡ nameOf u
+  pub key-type : t .«key_type» ≡ u .«key_type»
+  pub key-length : t .«key_len» ≡ u .«key_len»
+  pub data-types : t .«data_types» ≡ u .«data_types»
+  pub timed : t .timed ≡ u .timed
+  pub expiry : t .expiry ≡ u .expiry
+  pub periods : t .periods ≡ u .periods
+
+-- A message is a definition in one way only.
+abbrev pub OneDefinition : Type 0
+OneDefinition =
+    (s : Session) (before : Store) (m : Made) (place id : ℕ) (t : Table) (place′ id′ : ℕ) (u : Table) → DefinitionMessage s before m place id t
+    → DefinitionMessage s before m place′ id′ u → SameDefinition id t id′ u

@@ -13,7 +13,7 @@ use Rattle.handshake.specs.Handshake.{judgeHello, judgeStatus}
 use Rattle.frame.specs.declared.Frame.{Frame}
 use Rattle.frame.specs.declared.Frame.the-variants as frame
 use Rattle.frame.specs.Frame.{judgeFrame}
-use Rattle.frame.proofs.Limits.{Whole, whole-facts}
+use Rattle.frame.proofs.Limits.{whole-facts}
 use Rattle.session.specs.declared.Connection.{Connection}
 use Rattle.session.specs.declared.Answer.the-variants as answer
 use Rattle.session.specs.Session.{localName, remoteName}
@@ -22,7 +22,7 @@ use Rattle.message.specs.declared.Asked.{Asked}
 use Rattle.message.specs.OnStores.{refuseOn, noteOn, controlOn, peerErrorOn, stickTableOn}
 use Rattle.message.specs.Settled.{SettlesAll, AsksWith, asksNothing}
 use Rattle.message.proofs.Settling.{asks-settled, asks-all-with, asks-with-as}
-use Rattle.reassembly.specs.Judge.{Judged, helloJudged, statusJudged, frameJudged, judge, effectOf}
+use Rattle.reassembly.specs.Judge.{frameJudged, judge, effectOf}
 use Rattle.handshake_effects.specs.OnStores.{helloOn, statusOn}
 use Rattle.settling.specs.OnStores.{frameOn, judgeOn}
 

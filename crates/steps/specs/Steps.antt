@@ -12,6 +12,7 @@ use Rattle.session.specs.declared.Answer.{Answer}
 use Rattle.session.specs.declared.Answer.the-variants as answer
 use Rattle.session.specs.declared.Reply.{Reply}
 use Rattle.session.specs.Session.{holding}
+use Rattle.message.specs.declared.Settled.{Settled}
 use Rattle.message.specs.Effects.{Effect}
 use Rattle.message.specs.Settled.{noChange, changed}
 use Rattle.steps.specs.declared.Step.{Step}
@@ -35,6 +36,14 @@ answers count e = record {
   outcome = record { taken = count; «reply_len» = length (e .reply); answer = e .answer };
   session = holding (e .connection) [];
   store = e .store;
+}
+
+-- the same of a settled message, whose store is to be changed
+unfoldable pub gives : ℕ → Settled → StepChange
+gives count x = record {
+  outcome = record { taken = count; «reply_len» = x .reply .len; answer = x .answer };
+  session = holding (x .connection) [];
+  change = x .change;
 }
 
 -- the room with a reply at its front; a reply of more than the twelve bytes of its array, or than the room has, is not put

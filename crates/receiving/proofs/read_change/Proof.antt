@@ -1,15 +1,20 @@
+use Prim.Native.Nat.{_≤_}
 use mathlib.Core.Path.{_≡_, sym}
-use mathlib.Core.Bool.{true}
+use mathlib.Core.Bool.{true, false}
+use lib.ListN.{length}
 use borrow.Author.Needs.{needs}
 use borrow.Author.Tests.{lt-ltb}
 use Rattle.lists.specs.Lists.{every}
 use Rattle.lists.proofs.Every.{every-from}
 use Rattle.store.proofs.Typed.{store-shape}
+use Rattle.session.specs.Session.{isClosed}
 use Rattle.session.proofs.Basics.{told-not-true, told-not-false}
 use Rattle.session.proofs.Typed.{session-shape}
+use Rattle.soundness.specs.Sound.{sound}
 use Rattle.receiver.specs.Model.{isByte}
 use Rattle.receiver.specs.Promise.{Shaped}
 use Rattle.receiving.proofs.Promising.{short-promise, unsound-promise, closed-promise, open-promise, is-closed, is-open}
+use Rattle.receiving.proofs.Receiving.{prefix-fits, prefix-long, stays-step, stays-room, waits-step, waits-room, answers-step, answers-room}
 use Rattle.receiving.proofs.read_change.Statement.{statement}
 use Rattle.receiving.proofs.read_change.Tie as tie
 
@@ -18,6 +23,19 @@ shaped a = record { session = session-shape (a .args .session) _ (a .good .0); s
 
 bytes : (a : tie.After-shared-slice-known) → every isByte (a .before .args .piece .now) ≡ true
 bytes a = every-from isByte (a .before .args .piece .now) 0 (λ i l. lt-ltb _ 256 (a .shared-slice-known .given i .fits))
+
+-- what the tests before a piece is taken say
+abbrev first : tie.After-take-piece → tie.After-shared-slice-known
+first k = k .before .before .before .before .before .before .before .before
+
+roomy : (k : tie.After-take-piece) → 12 ≤ length (first k .before .args .reply .now)
+roomy k = k .before .before .before .before .before .before .if1 .left
+
+passed : (k : tie.After-take-piece) → true ≡ sound (first k .before .args .session) (first k .before .args .store)
+passed k = let e = k .before .before .before .before in told-not-false (e .before .sound-session .ensures) (e .if2 .left)
+
+opened : (k : tie.After-take-piece) → isClosed (first k .before .args .session .connection) ≡ false
+opened k = is-open (first k .before .args .session) (k .before .if3 .left)
 
 stay-requires : tie.Need-stay-requires
 stay-requires c κs = search needs
@@ -50,26 +68,80 @@ returns-3 c =
     closed-promise _ _ _ _ (shaped (k .before)) (bytes k) (t .before .if1 .left) (told-not-false (t .sound-session .ensures) (e .if2 .left)) _
     (is-closed (k .before .args .session) (c .before .if3 .taken)) (c .stay3 .ensures)
 
-receive-requires : tie.Need-receive-requires
-receive-requires c κs =
-    let n = c .before in
-    let e = n .before .before .before in
-    let t = e .before in
-    let k = t .before .before .before in
-    (sym (told-not-false (t .sound-session .ensures) (e .if2 .left)), is-open (k .before .args .session) (n .if3 .left), t .before .if1 .left)
+take-piece-requires : tie.Need-take-piece-requires
+take-piece-requires c κs = search needs
+
+stay-requires-4 : tie.Need-stay-requires-4
+stay-requires-4 c κs = search needs
+
+returns-4 : tie.Need-returns-4
+returns-4 c =
+    let k = c .before .before in
+    let a = first k in
+    let x = k .take-piece .ensures in
+    let f = sym (passed k) in
+    let z = c .before .if4 .taken in
+    open-promise _ _ _ _ (shaped (a .before)) (bytes a) (roomy k) (passed k) _ _ (opened k)
+    (stays-step _ _ _ _ x f (opened k) (shaped (a .before)) (bytes a) _ z (c .stay4 .ensures))
+    (stays-room _ _ _ _ x f (opened k) (shaped (a .before)) (bytes a) _ z)
+
+array-share-prefix-bytes : tie.Need-array-share-prefix-bytes
+array-share-prefix-bytes c =
+    let k = c .before .before .before in
+    prefix-fits _ _ _ _ (k .take-piece .ensures) (sym (passed k)) (opened k) (shaped (first k .before)) (bytes (first k))
+
+slice-aggregate-answer : tie.Need-slice-aggregate-answer
+slice-aggregate-answer c =
+    let k = c .before .before .before .before in
+    sym (prefix-long _ _ _ _ (k .take-piece .ensures) (sym (passed k)) (opened k) (shaped (first k .before)) (bytes (first k)))
+
+answer-requires : tie.Need-answer-requires
+answer-requires c κs = search needs
 
 same-length : tie.Need-same-length
 same-length c = search needs
 
-returns-4 : tie.Need-returns-4
-returns-4 c =
+returns-5 : tie.Need-returns-5
+returns-5 c =
     let w = c .before .before in
-    let n = w .before .before in
-    let e = n .before .before .before in
-    let t = e .before in
-    let k = t .before .before .before in
-    open-promise _ _ _ _ (shaped (k .before)) (bytes k) (t .before .if1 .left) (told-not-false (t .sound-session .ensures) (e .if2 .left)) _ _
-    (is-open (k .before .args .session) (n .if3 .left)) (w .receive .ensures .0) (w .receive .ensures .1)
+    let b = w .before .before .before in
+    let e = b .before .before in
+    let k = e .before in
+    let a = first k in
+    let x = k .take-piece .ensures in
+    let f = sym (passed k) in
+    let n = e .if4 .left in
+    let z = b .if5 .taken in
+    open-promise _ _ _ _ (shaped (a .before)) (bytes a) (roomy k) (passed k) _ _ (opened k)
+    (answers-step _ _ _ _ x f (opened k) (shaped (a .before)) (bytes a) n z _ (w .answer .ensures .0))
+    (answers-room _ _ _ _ x f (opened k) (shaped (a .before)) (bytes a) n z _ _ (roomy k) (w .answer .ensures .1))
+
+array-share-prefix-bytes-2 : tie.Need-array-share-prefix-bytes-2
+array-share-prefix-bytes-2 c =
+    let k = c .before .before .before in
+    prefix-fits _ _ _ _ (k .take-piece .ensures) (sym (passed k)) (opened k) (shaped (first k .before)) (bytes (first k))
+
+slice-aggregate-wait : tie.Need-slice-aggregate-wait
+slice-aggregate-wait c =
+    let k = c .before .before .before .before in
+    sym (prefix-long _ _ _ _ (k .take-piece .ensures) (sym (passed k)) (opened k) (shaped (first k .before)) (bytes (first k)))
+
+wait-requires : tie.Need-wait-requires
+wait-requires c κs = search needs
+
+returns-6 : tie.Need-returns-6
+returns-6 c =
+    let b = c .before .before in
+    let e = b .before .before in
+    let k = e .before in
+    let a = first k in
+    let x = k .take-piece .ensures in
+    let f = sym (passed k) in
+    let n = e .if4 .left in
+    let z = b .if5 .left in
+    open-promise _ _ _ _ (shaped (a .before)) (bytes a) (roomy k) (passed k) _ _ (opened k)
+    (waits-step _ _ _ _ x f (opened k) (shaped (a .before)) (bytes a) n _ z (c .wait .ensures))
+    (waits-room _ _ _ _ x f (opened k) (shaped (a .before)) (bytes a) n _ z)
 
 pub read-change-spec : {M : Type 1} → statement M
 read-change-spec =
@@ -82,6 +154,15 @@ read-change-spec =
     returns-2
     stay-requires-3
     returns-3
-    receive-requires
+    take-piece-requires
+    stay-requires-4
+    returns-4
+    array-share-prefix-bytes
+    slice-aggregate-answer
+    answer-requires
     same-length
-    returns-4)
+    returns-5
+    array-share-prefix-bytes-2
+    slice-aggregate-wait
+    wait-requires
+    returns-6)

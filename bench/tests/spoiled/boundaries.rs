@@ -1,0 +1,186 @@
+//! Each kind of fault by itself, and what stands next to it on the other side of its boundary.
+
+use crate::{five_tables, refused_opening, Both};
+use bench::layout::{Session, Store};
+use bench::receivers::Role;
+
+/// A change of record and store.
+type Change = fn(&mut Session, &mut Store);
+
+/// Changes on five tables: the last that is allowed, and the first that isn't.
+const BOUNDARIES: &[(Change, Change)] = &[
+    // tables
+    (|_, t| t.tables[7].held = 0, |_, t| t.tables[7].held = 2),
+    (
+        |_, t| t.tables[1].name_len = 32,
+        |_, t| t.tables[1].name_len = 33,
+    ),
+    (
+        |_, t| t.tables[1].name_len = 1,
+        |_, t| t.tables[1].name_len = 0,
+    ),
+    (
+        |_, t| t.tables[1].key_type = 0,
+        |_, t| t.tables[1].key_type = 5,
+    ),
+    (
+        |_, t| t.tables[1].key_len = 4,
+        |_, t| t.tables[1].key_len = 5,
+    ),
+    (
+        |_, t| t.tables[1].data_types = 0x7_FFFF,
+        |_, t| t.tables[1].data_types = 0x8_0000,
+    ),
+    (|_, t| t.tables[1].timed = 1, |_, t| t.tables[1].timed = 2),
+    (
+        |_, t| t.tables[1].name[0] = b'x',
+        |_, t| t.tables[1].name[0] = b'a',
+    ),
+    // entries
+    (
+        |_, t| t.entries[127].held = 0,
+        |_, t| t.entries[127].held = 2,
+    ),
+    (|_, t| t.entries[0].table = 1, |_, t| t.entries[0].table = 8),
+    (|_, t| t.entries[0].table = 1, |_, t| t.entries[0].table = 5),
+    (
+        |_, t| t.entries[4].key_len = 8,
+        |_, t| t.entries[4].key_len = 9,
+    ),
+    (
+        |_, t| t.entries[2].key_len = 16,
+        |_, t| t.entries[2].key_len = 15,
+    ),
+    (
+        |_, t| t.entries[3].key_len = 64,
+        |_, t| t.entries[3].key_len = 65,
+    ),
+    (
+        |_, t| t.entries[0].key[3] = 255,
+        |_, t| t.entries[0].key[4] = 1,
+    ),
+    (
+        |_, t| t.entries[4].values[0] = 0xFFFF_FFFF,
+        |_, t| t.entries[4].values[0] = 1 << 32,
+    ),
+    (
+        |_, t| t.entries[4].values[22] = u64::MAX,
+        |_, t| t.entries[4].values[23] = u64::MAX,
+    ),
+    (
+        |_, t| t.entries[0].key[3] = b'2',
+        |_, t| t.entries[0].key[3] = b'1',
+    ),
+    // the record
+    (|s, _| s.connection.phase = 2, |s, _| s.connection.phase = 3),
+    (
+        |s, _| s.connection.closed = 1,
+        |s, _| s.connection.closed = 2,
+    ),
+    (
+        |s, _| s.connection.number = 0,
+        |s, _| s.connection.number = 1,
+    ),
+    (
+        |s, _| s.connection.local_len = 1,
+        |s, _| s.connection.local_len = 0,
+    ),
+    (
+        |s, _| s.connection.remote_len = 4,
+        |s, _| s.connection.remote_len = 33,
+    ),
+    (
+        |s, _| s.connection.local[0] = 33,
+        |s, _| s.connection.local[0] = 32,
+    ),
+    (
+        |s, _| s.connection.remote[3] = 126,
+        |s, _| s.connection.remote[3] = 127,
+    ),
+    (
+        |s, _| s.connection.bindings[0].bound = 0,
+        |s, _| s.connection.bindings[0].bound = 2,
+    ),
+    (
+        |s, _| s.connection.bindings[0].updated = 0,
+        |s, _| s.connection.bindings[0].updated = 2,
+    ),
+    (
+        |s, _| s.connection.bindings[5].previous = 9,
+        |s, _| s.connection.bindings[5].updated = 1,
+    ),
+    (
+        |s, _| s.connection.bindings[0].id = 5,
+        |s, _| s.connection.bindings[0].id = 4,
+    ),
+    (
+        |s, _| s.connection.current = 5,
+        |s, _| s.connection.current = 6,
+    ),
+    (
+        |s, _| s.connection.current = 0,
+        |s, _| s.connection.current = 9,
+    ),
+    (|s, _| s.buffer[1026] = 1, |s, _| s.len = 1028),
+    (|s, _| (s.len, s.buffer[0]) = (1, 10), |s, _| s.len = 2),
+];
+
+const NOTHING: Change = |_, _| {};
+
+/// The same on the record of a refused opening, all of which is zeros but for two fields.
+const OPENING_BOUNDARIES: &[(Change, Change)] = &[
+    (
+        |s, _| s.connection.number = 1,
+        |s, _| s.connection.number = 2,
+    ),
+    (
+        |s, _| s.connection.number = 3,
+        |s, _| s.connection.number = 0,
+    ),
+    (|_, t| t.tables[0].key_type = 9, |_, t| t.tables[0].held = 2),
+    (NOTHING, |s, _| s.connection.closed = 2),
+    (NOTHING, |s, _| s.connection.phase = 1),
+    (NOTHING, |s, _| s.connection.current = 1),
+    (NOTHING, |s, _| s.connection.local[31] = 1),
+    (NOTHING, |s, _| s.connection.local_len = 1),
+    (NOTHING, |s, _| s.connection.remote[31] = 1),
+    (NOTHING, |s, _| s.connection.remote_len = 1),
+    (NOTHING, |s, _| s.connection.bindings[7].bound = 1),
+    (NOTHING, |s, _| s.connection.bindings[7].updated = 1),
+    (NOTHING, |s, _| s.connection.bindings[7].id = 1),
+    (NOTHING, |s, _| s.connection.bindings[7].previous = 1),
+    (NOTHING, |s, _| s.buffer[1026] = 1),
+    (NOTHING, |s, _| s.len = 1),
+];
+
+/// Both sides of each boundary.
+fn try_boundaries(base: &Both, boundaries: &[(Change, Change)]) {
+    for (n, sides) in boundaries.iter().enumerate() {
+        for (change, unsound) in [(sides.0, false), (sides.1, true)] {
+            let mut both = base.clone();
+            both.change(change);
+            assert_eq!(both.is_unsound(), unsound, "boundary {n}");
+        }
+    }
+}
+
+#[test]
+fn of_a_record_with_five_tables() {
+    let base = Both::after(Role::Answerer, &five_tables());
+    try_boundaries(&base, BOUNDARIES);
+}
+
+#[test]
+fn of_a_refused_opening() {
+    try_boundaries(&refused_opening(), OPENING_BOUNDARIES);
+}
+
+#[test]
+fn of_what_a_record_was_closed_with() {
+    for number in 0..=255 {
+        let mut both = Both::after(Role::Answerer, &five_tables());
+        both.change(|s, _| (s.connection.closed, s.connection.number) = (1, number));
+        let sound = matches!(number, 0 | 1 | 3 | 10..=15 | 20..=29);
+        assert_eq!(both.is_unsound(), !sound, "closed with {number}");
+    }
+}

@@ -1,0 +1,126 @@
+//! On records and stores that the rules don't allow, or only just allow, the library and the plain receiver answer the same and
+//! leave the same.
+
+mod boundaries;
+mod random;
+mod unfinished;
+
+use bench::layout::{Session, Store};
+use bench::receivers::{Library, Plain, Receiver, Role};
+use bench::streams::{filling, int, message, HELLO};
+
+/// The answer to an unsound record or store.
+const UNSOUND: u32 = 4;
+
+/// Both receivers on one state.
+#[derive(Clone)]
+struct Both {
+    library: Library,
+    plain: Plain,
+}
+
+impl Both {
+    /// Both after these bytes.
+    fn after(role: Role, bytes: &[u8]) -> Both {
+        let mut both = Both {
+            library: Library::open(role),
+            plain: Plain::open(role),
+        };
+        both.library.take_all(bytes);
+        both.plain.take_all(bytes);
+        both
+    }
+
+    fn change(&mut self, change: impl FnOnce(&mut Session, &mut Store)) {
+        change(&mut self.plain.session, &mut self.plain.store);
+        *self.library.session.layout_mut() = self.plain.session;
+        *self.library.store.layout_mut() = *self.plain.store;
+    }
+
+    /// One call of each: the answer's number.
+    fn call(&mut self, piece: &[u8], room: usize) -> u32 {
+        let mut rooms = [vec![0xAA; room], vec![0xAA; room]];
+        let told = self.library.told(piece, &mut rooms[0]);
+        assert_eq!(told, self.plain.told(piece, &mut rooms[1]));
+        assert!(rooms[0] == rooms[1]);
+        assert!(*self.library.session.layout() == self.plain.session);
+        assert!(self.library.store.layout() == &*self.plain.store);
+        told.1
+    }
+
+    /// Whether the state is unsound: calls with all pieces say the same.
+    fn is_unsound(&self) -> bool {
+        let unsound = self.clone().call(b"", 12) == UNSOUND;
+        let pieces = [&[0, 4][..], &message(200, b"x"), &update(b"\x02ab", 35)];
+        for piece in pieces {
+            let mut both = self.clone();
+            assert_eq!(both.call(piece, 11), 1);
+            assert_eq!(both.call(piece, 12) == UNSOUND, unsound);
+            both.call(piece, 12);
+        }
+        unsound
+    }
+}
+
+// ---- states to start from
+
+fn define(id: u8, key_type: u8, key_len: u8, types: u32) -> Vec<u8> {
+    let types = int(types.into());
+    message(
+        130,
+        &[&[id, 1, b'a' + id, key_type, key_len], &types[..]].concat(),
+    )
+}
+
+fn update(key: &[u8], values: u8) -> Vec<u8> {
+    let values: Vec<u8> = (0..values).collect();
+    message(128, &[&[0, 0, 0, 9], key, &values].concat())
+}
+
+/// Five tables with entries 0 to 5, the last table current; strings have all data types.
+fn five_tables() -> Vec<u8> {
+    [
+        HELLO.to_vec(),
+        define(0, 0, 4, 1 << 2),
+        update(b"int0", 1),
+        update(b"int1", 1),
+        define(1, 1, 4, 0),
+        define(2, 2, 16, 0),
+        update(&[6; 16], 0),
+        define(3, 4, 64, 0),
+        update(&[7; 64], 0),
+        define(4, 3, 8, 0x7_FFFF),
+        update(b"\x02ab", 35),
+        update(b"\x03abc", 35),
+    ]
+    .concat()
+}
+
+/// The record of a refused opening, and an empty store.
+fn refused_opening() -> Both {
+    let mut both = Both::after(Role::Answerer, b"");
+    both.change(|record, _| {
+        let c = &mut record.connection;
+        (c.closed, c.number) = (1, 3);
+        (c.local, c.local_len) = ([0; 32], 0);
+        (c.remote, c.remote_len) = ([0; 32], 0);
+    });
+    both
+}
+
+/// States of every phase, with and without unfinished bytes.
+fn states() -> Vec<Both> {
+    let tables = five_tables();
+    let unfinished = [&tables[..], &[10, 128, 40, 0, 0]].concat();
+    let closed = [&tables[..], &[1, 0]].concat();
+    vec![
+        Both::after(Role::Answerer, &HELLO[..20]),
+        Both::after(Role::Caller, b"20"),
+        Both::after(Role::Answerer, HELLO),
+        Both::after(Role::Answerer, &tables),
+        Both::after(Role::Answerer, &unfinished),
+        Both::after(Role::Answerer, &closed),
+        Both::after(Role::Answerer, &filling(128)),
+        refused_opening(),
+    ]
+}

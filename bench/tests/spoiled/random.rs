@@ -1,0 +1,138 @@
+//! Sound states with some bytes changed.
+
+use crate::{states, update, Both, UNSOUND};
+use bench::layout::{Session, Store};
+use bench::streams::message;
+
+/// A small generator (xorshift).
+struct Random(u64);
+
+impl Random {
+    fn below(&mut self, limit: usize) -> usize {
+        self.0 ^= self.0 << 13;
+        self.0 ^= self.0 >> 7;
+        self.0 ^= self.0 << 17;
+        (self.0 % limit as u64) as usize
+    }
+
+    /// A byte, often one beside a boundary.
+    fn byte(&mut self) -> u8 {
+        const NEAR: [u8; 16] = [0, 1, 2, 3, 4, 5, 8, 9, 10, 15, 16, 32, 33, 64, 65, 255];
+        match self.below(3) {
+            0 => self.below(256) as u8,
+            _ => NEAR[self.below(NEAR.len())],
+        }
+    }
+
+    /// Changes one byte, as often as not the first.
+    fn spoil(&mut self, bytes: &mut [u8]) {
+        let at = self.below(2) * self.below(bytes.len());
+        bytes[at] = self.byte();
+    }
+
+    fn spoil_size(&mut self, number: &mut usize) {
+        let mut bytes = number.to_le_bytes();
+        self.spoil(&mut bytes);
+        *number = usize::from_le_bytes(bytes);
+    }
+
+    fn spoil_word(&mut self, number: &mut u32) {
+        let mut bytes = number.to_le_bytes();
+        self.spoil(&mut bytes);
+        *number = u32::from_le_bytes(bytes);
+    }
+}
+
+fn spoil_record(random: &mut Random, record: &mut Session) {
+    let c = &mut record.connection;
+    let binding = &mut c.bindings[random.below(8)];
+    match random.below(14) {
+        0 => c.phase = random.byte(),
+        1 => c.closed = random.byte(),
+        2 => c.number = random.byte(),
+        3 => random.spoil_size(&mut c.current),
+        4 => random.spoil_size(&mut c.local_len),
+        5 => random.spoil_size(&mut c.remote_len),
+        6 => random.spoil(&mut c.local),
+        7 => random.spoil(&mut c.remote),
+        8 => binding.bound = random.byte(),
+        9 => binding.updated = random.byte(),
+        10 => random.spoil_word(&mut binding.id),
+        11 => random.spoil_word(&mut binding.previous),
+        12 => random.spoil_size(&mut record.len),
+        _ => random.spoil(&mut record.buffer[..40]),
+    }
+}
+
+fn spoil_table(random: &mut Random, store: &mut Store) {
+    let table = &mut store.tables[random.below(8)];
+    match random.below(9) {
+        0 => table.held = random.byte(),
+        1 => table.key_type = random.byte(),
+        2 => table.timed = random.byte(),
+        3 => random.spoil_word(&mut table.data_types),
+        4 => random.spoil_size(&mut table.name_len),
+        5 => random.spoil_size(&mut table.key_len),
+        6 => random.spoil_word(&mut table.expiry),
+        7 => random.spoil_word(&mut table.periods[0]),
+        _ => random.spoil(&mut table.name),
+    }
+}
+
+/// Changes an entry that is often held, or makes it another one's copy.
+fn spoil_entry(random: &mut Random, store: &mut Store) {
+    let [place, other] = [(); 2].map(|()| match random.below(4) {
+        0 => random.below(128),
+        _ => random.below(6),
+    });
+    let copy = store.entries[other];
+    let entry = &mut store.entries[place];
+    match random.below(8) {
+        0 => entry.held = random.byte(),
+        1 => entry.server_id = random.below(256) as i32 - 128,
+        2 => random.spoil_size(&mut entry.table),
+        3 => random.spoil_size(&mut entry.key_len),
+        4 => random.spoil(&mut entry.key),
+        5 => entry.values[random.below(34)] = 1 << random.below(64),
+        6 => entry.key = copy.key,
+        _ => *entry = copy,
+    }
+}
+
+/// Makes calls on a spoiled state: whether it was unsound.
+fn calls_agree(random: &mut Random, both: &mut Both) -> bool {
+    let pieces = [
+        b"".to_vec(),
+        vec![0, 4],
+        message(200, b"x"),
+        update(b"\x02ab", 35),
+        update(b"int0", 1),
+        b"0\n".to_vec(),
+    ];
+    let unsound = both.call(b"", 12) == UNSOUND;
+    for _ in 0..2 {
+        let room = [11, 12, 15][random.below(3)];
+        both.call(&pieces[random.below(pieces.len())], room);
+    }
+    unsound
+}
+
+#[test]
+fn after_random_changes() {
+    let mut random = Random(0x1234_5678_9ABC_DEF1);
+    let states = states();
+    let mut unsound = 0;
+    for round in 0..10_500 {
+        let mut both = states[round % states.len()].clone();
+        for _ in 0..1 + random.below(3) {
+            both.change(|record, store| match random.below(3) {
+                0 => spoil_record(&mut random, record),
+                1 => spoil_table(&mut random, store),
+                _ => spoil_entry(&mut random, store),
+            });
+        }
+        unsound += usize::from(calls_agree(&mut random, &mut both));
+    }
+    // both kinds are met often
+    assert!((3_000..8_000).contains(&unsound), "{unsound} unsound");
+}
