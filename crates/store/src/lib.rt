@@ -117,10 +117,9 @@ pub fn put_table(store: Store, place: usize, table: Table) -> Store
     if TABLES <= place {
         return store;
     }
-    let mut tables = store.tables;
-    let entries = store.entries;
-    tables[place] = table;
-    Store { tables, entries }
+    let mut next = store;
+    next.tables[place] = table;
+    next
 }
 
 // The store with the entry at the place; as it was, if there is no such place.
@@ -130,10 +129,9 @@ pub fn put_entry(store: Store, place: usize, entry: Entry) -> Store
     if ENTRIES <= place {
         return store;
     }
-    let tables = store.tables;
-    let mut entries = store.entries;
-    entries[place] = entry;
-    Store { tables, entries }
+    let mut next = store;
+    next.entries[place] = entry;
+    next
 }
 
 // What a table place of the empty store holds.

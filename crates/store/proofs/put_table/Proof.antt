@@ -9,15 +9,15 @@ use Rattle.store.proofs.put_table.Tie as tie
 returns : tie.Need-returns
 returns c = put-table-out _ _ _ (store-shape (c .before .args .store) _ (c .before .good .0)) (c .if1 .taken)
 
-mul-tables : tie.Need-mul-tables
-mul-tables c = search needs
+mul-table : tie.Need-mul-table
+mul-table c = search needs
 
-array-set-from-tables : tie.Need-array-set-from-tables
-array-set-from-tables c = search needs
+element-set-from-table : tie.Need-element-set-from-table
+element-set-from-table c = search needs
 
 returns-2 : tie.Need-returns-2
 unfolding putTable
 returns-2 c = refl
 
 pub put-table-spec : {M : Type 1} → statement M
-put-table-spec = tie.close (tie.spec returns mul-tables array-set-from-tables returns-2)
+put-table-spec = tie.close (tie.spec returns mul-table element-set-from-table returns-2)
