@@ -16,11 +16,6 @@ pub mod LedgerAlong
 pub mod EffectKinds
 pub mod SettledLaws
 pub mod Demand3
-pub mod CasesHold
-pub mod ListingHolds
 pub mod Corollaries
 pub mod ReadBack
 pub mod Sharing
-pub mod WholeMessage
-pub mod UpdateMessages
-pub mod DefinitionMessages

@@ -1,33 +1,29 @@
 -- What follows from the promise and from demand 3, in the auditor's words.
-use Prim.Native.Nat.{ℕ, _+_, _-_, _≤_, _<_, _^_}
+use Prim.Native.Nat.{ℕ, _+_, _-_, _<_, _^_}
 use mathlib.Core.Path.{_≡_}
 use mathlib.Core.Logic.{_⊎_}
-use mathlib.Core.List.{List, [], _++_, flatten}
+use mathlib.Core.List.{List, [], _++_}
 use mathlib.Core.Bool.{Bool, true, cond, _&&_, _||_}
 use lib.ListN.{length, take, drop, getD}
 use lib.Dec.{eqb, leb}
 use Rattle.store.specs.declared.Store.{Store}
-use Rattle.store.specs.Store.{makeEntry, noEntry, noTable, emptyStore}
+use Rattle.store.specs.Store.{makeEntry, noEntry, noTable}
 use Rattle.frame.specs.declared.Frame.the-variants as frame
 use Rattle.frame.specs.Frame.{judgeFrame}
 use Rattle.session.specs.declared.Session.{Session}
 use Rattle.session.specs.declared.Connection.{Connection}
 use Rattle.session.specs.declared.Commit.{Commit}
-use Rattle.session.specs.declared.Answer.{Answer}
 use Rattle.session.specs.declared.Answer.the-variants as answer
 use Rattle.session.specs.Answers.{refusalReply, answerNumber, answerValues}
 use Rattle.session.specs.Session.{unfinished, bindingAt, holding, closedWith}
 use Rattle.soundness.specs.Sound.{sound}
-use Rattle.opening.specs.Opening.{Role, answerer, opened, refusedOpening, «open», openRoom}
+use Rattle.opening.specs.Opening.{Role, refusedOpening, «open», openRoom}
 use Rattle.body.specs.Fields.{Read, got, spanIn}
 use Rattle.body.specs.Bodies.{Update, updateFields, incrementalFields, acknowledgementFields}
 use Rattle.message.specs.Effects.{acknowledge, followingId}
-use Rattle.receiver.specs.Model.{replyRoom}
 use Rattle.receiver.specs.Promise.{Made, ReadPromise}
 use Rattle.receiver.specs.Ledger.{isAcknowledgement}
-use Rattle.receiver.specs.Demand3.{Chain, OffersTo, cameTo, lastSession, lastStore, repliesOf, replyIn, Offering}
-use Rattle.receiver.specs.Cases.{east, west}
-use Rattle.receiver.specs.Listing.{listing, listedResult, listedConnection, listedStore}
+use Rattle.receiver.specs.Demand3.{Chain, OffersTo, cameTo, lastSession, lastStore, repliesOf, replyIn}
 
 -- ---- "would another division of the same traffic by TCP have left another table?"
 
@@ -142,23 +138,6 @@ abbrev pub RefusedOpeningUntouched : Type 0
 RefusedOpeningUntouched =
     (role : Role) (local remote room : List ℕ) (n : ℕ) → «open» role local remote (length room) .answer ≡ answer.Refused n
     → RefusedOpening role local remote room n
-
--- ---- the listing
-
--- calls that offer the listing's stream, in any division, give its answers and replies and leave its store and record
-pub record ListingCame (calls : List Made) : Type 0 where
-  pub came : cameTo (opened answerer east west) emptyStore calls ≡ listedResult
-  pub session : lastSession (opened answerer east west) calls ≡ holding listedConnection []
-  pub store : lastStore emptyStore calls ≡ listedStore
-
-abbrev pub ListingByCalls : Type 0
-ListingByCalls =
-    (calls : List Made) → Chain (opened answerer east west) emptyStore calls → OffersTo (opened answerer east west) listing calls → ListingCame calls
-
--- and there are such calls: for every cutting of it into pieces, with any room of at least 12 bytes
-abbrev pub ListingOffered : Type 0
-ListingOffered =
-    (cuts : List (List ℕ)) (room : List ℕ) → flatten cuts ≡ listing → replyRoom ≤ length room → Offering (opened answerer east west) emptyStore cuts room
 
 -- ---- "a definition gives this paper's number and values for each of the enum's cases"
 

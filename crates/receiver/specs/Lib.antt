@@ -5,6 +5,3 @@ pub mod Parts
 pub mod Ledger
 pub mod Demand3
 pub mod Corollaries
-pub mod MessageBytes
-pub mod Cases
-pub mod Listing

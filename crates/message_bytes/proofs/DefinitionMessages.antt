@@ -43,14 +43,14 @@ use Rattle.body.proofs.OneEncoding.{FittingTable, definition-once, body-once}
 use Rattle.message.specs.Effects.{Effect, refuse, note, fieldsThen, control, controlAnswer, peerError, definedTable, defineAt, defineNew, defineNamed, agrees, definition, switchTo, switch, acknowledgement, skipped, updatedEntry, commitAt, commitNew, commitUpdate, withFields, incrementalOf, update, incremental, stickTable}
 use Rattle.reassembly.specs.Judge.{Judged, waiting, settled, frameJudged, judge}
 use Rattle.streams.specs.Calls.{Call}
 use Rattle.receiver.specs.Model.{State}
 use Rattle.receiver.specs.Promise.{Made, ReadPromise, callOf}
 use Rattle.receiver.specs.Corollaries.{messageOf}
-use Rattle.receiver.specs.MessageBytes.{tableAt, DefinitionMessage, BytesOfDefinition, OneDefinition}
+use Rattle.message_bytes.specs.MessageBytes.{tableAt, DefinitionMessage, BytesOfDefinition, OneDefinition}
 use Rattle.receiver.proofs.EffectKinds.{bodyIn}
 use Rattle.receiver.proofs.Ways.{Way, Judging, staying, waiting-on, judging, ways, answer-is, record-holds}
 use Rattle.receiver.proofs.Acknowledging.{judged, held, bytes}
-use Rattle.receiver.proofs.WholeMessage.{StickTable, body-is, message-is, body-most, body-behind, kept, message-ends, by-frame}
+use Rattle.message_bytes.proofs.WholeMessage.{StickTable, body-is, message-is, body-most, body-behind, kept, message-ends, by-frame}
 
 -- ---- only a definition is answered with a table
 

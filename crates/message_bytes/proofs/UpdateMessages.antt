@@ -40,14 +40,14 @@ use Rattle.body.proofs.UpdateEncoding.{EntryRead, update-encoded, incremental-e
 use Rattle.body.proofs.OneEncoding.{Fitting, SameFields, update-once, incremental-once, type-once, body-once}
 use Rattle.message.specs.Effects.{Effect, updatedEntry, followingId}
 use Rattle.streams.specs.Calls.{Call}
 use Rattle.receiver.specs.Model.{State}
 use Rattle.receiver.specs.Promise.{Made, ReadPromise, callOf}
 use Rattle.receiver.specs.Corollaries.{messageOf, fieldsOf}
-use Rattle.receiver.specs.MessageBytes.{tableAt, entryAt, fieldBytes, serverIdStart, integerStart, UpdateMessage, BytesOfUpdate, SameUpdate, OneReading}
+use Rattle.message_bytes.specs.MessageBytes.{tableAt, entryAt, fieldBytes, serverIdStart, integerStart, UpdateMessage, BytesOfUpdate, SameUpdate, OneReading}
 use Rattle.receiver.proofs.SettledLaws.{Updated, updated}
 use Rattle.receiver.proofs.Ways.{Way, Judging, staying, waiting-on, judging, ways, answer-is}
 use Rattle.receiver.proofs.Acknowledging.{put-here, put-tables, judged, held, bytes}
-use Rattle.receiver.proofs.WholeMessage.{StickTable, body-is, message-is, body-most, body-behind, kept, message-ends}
+use Rattle.message_bytes.proofs.WholeMessage.{StickTable, body-is, message-is, body-most, body-behind, kept, message-ends}
 
 -- ---- the fields of either type
 

@@ -11,8 +11,8 @@ use Rattle.session.specs.declared.Commit.the-variants as commit
 use Rattle.session.specs.declared.Answer.{Answer}
 use Rattle.session.specs.declared.Answer.the-variants as answer
 use Rattle.streams.specs.Calls.{Response, Result}
 use Rattle.receiver.specs.Model.{State}
-use Rattle.receiver.specs.Cases.{hello}
+use Rattle.worked_cases.specs.Cases.{hello}
 
 unfoldable pub listing : List ℕ
 listing =

@@ -1,0 +1,3 @@
+pub mod WholeMessage
+pub mod UpdateMessages
+pub mod DefinitionMessages

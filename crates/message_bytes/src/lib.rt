@@ -1,0 +1,1 @@
+// Which bytes stood for a counter: the message of an accepted update or definition. Claims alone.
