@@ -1,4 +1,4 @@
-// Soundness of one table and of one entry.
+// Soundness of one entry.
 ghost use mathlib.Core.Path.{_≡_};
 ghost use mathlib.Core.List.{[], _∷_};
 ghost use mathlib.Core.Bool.{_&&_};
@@ -6,57 +6,19 @@ ghost use Rattle.lists.specs.Lists.{allOf, every};
 ghost use Rattle.store.specs.Limits.{slotTypes};
 ghost use Rattle.store.specs.Store.{tableHeld};
 ghost use Rattle.place_soundness.specs.Narrow.{isNarrow};
-ghost use Rattle.store.specs.Sound.{tableTests, soundTable, slotOk, slotsOk, entryKeyLengthOk, keyRestZero, valuesOk};
+ghost use Rattle.store.specs.Sound.{slotOk, slotsOk, entryKeyLengthOk, keyRestZero, valuesOk};
 use store::Entry;
 use store::KEY_MAX;
-use store::NAME_MAX;
 use store::Table;
 use store::VALUES;
-use table_types::is_known;
 use table_types::is_string;
 use table_types::is_wide;
 use table_types::key_kind;
-use table_types::key_length_ok;
 use table_types::present;
 use table_types::slot_type;
-use table_types::within;
-
-// Data types are bits 0 to 18.
-const DATA_TYPES_END: u32 = 524288;
 
 // A value of a 32-bit data type is below this.
 const VALUE_END: u64 = 4294967296;
-
-// The tests of a held table.
-fn held_table_ok(t: Table) -> bool
-    ensures { λ r. ⌜ r ≡ allOf (tableTests t) ⌝ }
-{
-    if !within(1, t.name_len, NAME_MAX) {
-        return false;
-    }
-    if !is_known(key_kind(t.key_type)) {
-        return false;
-    }
-    if !key_length_ok(t.key_type, t.key_len) {
-        return false;
-    }
-    if DATA_TYPES_END <= t.data_types {
-        return false;
-    }
-    t.timed <= 1
-}
-
-pub fn sound_table(t: Table) -> bool
-    ensures { λ r. ⌜ r ≡ soundTable t ⌝ }
-{
-    if t.held == 0 {
-        return true;
-    }
-    if t.held != 1 {
-        return false;
-    }
-    held_table_ok(t)
-}
 
 // Whether a held entry's key is as long as its table says.
 fn entry_key_length_ok(t: Table, e: Entry) -> bool

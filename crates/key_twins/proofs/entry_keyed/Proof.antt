@@ -1,6 +1,6 @@
 use Rattle.store.proofs.TwinLoops.{keying}
-use Rattle.store_soundness.proofs.entry_keyed.Statement.{statement}
-use Rattle.store_soundness.proofs.entry_keyed.Tie as tie
+use Rattle.key_twins.proofs.entry_keyed.Statement.{statement}
+use Rattle.key_twins.proofs.entry_keyed.Tie as tie
 
 entry-of-requires : tie.Need-entry-of-requires
 entry-of-requires c κs = search keying

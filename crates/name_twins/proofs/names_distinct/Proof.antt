@@ -2,8 +2,8 @@ use Rattle.store.proofs.TwinLoops.{names, NameOuter, NameInner, names-start, ar
 use Rattle.store.proofs.Typed.{tables-shape}
 use Prim.Native.Nat.{_-_}
 use mathlib.Core.Logic.{⊎-elim}
-use Rattle.store_soundness.proofs.names_distinct.Statement.{statement}
-use Rattle.store_soundness.proofs.names_distinct.Tie as tie
+use Rattle.name_twins.proofs.names_distinct.Statement.{statement}
+use Rattle.name_twins.proofs.names_distinct.Tie as tie
 
 abbrev Inv-loop2 : tie.InvT-loop2
 Inv-loop2 tables i name n j₀ j = NameInner tables i name n j

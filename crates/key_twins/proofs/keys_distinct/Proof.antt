@@ -2,8 +2,8 @@ use Rattle.store.proofs.TwinLoops.{keys, KeyOuter, KeyInner, keys-start, array-
 use Rattle.store.proofs.Typed.{entries-shape}
 use Prim.Native.Nat.{_-_}
 use mathlib.Core.Logic.{⊎-elim}
-use Rattle.store_soundness.proofs.keys_distinct.Statement.{statement}
-use Rattle.store_soundness.proofs.keys_distinct.Tie as tie
+use Rattle.key_twins.proofs.keys_distinct.Statement.{statement}
+use Rattle.key_twins.proofs.keys_distinct.Tie as tie
 
 abbrev Inv-loop2 : tie.InvT-loop2
 Inv-loop2 entries i key table n j₀ j = KeyInner entries i key table n j

@@ -1,7 +1,7 @@
 use Rattle.store.proofs.Tested.{tables}
 use borrow.Author.Needs.{needs}
-use Rattle.place_soundness.proofs.sound_table.Statement.{statement}
-use Rattle.place_soundness.proofs.sound_table.Tie as tie
+use Rattle.table_soundness.proofs.sound_table.Statement.{statement}
+use Rattle.table_soundness.proofs.sound_table.Tie as tie
 
 returns : tie.Need-returns
 returns c = search tables

@@ -2,8 +2,8 @@ use Rattle.store.proofs.Tested.{all-tables}
 use Prim.Native.Nat.{_-_}
 use Rattle.lists.proofs.Testing.{Testing}
 use Rattle.store.specs.Sound.{soundTable}
-use Rattle.store_soundness.proofs.sound_tables.Statement.{statement}
-use Rattle.store_soundness.proofs.sound_tables.Tie as tie
+use Rattle.table_soundness.proofs.sound_tables.Statement.{statement}
+use Rattle.table_soundness.proofs.sound_tables.Tie as tie
 
 abbrev Inv-loop : tie.InvT-loop
 Inv-loop tables i₀ i = Testing soundTable tables 8 i

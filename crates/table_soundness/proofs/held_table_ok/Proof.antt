@@ -1,7 +1,7 @@
 use Rattle.store.proofs.Tested.{rows}
 use borrow.Author.Needs.{needs}
-use Rattle.place_soundness.proofs.held_table_ok.Statement.{statement}
-use Rattle.place_soundness.proofs.held_table_ok.Tie as tie
+use Rattle.table_soundness.proofs.held_table_ok.Statement.{statement}
+use Rattle.table_soundness.proofs.held_table_ok.Tie as tie
 
 within-requires : tie.Need-within-requires
 within-requires c κs = search rows
