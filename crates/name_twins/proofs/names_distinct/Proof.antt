@@ -1,4 +1,4 @@
-use Rattle.store.proofs.TwinLoops.{names, NameOuter, NameInner, names-start, array-names, name-passed, name-free}
+use Rattle.store.proofs.TwinLoops.{names, NameOuter, NameInner, names-start, array-names, name-twin, name-passed, name-free}
 use Rattle.store.proofs.Typed.{tables-shape}
 use Prim.Native.Nat.{_-_}
 use mathlib.Core.Logic.{⊎-elim}
@@ -52,7 +52,9 @@ table-named-requires : tie.Need-table-named-requires Inv-loop2 μ-loop2 Inv-loop
 table-named-requires c κs = search names
 
 returns : tie.Need-returns Inv-loop2 μ-loop2 Inv-loop μ-loop
-returns c = search names
+returns c =
+    let i = c .before .before .before .before in
+    name-twin (i .before .loop2 .inv) (i .loop2-test .taken) (c .before .table-named .ensures) (c .if2 .taken)
 
 add-j-2 : tie.Need-add-j-2 Inv-loop2 μ-loop2 Inv-loop μ-loop
 add-j-2 c = search names

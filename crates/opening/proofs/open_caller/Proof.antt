@@ -1,7 +1,7 @@
 use Prim.Native.Nat.{_^_, _<_}
 use native.Mathlib.Omega.{arith}
-use Rattle.session.proofs.Basics.{told-not-false}
-use Rattle.opening.proofs.Making.{calling, caller-result, caller-room, never-full}
+use Rattle.session.proofs.Basics.{told-not-true, told-not-false}
+use Rattle.opening.proofs.Making.{calling, small-result, small-room, name-result, name-room, caller-result, caller-room, never-full}
 use borrow.Author.Needs.{needs}
 use Rattle.opening.proofs.open_caller.Statement.{statement}
 use Rattle.opening.proofs.open_caller.Tie as tie
@@ -16,7 +16,9 @@ refused-opening-requires : tie.Need-refused-opening-requires
 refused-opening-requires c κs = search calling
 
 returns : tie.Need-returns
-returns c = search calling
+returns c =
+    let r = c .before .before .before .before .before .args .room .now in
+    (small-result _ _ _ r _ (c .before .if1 .taken) (c .refused-opening .ensures), small-room _ _ _ r (c .before .if1 .taken))
 
 names-given-requires : tie.Need-names-given-requires
 names-given-requires c κs = search calling
@@ -25,7 +27,11 @@ refused-opening-requires-2 : tie.Need-refused-opening-requires-2
 refused-opening-requires-2 c κs = search calling
 
 returns-2 : tie.Need-returns-2
-returns-2 c = search calling
+returns-2 c =
+    let l = c .before .before .before .if1 .left in
+    let n = told-not-true (c .before .before .names-given .ensures) (c .before .if2 .taken) in
+    let r = c .before .before .before .before .before .before .before .args .room .now in
+    (name-result _ _ _ r l _ n (c .refused-opening2 .ensures), name-room _ _ _ r l n)
 
 new-session-requires : tie.Need-new-session-requires
 new-session-requires c κs = search calling

@@ -1,6 +1,6 @@
 use mathlib.Core.Logic.{⊎-elim}
 use Prim.Native.Nat.{_-_}
-use Rattle.store_soundness.proofs.Scanning.{scanning, Scan, scan-held, scan-free}
+use Rattle.store_soundness.proofs.Scanning.{scanning, Scan, scan-held, scan-free, scan-bad-place, no-marks}
 use Rattle.store_soundness.proofs.test_entries.Statement.{statement}
 use Rattle.store_soundness.proofs.test_entries.Tie as tie
 
@@ -23,7 +23,10 @@ returns : tie.Need-returns Inv-loop μ-loop
 returns c = search scanning
 
 returns-2 : tie.Need-returns-2 Inv-loop μ-loop
-returns-2 c = search scanning
+returns-2 c =
+    let s = c .before .before in
+    let l = s .before .before .before .before in
+    (scan-bad-place (l .before .loop .inv) (l .loop-test .taken) (c .before .if2 .left) (c .if3 .taken), no-marks)
 
 mul-t : tie.Need-mul-t Inv-loop μ-loop
 mul-t c = search scanning
