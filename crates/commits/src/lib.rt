@@ -1,10 +1,10 @@
 // Committing an entry, and the acknowledgement of its update.
+use changes::refuse;
 use lookup::Place;
 use lookup::find_entry;
 use message::Asked;
 use message::Settled;
 use message::binding_at;
-use message::refuse;
 use session::Answer;
 use session::Commit;
 use session::Connection;
@@ -50,7 +50,7 @@ pub fn commit_at(
     let bindings = connection.bindings;
     let b = binding_at(bindings, table);
     let reply = acknowledge(b.id, id);
-    let change = message::entry_change(place, entry);
+    let change = changes::entry_change(place, entry);
     Settled {
         answer: Answer::Update {
             table,

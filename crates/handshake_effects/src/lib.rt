@@ -1,10 +1,10 @@
 // What the bytes of a hello and of a status come to.
+use changes::no_change;
+use changes::refuse;
 use handshake::Hello;
 use handshake::Status;
 use hello_effects::accepted_hello;
 use message::Settled;
-use message::no_change;
-use message::refuse;
 use replies::no_reply;
 use session::Answer;
 use session::Connection;

@@ -1,7 +1,7 @@
 // What an accepted hello does.
+use changes::no_change;
 use handshake::Hello;
 use message::Settled;
-use message::no_change;
 use replies::hello_reply;
 use session::Answer;
 use session::Connection;

@@ -1,6 +1,6 @@
 // The reading call by value: one session record, one store, a piece of the stream and room for a reply.
 use answering::answer;
-use message::put_change;
+use changes::put_change;
 use pieces::take_piece;
 use session::Answer;
 use session::Session;

@@ -1,11 +1,11 @@
 // What unfinished bytes come to.
+use changes::ask_nothing;
 use frame::Frame;
 use frame::judge_frame;
 use handshake_effects::more;
 use handshake_effects::settle_hello;
 use handshake_effects::settle_status;
 use message::Asked;
-use message::ask_nothing;
 use session::AWAITING_HELLO;
 use session::AWAITING_STATUS;
 use session::Connection;
@@ -20,12 +20,12 @@ fn settle_frame(connection: Connection, tables: [Table; TABLES], u: &[u8]) -> As
 {
     match judge_frame(u) {
         Frame::Waiting => ask_nothing(more(connection)),
-        Frame::Control(kind) => ask_nothing(message::control(connection, kind)),
-        Frame::Error(kind) => ask_nothing(message::peer_error(connection, kind)),
+        Frame::Control(kind) => ask_nothing(controls::control(connection, kind)),
+        Frame::Error(kind) => ask_nothing(controls::peer_error(connection, kind)),
         Frame::Body { kind, start, end } => {
             stick_tables::stick_table(connection, tables, kind, &u[start..end])
         }
-        Frame::Refused(number) => ask_nothing(message::refuse(connection, number)),
+        Frame::Refused(number) => ask_nothing(changes::refuse(connection, number)),
     }
 }
 

@@ -1,7 +1,7 @@
 // What a reading call by value gives back, where nothing is taken and where more is wanted.
+use changes::no_change;
 use lists::pad;
 use message::Change;
-use message::no_change;
 use session::Answer;
 use session::Connection;
 use session::Outcome;

@@ -1,12 +1,12 @@
 // What each stick table message does to session and store, by its type.
 use body::AcknowledgementBody;
+use changes::ask_nothing;
+use changes::no_change;
+use changes::refuse;
+use controls::skipped;
 use lists::Found;
 use message::Asked;
 use message::Settled;
-use message::ask_nothing;
-use message::no_change;
-use message::refuse;
-use message::skipped;
 use replies::no_reply;
 use session::Answer;
 use session::Connection;

@@ -1,8 +1,8 @@
 // What a definition does to session and store.
 use body::Reading;
+use changes::refuse;
 use lists::Found;
 use message::Settled;
-use message::refuse;
 use message::table_at;
 use replies::no_reply;
 use session::Answer;
@@ -33,7 +33,7 @@ fn define_at(connection: Connection, id: u32, table: Table, place: usize) -> Set
 {
     let bound = bindings::bind_table(connection, place, id);
     let reply = no_reply();
-    let change = message::table_change(place, table);
+    let change = changes::table_change(place, table);
     Settled {
         answer: Answer::Table(place),
         reply,

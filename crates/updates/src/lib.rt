@@ -1,9 +1,9 @@
 // What an update and an incremental update ask for.
 use body::Reading;
 use body::UpdateBody;
+use changes::ask_commit;
+use changes::ask_refusal;
 use message::Asked;
-use message::ask_commit;
-use message::ask_refusal;
 use message::binding_at;
 use message::table_at;
 use session::Connection;

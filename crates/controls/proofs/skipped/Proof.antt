@@ -1,6 +1,6 @@
 use Rattle.message.proofs.Settling.{settling}
-use Rattle.message.proofs.skipped.Statement.{statement}
-use Rattle.message.proofs.skipped.Tie as tie
+use Rattle.controls.proofs.skipped.Statement.{statement}
+use Rattle.controls.proofs.skipped.Tie as tie
 
 no-reply-requires : tie.Need-no-reply-requires
 no-reply-requires c κs = search settling

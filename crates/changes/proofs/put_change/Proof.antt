@@ -1,6 +1,6 @@
 use Rattle.message.proofs.Settling.{changing}
-use Rattle.message.proofs.put_change.Statement.{statement}
-use Rattle.message.proofs.put_change.Tie as tie
+use Rattle.changes.proofs.put_change.Statement.{statement}
+use Rattle.changes.proofs.put_change.Tie as tie
 
 put-table-requires : tie.Need-put-table-requires
 put-table-requires c κs = search changing

@@ -1,6 +1,6 @@
 use Rattle.message.proofs.Settling.{settling}
-use Rattle.message.proofs.refuse.Statement.{statement}
-use Rattle.message.proofs.refuse.Tie as tie
+use Rattle.changes.proofs.refuse.Statement.{statement}
+use Rattle.changes.proofs.refuse.Tie as tie
 
 close-connection-requires : tie.Need-close-connection-requires
 close-connection-requires c κs = search settling
