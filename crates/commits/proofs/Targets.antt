@@ -20,10 +20,10 @@ use Rattle.store.specs.declared.Entry.{Entry}
 use Rattle.store.specs.declared.Store.{Store}
 use Rattle.store.specs.Store.{entryKeyed, entryFree, findEntry, freeEntry}
 use Rattle.store.proofs.Lookup.{blankEntry, long-key, Keys}
-use Rattle.lookup.specs.declared.Place.{Place}
-use Rattle.lookup.specs.declared.Place.the-variants as place
-use Rattle.lookup.specs.Places.{freeOf, placeOf}
-use Rattle.lookup.proofs.Looking.{array-keys}
+use Rattle.entry_lookup.specs.declared.Place.{Place}
+use Rattle.entry_lookup.specs.declared.Place.the-variants as place
+use Rattle.entry_lookup.specs.Places.{freeOf, placeOf}
+use Rattle.entry_lookup.proofs.Looking.{array-keys}
 use Rattle.session.specs.declared.Connection.{Connection}
 use Rattle.session.specs.declared.Commit.the-variants as commit
 use Rattle.message.specs.declared.Settled.{Settled}

@@ -9,9 +9,9 @@ use Rattle.lists.specs.Lists.{firstPlace, padTo}
 use Rattle.store.specs.declared.Entry.{Entry}
 use Rattle.store.specs.Limits.{keyMax}
 use Rattle.store.specs.Store.{entryKeyed, entryFree}
-use Rattle.lookup.specs.declared.Place.{Place}
-use Rattle.lookup.specs.declared.Place.the-variants as place
-use Rattle.lookup.specs.Places.{placeOf}
+use Rattle.entry_lookup.specs.declared.Place.{Place}
+use Rattle.entry_lookup.specs.declared.Place.the-variants as place
+use Rattle.entry_lookup.specs.Places.{placeOf}
 use Rattle.session.specs.declared.Commit.the-variants as commit
 use Rattle.commits.specs.declared.Target.{Target}
 

@@ -1,7 +1,7 @@
 // Committing an entry, and the acknowledgement of its update.
 use changes::refuse;
-use lookup::Place;
-use lookup::find_entry;
+use entry_lookup::Place;
+use entry_lookup::find_entry;
 use message::Asked;
 use message::Settled;
 use message::binding_at;

@@ -1,6 +1,6 @@
-use Rattle.lookup.proofs.Looking.{lowest-free}
-use Rattle.lookup.proofs.free_place.Statement.{statement}
-use Rattle.lookup.proofs.free_place.Tie as tie
+use Rattle.entry_lookup.proofs.Looking.{lowest-free}
+use Rattle.entry_lookup.proofs.free_place.Statement.{statement}
+use Rattle.entry_lookup.proofs.free_place.Tie as tie
 
 returns : tie.Need-returns
 returns c = search lowest-free

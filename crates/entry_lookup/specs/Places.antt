@@ -5,8 +5,8 @@ use lib.Dec.{eqb}
 use Rattle.lists.specs.declared.Found.{Found}
 use Rattle.lists.specs.declared.Found.the-variants as found
 use Rattle.store.specs.Limits.{entryPlaces}
-use Rattle.lookup.specs.declared.Place.{Place}
-use Rattle.lookup.specs.declared.Place.the-variants as place
+use Rattle.entry_lookup.specs.declared.Place.{Place}
+use Rattle.entry_lookup.specs.declared.Place.the-variants as place
 
 -- where its key isn't held
 unfoldable pub freeOf : Found → Place

@@ -25,9 +25,9 @@ use Rattle.store.specs.Store.{entryOf, entryKeyed, entryFree, noEntry}
 use Rattle.store.proofs.Entry as entry-type
 use Rattle.store.proofs.Typed.{entries-shape}
 use Rattle.store.proofs.Lookup.{blankEntry, entry-free, entry-not-free, not-of, by-bytes, long-key, Keys}
-use Rattle.lookup.specs.declared.Place.{Place}
-use Rattle.lookup.specs.declared.Place.the-variants as place
-use Rattle.lookup.specs.Places.{freeOf, placeOf, nextFree, freePlace}
+use Rattle.entry_lookup.specs.declared.Place.{Place}
+use Rattle.entry_lookup.specs.declared.Place.the-variants as place
+use Rattle.entry_lookup.specs.Places.{freeOf, placeOf, nextFree, freePlace}
 
 -- ---- the lowest free place as a number
 

@@ -1,6 +1,6 @@
-use Rattle.answering.proofs.Answering.{replying}
-use Rattle.answering.proofs.put_reply.Statement.{statement}
-use Rattle.answering.proofs.put_reply.Tie as tie
+use Rattle.giving.proofs.Giving.{replying}
+use Rattle.giving.proofs.put_reply.Statement.{statement}
+use Rattle.giving.proofs.put_reply.Tie as tie
 
 returns : tie.Need-returns
 returns c = search replying

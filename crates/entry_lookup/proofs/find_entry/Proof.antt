@@ -1,9 +1,9 @@
 use Prim.Native.Nat.{_-_}
 use mathlib.Core.Path.{refl}
 use mathlib.Core.Logic.{⊎-elim}
-use Rattle.lookup.proofs.Looking.{looking, Looking, Matching, array-keys, look, look-past, look-next, byte-differs, key-too-long}
-use Rattle.lookup.proofs.find_entry.Statement.{statement}
-use Rattle.lookup.proofs.find_entry.Tie as tie
+use Rattle.entry_lookup.proofs.Looking.{looking, Looking, Matching, array-keys, look, look-past, look-next, byte-differs, key-too-long}
+use Rattle.entry_lookup.proofs.find_entry.Statement.{statement}
+use Rattle.entry_lookup.proofs.find_entry.Tie as tie
 
 abbrev Inv-bytes : tie.InvT-bytes
 Inv-bytes table key entries n free i e bytes j₀ j = Matching table key n entries free i bytes j

@@ -1,6 +1,6 @@
-use Rattle.answering.proofs.Answering.{giving}
-use Rattle.answering.proofs.give.Statement.{statement}
-use Rattle.answering.proofs.give.Tie as tie
+use Rattle.giving.proofs.Giving.{giving}
+use Rattle.giving.proofs.give.Statement.{statement}
+use Rattle.giving.proofs.give.Tie as tie
 
 put-reply-requires : tie.Need-put-reply-requires
 put-reply-requires c κs = search giving

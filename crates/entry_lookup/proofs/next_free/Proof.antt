@@ -1,6 +1,6 @@
-use Rattle.lookup.proofs.Looking.{lowest-free}
-use Rattle.lookup.proofs.next_free.Statement.{statement}
-use Rattle.lookup.proofs.next_free.Tie as tie
+use Rattle.entry_lookup.proofs.Looking.{lowest-free}
+use Rattle.entry_lookup.proofs.next_free.Statement.{statement}
+use Rattle.entry_lookup.proofs.next_free.Tie as tie
 
 returns : tie.Need-returns
 returns c = search lowest-free
