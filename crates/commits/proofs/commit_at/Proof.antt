@@ -1,4 +1,4 @@
-use Rattle.message.proofs.Committing.{committing}
+use Rattle.message.proofs.Committing.{committing, commits}
 use Rattle.commits.proofs.commit_at.Statement.{statement}
 use Rattle.commits.proofs.commit_at.Tie as tie
 
@@ -15,7 +15,10 @@ entry-change-requires : tie.Need-entry-change-requires
 entry-change-requires c κs = search committing
 
 returns : tie.Need-returns
-returns c = search committing
+returns c =
+    let a = c .before in
+    let b = a .before in
+    commits _ _ _ _ _ _ _ _ _ (b .before .before .commit-update .ensures) (c .entry-change .ensures) (b .binding-at .ensures) (a .acknowledge .ensures)
 
 pub commit-at-spec : {M : Type 1} → statement M
 commit-at-spec =

@@ -1,4 +1,6 @@
-use Rattle.reassembly.proofs.Taking.{taking, Taking}
+use Rattle.reassembly.proofs.Taking.{taking, Taking, ends, all-taken}
+use Rattle.session.proofs.Basics.{told-not-true}
+use mathlib.Core.Path.{refl}
 use Prim.Native.Nat.{_-_}
 use lib.ListN.{length}
 use Rattle.pieces.proofs.take_piece.Statement.{statement}
@@ -41,7 +43,11 @@ bytes-wait-requires : tie.Need-bytes-wait-requires Inv-loop μ-loop
 bytes-wait-requires c κs = search taking
 
 returns : tie.Need-returns Inv-loop μ-loop
-returns c = search taking
+returns c =
+    let l = c .before .before .before .before in
+    let n = l .before .before in
+    ends (l .before .loop .inv) _ refl (l .loop-test .taken) _ (n .before .unfinished-bytes .ensures) (n .unfinished-len .ensures .0) _ (c .before .bytes-wait .ensures)
+    (told-not-true refl (c .if1 .taken))
 
 loop-less : tie.Need-loop-less Inv-loop μ-loop
 loop-less c = search taking
@@ -50,7 +56,9 @@ loop-again : tie.Need-loop-again Inv-loop μ-loop
 loop-again c = search taking
 
 returns-2 : tie.Need-returns-2 Inv-loop μ-loop
-returns-2 c = search taking
+returns-2 c =
+    let n = c .before .before in
+    all-taken (c .before .loop .inv) _ (n .before .unfinished-bytes .ensures) (n .unfinished-len .ensures .0) (c .loop-test .left)
 
 pub take-piece-spec : {M : Type 1} → statement M
 take-piece-spec =
