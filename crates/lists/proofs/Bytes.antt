@@ -1,11 +1,12 @@
 -- Byte strings: equality, padding with zeros, and a new front.
-use Prim.Native.Nat.{ℕ, zero, suc, _+_, _-_, _≤_, _<_}
+use Prim.Native.Nat.{ℕ, zero, suc, _+_, _-_, _≤_, _<_, min}
 use native.Mathlib.Omega.{arith}
+use native.Mathlib.Nat.{zero-add}
 use mathlib.Core.Path.{_≡_, refl, sym, ap, _∙_, subst}
 use mathlib.Core.Bool.{Bool, true, false, cond, not, _&&_}
 use mathlib.Core.List.{List, [], _∷_, _++_}
 use lib.ListN.{length, take, drop, set, getD, replicate, drop-of-length-le, length-append, length-drop, length-replicate}
-use lib.Seq.{take-append-seam, drop-append-seam}
+use lib.Seq.{take-append-seam, drop-append-seam, take-at, take-nil, length-take-le, paste, paste-suc}
 use lib.Dec.{eqb}
 use borrow.Author.Tests.{eqb-true, eqb-false, eq-eqb, ne-eqb}
 use Rattle.lists.specs.Lists.{every, eqBytes, padTo, front, isZero}
@@ -102,6 +103,14 @@ pad-at (suc n) [] (suc i) d h = pad-at n [] i d (omega arith)
 pad-at (suc n) (x ∷ xs) zero d h = refl
 pad-at (suc n) (x ∷ xs) (suc i) d h = pad-at n xs i d (omega arith)
 
+-- a part that has all that the places hold
+pub pad-part : (m n : ℕ) (xs : List ℕ) → min (length xs) m ≤ n → padTo m (take n xs) ≡ padTo m xs
+unfolding padTo
+pad-part zero n xs h = refl
+pad-part (suc m) n [] h = ap (padTo (suc m)) (take-nil n)
+pad-part (suc m) zero (x ∷ xs) h = absurd (omega arith)
+pad-part (suc m) (suc n) (x ∷ xs) h = ap (λ (l : List ℕ). x ∷ l) (pad-part m n xs (omega arith))
+
 pub zeros-zero : (n : ℕ) → every isZero (replicate n 0) ≡ true
 zeros-zero zero = every-nil isZero
 zeros-zero (suc n) = every-cons isZero 0 (replicate n 0) ∙ zeros-zero n
@@ -119,3 +128,30 @@ front-take xs room = take-append-seam xs (drop (length xs) room)
 pub front-drop : (xs room : List ℕ) → drop (length xs) (front xs room) ≡ drop (length xs) room
 unfolding front
 front-drop xs room = drop-append-seam xs (drop (length xs) room)
+
+-- a part of a list as the front
+pub front-none : (xs room : List ℕ) → front (take 0 xs) room ≡ room
+unfolding front
+front-none xs room = refl
+
+module _ (xs room : List ℕ) (n : ℕ) where
+  pub front-size : n ≤ length xs → n ≤ length room → length (front (take n xs) room) ≡ length room
+  front-size l m = front-length (take n xs) room (omega (arith, length-take-le n xs l))
+
+  pub front-part : n ≤ length xs → take n (front (take n xs) room) ≡ take n xs
+  unfolding front
+  front-part l = take-at (take n xs) (drop (length (take n xs)) room) n (length-take-le n xs l)
+
+  front-paste : n ≤ length xs → front (take n xs) room ≡ paste room 0 xs n
+  unfolding front
+  front-paste l = ap (λ (k : ℕ). take n xs ++ drop k room) (length-take-le n xs l ∙ sym (zero-add n))
+
+pub front-more : (xs room : List ℕ) (i : ℕ) → i < length xs → i < length room
+    → set (front (take i xs) room) i (getD xs i 0) ≡ front (take (i + 1) xs) room
+front-more xs room i l m =
+    let e : suc i ≡ i + 1 = omega arith in
+    ap (λ (x : List ℕ). set x i (getD xs i 0)) (front-paste xs room i (omega arith))
+    ∙ ap (λ (k : ℕ). set (paste room 0 xs i) k (getD xs i 0)) (sym (zero-add i))
+    ∙ paste-suc room 0 xs i 0 (omega arith) l
+    ∙ ap (paste room 0 xs) e
+    ∙ sym (front-paste xs room (i + 1) (omega arith))

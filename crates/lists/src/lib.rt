@@ -1,8 +1,8 @@
 // Byte strings and places in a list: what the layers above share.
 ghost use mathlib.Core.Path.{_≡_};
-ghost use Prim.Native.Nat.{min};
-ghost use lib.ListN.{length, getD};
-ghost use Rattle.lists.specs.Lists.{every, eqBytes, padTo, isZero};
+ghost use Prim.Native.Nat.{min, _≤_};
+ghost use lib.ListN.{length, take};
+ghost use Rattle.lists.specs.Lists.{every, eqBytes, front, padTo, isZero};
 
 // The answer of a search: the place of what was looked for, or nothing.
 pub enum Found {
@@ -34,26 +34,38 @@ pub fn same(a: &[u8], b: &[u8]) -> bool
     true
 }
 
-// The byte at a place, or 0 past the end.
-fn byte_or_zero(bytes: &[u8], i: usize) -> u8
-    ensures { λ r. ⌜ r ≡ getD (now (bytes .entry)) i 0 ⌝ }
+// The first n bytes go to the front of the room.
+fn copy_front(room: &mut [u8], bytes: &[u8], n: usize)
+    requires { ⌜ (n ≤ length (now bytes)) × (n ≤ length (now room)) ⌝ }
+    ensures { λ r. ⌜ now (room .exit) ≡ front (take n (now (bytes .entry))) (now (room .entry)) ⌝ }
 {
-    if bytes.len() <= i {
-        return 0;
+    let mut i = 0;
+    while i < n {
+        room[i] = bytes[i];
+        i += 1;
     }
-    bytes[i]
 }
 
-// Fills the room with the bytes, as far as they fit, and zeros after them.
+// Zeros from place n on.
+fn zero_from(room: &mut [u8], n: usize)
+    requires { ⌜ n ≤ length (now room) ⌝ }
+    ensures { λ r. ⌜ now (room .exit) ≡ padTo (length (now (room .entry))) (take n (now (room .entry))) ⌝ }
+{
+    let mut i = n;
+    while i < room.len() {
+        room[i] = 0;
+        i += 1;
+    }
+}
+
+// Fills the room with the bytes, as far as they fit, and zeros after them. Neither loop asks where the bytes end: such
+// loops are compiled to wide instructions.
 pub fn pad(room: &mut [u8], bytes: &[u8])
     ensures { λ r. ⌜ now (room .exit) ≡ padTo (length (now (room .entry))) (now (bytes .entry)) ⌝ }
 {
-    let mut i = 0;
-    while i < room.len() {
-        let b = byte_or_zero(bytes, i);
-        room[i] = b;
-        i += 1;
-    }
+    let n = shorter(bytes.len(), room.len());
+    copy_front(room, bytes, n);
+    zero_from(room, n);
 }
 
 // Whether all bytes are zero. All are looked at: such a loop is compiled to wide instructions.
