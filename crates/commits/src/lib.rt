@@ -17,7 +17,7 @@ ghost use Rattle.session.specs.Answers.{replyOf};
 ghost use Rattle.message.specs.Effects.{acknowledge};
 ghost use Rattle.message.specs.OnStores.{commitAtOn};
 ghost use Rattle.message.specs.Settled.{SettlesAll, Finishes};
-ghost use Rattle.commits.specs.Targets.{lookedUp, Goes, targetOf};
+ghost use Rattle.commits.specs.Targets.{lookedUp, goesTo, targetOf, FinishesAt};
 
 // The acknowledgement of an update: class 10, type 133, the length of its body, the table's bound ID and the update's ID.
 pub fn acknowledge(id: u32, update: u32) -> Reply
@@ -75,8 +75,8 @@ fn looked_up(key_len: usize) -> usize
 }
 
 // Where an entry goes, by its table and its key.
-fn place_of(entries: [Entry; ENTRIES], entry: Entry) -> Place
-    ensures { λ r. ⌜ Goes entries entry r ⌝ }
+pub fn place_of(entries: [Entry; ENTRIES], entry: Entry) -> Place
+    ensures { λ r. ⌜ r ≡ goesTo entries entry ⌝ }
 {
     let held = entry.key;
     let mut key = [0u8; KEY_MAX + 1];
@@ -114,19 +114,28 @@ fn target_of(found: Place) -> Target
     }
 }
 
-// What was asked is done: where an entry is committed, it goes to the place of its key, else to the lowest free place.
-pub fn finish(connection: Connection, entries: [Entry; ENTRIES], asked: Asked) -> Settled
-    ensures { λ r. ⌜ Finishes connection entries asked r ⌝ }
+// What was asked is done, where a committed entry goes to the place.
+pub fn finish_at(connection: Connection, place: Place, asked: Asked) -> Settled
+    ensures { λ r. ⌜ FinishesAt connection place asked r ⌝ }
 {
     if !asked.commits {
         let settled = asked.settled;
         return settled;
     }
-    let entry = asked.entry;
-    let target = target_of(place_of(entries, entry));
+    let target = target_of(place);
     if target.full {
         return refuse(connection, 29);
     }
+    let entry = asked.entry;
     let how = target.how;
     commit_at(connection, asked.id, entry, target.place, how)
+}
+
+// What was asked is done: where an entry is committed, it goes to the place of its key, else to the lowest free place.
+pub fn finish(connection: Connection, entries: [Entry; ENTRIES], asked: Asked) -> Settled
+    ensures { λ r. ⌜ Finishes connection entries asked r ⌝ }
+{
+    let entry = asked.entry;
+    let place = place_of(entries, entry);
+    finish_at(connection, place, asked)
 }

@@ -1,36 +1,15 @@
-use Rattle.commits.proofs.Targets.{finishing}
+use Rattle.commits.proofs.Targets.{finding}
 use Rattle.commits.proofs.finish.Statement.{statement}
 use Rattle.commits.proofs.finish.Tie as tie
 
-returns : tie.Need-returns
-returns c = search finishing
-
 place-of-requires : tie.Need-place-of-requires
-place-of-requires c κs = search finishing
+place-of-requires c κs = search finding
 
-target-of-requires : tie.Need-target-of-requires
-target-of-requires c κs = search finishing
+finish-at-requires : tie.Need-finish-at-requires
+finish-at-requires c κs = search finding
 
-refuse-requires : tie.Need-refuse-requires
-refuse-requires c κs = search finishing
-
-returns-2 : tie.Need-returns-2
-returns-2 c = search finishing
-
-commit-at-requires : tie.Need-commit-at-requires
-commit-at-requires c κs = search finishing
-
-returns-3 : tie.Need-returns-3
-returns-3 c = search finishing
+returns : tie.Need-returns
+returns c = search finding
 
 pub finish-spec : {M : Type 1} → statement M
-finish-spec =
-    tie.close
-    (tie.spec
-    returns
-    place-of-requires
-    target-of-requires
-    refuse-requires
-    returns-2
-    commit-at-requires
-    returns-3)
+finish-spec = tie.close (tie.spec place-of-requires finish-at-requires returns)
