@@ -163,7 +163,7 @@ bytes-below : (h : ℕ) (bs : List ℕ) → h < markEnd → markBytes h bs < mar
 bytes-below h [] l = rw (bytes-nil h) l
 bytes-below h (b ∷ bs) l = rw (bytes-cons h b bs) (bytes-below (mixed h b) bs (mix-small h b))
 
-key-below : (h : ℕ) (bs : List ℕ) → h < markEnd → markKey h bs < markEnd
+pub key-below : (h : ℕ) (bs : List ℕ) → h < markEnd → markKey h bs < markEnd
 unfolding markKey
 key-below h bs l = bytes-below (markWords (length bs / 4) h bs) (drop (4 * (length bs / 4)) bs) (words-below (length bs / 4) h bs l)
 
@@ -205,7 +205,7 @@ free-alike : (a b : ℕ) → markEnd ≤ a → sameMark a b ≡ false
 unfolding sameMark
 free-alike a b l = and-false (ltb a markEnd) (eqb a b) (le-ltb a markEnd l)
 
-same-alike : (a b : ℕ) → a < markEnd → b ≡ a → sameMark a b ≡ true
+pub same-alike : (a b : ℕ) → a < markEnd → b ≡ a → sameMark a b ≡ true
 unfolding sameMark
 same-alike a b l e = and-true (ltb a markEnd) (eqb a b) (lt-ltb a markEnd l) ∙ eq-eqb a b (sym e)
 
@@ -254,7 +254,7 @@ pub ruleset pairs = (needs, pairs-start, pairs-end, later-fits, pair-twin)
 
 -- ---- entries with one table and key have one mark, so distinct marks are of distinct keys
 
-held-is : (e : Entry) → entryHeld e ≡ true → entryMark e ≡ markKey (e .table % markEnd) (keyOf e)
+pub held-is : (e : Entry) → entryHeld e ≡ true → entryMark e ≡ markKey (e .table % markEnd) (keyOf e)
 unfolding entryMark
 held-is e h = cond-true (entryHeld e) _ _ h
 
@@ -271,7 +271,7 @@ one-mark e f h =
     same-alike (entryMark e) (entryMark f) (subst (λ (m : ℕ). m < markEnd) (sym p) (key-below (e .table % markEnd) (keyOf e) (start-small (e .table))))
     (q ∙ ap (λ (x : ℕ). markKey (x % markEnd) (keyOf f)) same-table ∙ ap (markKey (e .table % markEnd)) same-bytes ∙ sym p)
 
-marks-tell : (entries : List Entry) → distinct sameMark (map entryMark entries) ≡ true → distinct sameKey entries ≡ true
+pub marks-tell : (entries : List Entry) → distinct sameMark (map entryMark entries) ≡ true → distinct sameKey entries ≡ true
 marks-tell entries h =
     distinct-from sameKey entries blankEntry
     (λ i j l m.
