@@ -10,7 +10,7 @@ use store::Entry;
 use store::KEY_MAX;
 
 // Whether an entry is held by the table at this place with the key.
-fn entry_keyed(e: Entry, table: usize, key: &[u8]) -> bool
+pub fn entry_keyed(e: Entry, table: usize, key: &[u8]) -> bool
     ensures { λ r. ⌜ r ≡ entryKeyed table (now (key .entry)) e ⌝ }
 {
     let n = key.len();
