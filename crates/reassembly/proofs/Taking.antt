@@ -17,7 +17,6 @@ use Rattle.lists.proofs.Bytes.{pad-length, pad-take}
 use Rattle.session.specs.declared.Connection.{Connection}
 use Rattle.session.specs.declared.Session.{Session}
 use Rattle.session.specs.Session.{unfinished}
-use Rattle.session.proofs.Basics.{told}
 use Rattle.soundness.specs.Sound.{waits}
 use Rattle.soundness.proofs.Waiting.{waits-few}
 use Rattle.reassembly.specs.declared.Taken.{Taken}
@@ -196,8 +195,6 @@ module _ {piece : List ℕ} {c : Connection} {bytes₀ : List ℕ} {len₀ : ℕ
       ∙ (ap (λ (r : List ℕ). later i (takePiece c (t .taken) r)) (drop-of-length-le piece l)
       ∙ (ap (later i) (take-none c (t .taken)) ∙ ap (λ (n : ℕ). record { bytes = t .taken; taken = n; ended = false }) z)) in
       rw (t .filled, t .long) (sym (ap takenOf r))
-
-pub ruleset taking = (needs, told, start, room-left, len-fits, prefix-room, prefix-long, goes-on, ends, all-taken)
 
 -- ---- what was taken
 
