@@ -38,7 +38,7 @@ fn unfinished_ok(s: Session) -> bool
     bytes_wait(c, &buffer[..len])
 }
 
-fn session_ok(tables: [Table; TABLES], s: Session) -> bool
+pub fn session_ok(tables: [Table; TABLES], s: Session) -> bool
     ensures { λ r. ⌜ r ≡ soundSession tables s ⌝ }
 {
     if is_refused_opening(s) {
