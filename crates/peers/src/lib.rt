@@ -3,15 +3,17 @@
 use raw::RawOpened;
 use raw::RawOutcome;
 use raw::raw_opened;
-use raw_reading::read_raw;
+use read_finish::finish_read;
+use read_start::start_read;
 use session::Session;
 use store::Store;
+use store_scan::scan;
 ghost use mathlib.Core.Path.{_≡_};
 ghost use lib.ListN.{length};
 ghost use Rattle.store.specs.Store.{emptyStore};
 ghost use Rattle.opening.specs.Opening.{answerer, caller, «open», openRoom, openedOf};
 ghost use Rattle.raw.specs.Raw.{rawOpened};
-ghost use Rattle.raw_reading.specs.Reading.{RawPromise};
+ghost use Rattle.read_finish.specs.Reading.{RawPromise};
 
 // A store without tables and entries.
 #[no_mangle]
@@ -55,8 +57,17 @@ pub extern "C" fn peers_read(
 ) -> RawOutcome
     ensures { λ r. ⌜ RawPromise (now (session .entry)) (now (store .entry)) (record { piece = now (piece .entry); room = now (reply .entry); outcome = r; session = now (session .exit); store = now (store .exit); final = now (reply .exit) }) ⌝ }
 {
-    let step = read_raw(*session, *store, piece, reply);
+    let tables = store.tables;
+    let started = start_read(*session, tables, piece);
+    let query = started.query;
+    let scanned = scan(store, query);
+    let step = finish_read(*session, started, scanned, reply);
     *session = step.session;
-    *store = step.store;
+    if step.puts_entry {
+        store.entries[step.place] = step.entry;
+    }
+    if step.puts_table {
+        store.tables[step.place] = step.table;
+    }
     step.outcome
 }
