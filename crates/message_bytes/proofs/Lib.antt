@@ -1,3 +1,4 @@
 pub mod WholeMessage
 pub mod UpdateMessages
 pub mod DefinitionMessages
+pub mod LastUpdates

@@ -5,6 +5,7 @@ use mathlib.Core.Path.{_≡_, refl, sym, ap, subst, _∙_}
 use mathlib.Core.Logic.{_⊎_, ⊎-elim}
 use mathlib.Core.Bool.{true}
 use mathlib.Core.List.{List, [], _++_, append-assoc}
+use lib.Seq.{getD-set-other}
 use lib.ListN.{length, take, drop, getD}
 use lib.IntN.{ℤ}
 use lib.Signed.{mag}
@@ -291,6 +292,26 @@ by-way s t m table id place how p h (judging e j) =
 
 pub bytes-of-update : BytesOfUpdate
 bytes-of-update s t m table id place how p h = by-way s t m table id place how p h (ways s t m p)
+
+-- ---- the other places
+
+put-there : (t : Store) (place : ℕ) (e : Entry) (i : ℕ) → (i ≡ place → ⊥) → getD (putEntry t place e .entries) i noEntry ≡ getD (t .entries) i noEntry
+unfolding putEntry
+put-there t place e i n = getD-set-other (t .entries) place i e noEntry n
+
+elsewhere : (s : Session) (t : Store) (m : Made) (table id place : ℕ) (how : Commit) → ReadPromise s t m → m .outcome .answer ≡ answer.Update table id place how
+    → (i : ℕ) → (i ≡ place → ⊥) → Way s t (m .piece) (callOf s t (m .piece) (length (m .room))) → getD (m .store .entries) i noEntry ≡ getD (t .entries) i noEntry
+elsewhere s t m table id place how p h i f (staying n k q) =
+    absurd (let r = sym (ap (λ (x : Call State Answer). x .answer) q) ∙ (sym (answer-is s t m p) ∙ h) in let z : _≡_ {A = ℕ} 0 1 = cc in omega arith)
+elsewhere s t m table id place how p h i f (waiting-on w) =
+    absurd (let r = sym (w .answer) ∙ (sym (answer-is s t m p) ∙ h) in let z : _≡_ {A = ℕ} 0 1 = cc in omega arith)
+elsewhere s t m table id place how p h i f (judging e j) =
+    ap (λ (k : Store). getD (k .entries) i noEntry) (stored s t m p e j table id place how (sym (j .answer) ∙ (sym (answer-is s t m p) ∙ h)))
+    ∙ put-there t place _ i f
+
+pub updated-elsewhere : (s : Session) (t : Store) (m : Made) (table id place : ℕ) (how : Commit) → ReadPromise s t m → m .outcome .answer ≡ answer.Update table id place how
+    → (i : ℕ) → (i ≡ place → ⊥) → getD (m .store .entries) i noEntry ≡ getD (t .entries) i noEntry
+updated-elsewhere s t m table id place how p h i f = elsewhere s t m table id place how p h i f (ways s t m p)
 
 -- ---- one reading
 

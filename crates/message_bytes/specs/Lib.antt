@@ -1,1 +1,2 @@
 pub mod MessageBytes
+pub mod LastUpdates

@@ -1,0 +1,140 @@
+-- For each place of the store that a list of calls left, the last call that updated it, by induction on the list.
+use Prim.Native.Nat.{ℕ}
+use native.Mathlib.Omega.{arith}
+use mathlib.Core.Path.{_≡_, refl, sym, ap, subst, _∙_}
+use mathlib.Core.Logic.{_⊎_, inl, inr, ⊎-elim}
+use mathlib.Core.List.{List, [], _∷_, _++_}
+use lib.ListN.{getD}
+use Rattle.lists.proofs.Cases.{eq-or-ne}
+use Rattle.store.specs.declared.Entry.{Entry}
+use Rattle.store.specs.declared.Store.{Store}
+use Rattle.store.specs.Store.{noEntry}
+use Rattle.session.specs.declared.Session.{Session}
+use Rattle.session.specs.declared.Commit.{Commit}
+use Rattle.session.specs.declared.Answer.{Answer}
+use Rattle.session.specs.declared.Answer.the-variants as answer
+use Rattle.receiver.specs.Promise.{Made, ReadPromise}
+use Rattle.receiver.specs.Demand3.{Chain, lastSession, lastStore}
+use Rattle.receiver.proofs.Acknowledging.{others-untouched}
+use Rattle.message_bytes.specs.MessageBytes.{tableAt, UpdateMessage}
+use Rattle.message_bytes.specs.LastUpdates.{lastEntry, NoneUpdates, NeverUpdated, LastUpdate, BytesOfEveryEntry}
+use Rattle.message_bytes.proofs.UpdateMessages.{bytes-of-update, updated-elsewhere}
+use Rattle.message_bytes.proofs.DefinitionMessages.{bytes-of-definition}
+
+-- ---- what an answer is
+
+abbrev Updates : Answer → Type 0
+Updates a = (table : ℕ) × ((id : ℕ) × ((place : ℕ) × ((how : Commit) × (a ≡ answer.Update table id place how))))
+
+abbrev Defines : Answer → Type 0
+Defines a = (place : ℕ) × (a ≡ answer.Table place)
+
+abbrev Other : Answer → Type 0
+Other a = ((place : ℕ) → a ≡ answer.Table place → ⊥) × ((table id place : ℕ) (how : Commit) → a ≡ answer.Update table id place how → ⊥)
+
+kind-of : (a : Answer) → Updates a ⊎ (Defines a ⊎ Other a)
+kind-of answer.More = inr (inr ((λ place q. absurd (let z : _≡_ {A = ℕ} 0 1 = cc in omega arith)), (λ table id place how q. absurd (let z : _≡_ {A = ℕ} 0 1 = cc in omega arith))))
+kind-of (answer.Hello x0 x1) = inr (inr ((λ place q. absurd (let z : _≡_ {A = ℕ} 0 1 = cc in omega arith)), (λ table id place how q. absurd (let z : _≡_ {A = ℕ} 0 1 = cc in omega arith))))
+kind-of answer.Status = inr (inr ((λ place q. absurd (let z : _≡_ {A = ℕ} 0 1 = cc in omega arith)), (λ table id place how q. absurd (let z : _≡_ {A = ℕ} 0 1 = cc in omega arith))))
+kind-of answer.Request = inr (inr ((λ place q. absurd (let z : _≡_ {A = ℕ} 0 1 = cc in omega arith)), (λ table id place how q. absurd (let z : _≡_ {A = ℕ} 0 1 = cc in omega arith))))
+kind-of answer.Finished = inr (inr ((λ place q. absurd (let z : _≡_ {A = ℕ} 0 1 = cc in omega arith)), (λ table id place how q. absurd (let z : _≡_ {A = ℕ} 0 1 = cc in omega arith))))
+kind-of answer.Partial = inr (inr ((λ place q. absurd (let z : _≡_ {A = ℕ} 0 1 = cc in omega arith)), (λ table id place how q. absurd (let z : _≡_ {A = ℕ} 0 1 = cc in omega arith))))
+kind-of answer.Confirmed = inr (inr ((λ place q. absurd (let z : _≡_ {A = ℕ} 0 1 = cc in omega arith)), (λ table id place how q. absurd (let z : _≡_ {A = ℕ} 0 1 = cc in omega arith))))
+kind-of answer.Heartbeat = inr (inr ((λ place q. absurd (let z : _≡_ {A = ℕ} 0 1 = cc in omega arith)), (λ table id place how q. absurd (let z : _≡_ {A = ℕ} 0 1 = cc in omega arith))))
+kind-of (answer.Error x0) = inr (inr ((λ place q. absurd (let z : _≡_ {A = ℕ} 0 1 = cc in omega arith)), (λ table id place how q. absurd (let z : _≡_ {A = ℕ} 0 1 = cc in omega arith))))
+kind-of (answer.Switch x0) = inr (inr ((λ place q. absurd (let z : _≡_ {A = ℕ} 0 1 = cc in omega arith)), (λ table id place how q. absurd (let z : _≡_ {A = ℕ} 0 1 = cc in omega arith))))
+kind-of (answer.Acknowledgement x0 x1) = inr (inr ((λ place q. absurd (let z : _≡_ {A = ℕ} 0 1 = cc in omega arith)), (λ table id place how q. absurd (let z : _≡_ {A = ℕ} 0 1 = cc in omega arith))))
+kind-of (answer.Skipped x0) = inr (inr ((λ place q. absurd (let z : _≡_ {A = ℕ} 0 1 = cc in omega arith)), (λ table id place how q. absurd (let z : _≡_ {A = ℕ} 0 1 = cc in omega arith))))
+kind-of (answer.Refused x0) = inr (inr ((λ place q. absurd (let z : _≡_ {A = ℕ} 0 1 = cc in omega arith)), (λ table id place how q. absurd (let z : _≡_ {A = ℕ} 0 1 = cc in omega arith))))
+kind-of (answer.Table place) = inr (inl (place, refl))
+kind-of (answer.Update table id place how) = inl (table, (id, (place, (how, refl))))
+
+-- ---- one call
+
+-- where a call didn't update a place, the place holds what it held
+module _ (s : Session) (t : Store) (m : Made) (p : ReadPromise s t m) (place : ℕ) where
+  abbrev Stays : Type 0
+  Stays = ((table id : ℕ) (how : Commit) → m .outcome .answer ≡ answer.Update table id place how → ⊥) × (getD (m .store .entries) place noEntry ≡ getD (t .entries) place noEntry)
+
+  abbrev Changes : Type 0
+  Changes = (table : ℕ) × ((id : ℕ) × ((how : Commit) × (m .outcome .answer ≡ answer.Update table id place how)))
+
+  one-call : Changes ⊎ Stays
+  one-call =
+      ⊎-elim
+      (λ u.
+      let a = u .1 .1 .1 .1 in
+      ⊎-elim
+      (λ z. inl (u .0, (u .1 .0, (u .1 .1 .1 .0, a ∙ ap (λ (i : ℕ). answer.Update (u .0) (u .1 .0) i (u .1 .1 .1 .0)) z))))
+      (λ f.
+      inr (
+        (λ table id how q. f (update-place (sym a ∙ q))),
+        updated-elsewhere s t m (u .0) (u .1 .0) (u .1 .1 .0) (u .1 .1 .1 .0) p a place (λ z. f (sym z)),
+      ))
+      (eq-or-ne (u .1 .1 .0) place))
+      (λ w.
+      ⊎-elim
+      (λ d.
+      inr (
+        (λ table id how q. absurd (let r = sym (d .1) ∙ q in let z : _≡_ {A = ℕ} 0 1 = cc in omega arith)),
+        ap (λ (es : List Entry). getD es place noEntry) (bytes-of-definition s t m (d .0) p (d .1) .entries),
+      ))
+      (λ o.
+      inr (
+        (λ table id how q. o .1 table id place how q),
+        ap (λ (x : Store). getD (x .entries) place noEntry) (others-untouched s t m p (o .0) (o .1) .store),
+      ))
+      w)
+      (kind-of (m .outcome .answer))
+    where
+      update-place : {a b c d i j : ℕ} {h k : Commit} → answer.Update a b i h ≡ answer.Update c d j k → i ≡ j
+      update-place q = cc
+
+-- ---- all calls
+
+later : (s : Session) (t : Store) (m : Made) (calls : List Made) (place : ℕ) → LastUpdate (m .session) (m .store) calls place → LastUpdate s t (m ∷ calls) place
+unfolding lastSession lastStore
+later s t m calls place u =
+    record {
+      before = m ∷ u .before;
+      call = u .call;
+      after = u .after;
+      among = ap (λ (ms : List Made). m ∷ ms) (u .among);
+      table = u .table;
+      id = u .id;
+      how = u .how;
+      answer = u .answer;
+      last = u .last;
+      message = u .message;
+    }
+
+first : (s : Session) (t : Store) (m : Made) (calls : List Made) (place : ℕ) → ReadPromise s t m → NeverUpdated (m .store) calls place
+    → NeverUpdated t (m ∷ calls) place ⊎ LastUpdate s t (m ∷ calls) place
+unfolding lastSession lastStore NoneUpdates
+first s t m calls place p n =
+    ⊎-elim
+    (λ c.
+    let a = c .1 .1 .1 in
+    inr
+    (record {
+      before = [];
+      call = m;
+      after = calls;
+      among = refl;
+      table = c .0;
+      id = c .1 .0;
+      how = c .1 .1 .0;
+      answer = a;
+      last = n .none;
+      message =
+          subst (UpdateMessage s m (c .0) (c .1 .0) (tableAt m (c .0))) (sym (n .same)) (bytes-of-update s t m (c .0) (c .1 .0) place (c .1 .1 .0) p a);
+    }))
+    (λ k. inl (record { none = (k .0, n .none); same = n .same ∙ k .1 }))
+    (one-call s t m p place)
+
+pub bytes-of-every-entry : BytesOfEveryEntry
+unfolding Chain lastStore NoneUpdates
+bytes-of-every-entry s t [] place c = inl (record { none = tt; same = refl })
+bytes-of-every-entry s t (m ∷ calls) place c =
+    ⊎-elim (λ n. first s t m calls place (c .0) n) (λ u. inr (later s t m calls place u))
+    (bytes-of-every-entry (m .session) (m .store) calls place (c .1))
