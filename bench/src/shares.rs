@@ -1,63 +1,38 @@
 //! Where the time of a call goes: library and plain receiver side by side.
 
-use crate::measure::{calls, in_turns, repeated, round, Load, MESSAGES};
+use crate::measure::{in_turns, repeated, round, Load, MESSAGES};
 use crate::plain;
 use crate::receivers::{Library, Plain, Receiver, ROOM};
 use crate::streams::{filling, message, update};
 use std::hint::black_box;
 
-/// A receiver before a load, and the same one closed.
-struct Before<R> {
-    open: R,
-    closed: R,
+/// Heartbeats with so many entries held.
+fn heartbeats(entries: u32) -> Load {
+    Load::new(filling(entries), vec![vec![0, 4]; MESSAGES])
 }
 
-impl<R: Receiver> Before<R> {
-    fn of(load: &Load) -> Before<R> {
-        let open: R = load.receiver();
-        let mut closed = open.clone();
-        closed.take_all(&[1, 0]);
-        Before { open, closed }
-    }
-
-    /// Refused with 1: record and store go in and out, and nothing else is done.
-    fn copied(&self, load: &Load) -> f64 {
-        calls(&self.open, &load.pieces[0], &mut [0; ROOM - 1])
-    }
-
-    /// Refused with 2, after all tests.
-    fn tested(&self, load: &Load) -> f64 {
-        calls(&self.closed, &load.pieces[0], &mut [0; ROOM])
-    }
-}
-
-/// Prints what each message costs, and which part of it are copies, tests and the message itself.
+/// Prints what each message costs, and which parts of it the entries and the message itself take.
 pub fn print(rounds: usize) {
     println!("\nWhere the time goes, with 128 entries held: ns, and per cent of the call");
-    println!("copies: of record and store in and out, as a call refused with 1 does; tests: what a call refused with 2 takes more");
+    println!("base: a heartbeat with no entry held; entries: what it takes more with 128; message: what this message takes more than a heartbeat");
     println!("{:<32}{:>52}{:>52}", "", "library", "plain");
-    let names = ["whole", "copies", "tests", "message"];
+    let names = ["whole", "base", "entries", "message"];
     let names = names.map(|name| format!("{name:>13}")).concat();
     println!("{:<32}{names}{names}", "");
     let full = || filling(128);
     let updating = |number| vec![update(1000, number); MESSAGES];
     for (name, load) in [
-        ("heartbeat", Load::new(full(), vec![vec![0, 4]; MESSAGES])),
         (
             "skipped message",
             Load::new(full(), vec![message(200, &[7; 16]); MESSAGES]),
         ),
         ("update at the first place", Load::new(full(), updating(0))),
         ("update at the last place", Load::new(full(), updating(127))),
-        (
-            "update of a new key, 127 before",
-            Load::cloned(filling(127), update(1000, 127), MESSAGES),
-        ),
     ] {
         line(name, &load, rounds);
     }
     println!(
-        "plain, update at the last place without copies and tests, measured by itself: {:.0} ns",
+        "plain, update at the last place without tests, measured by itself: {:.0} ns",
         untested(rounds)
     );
 }
@@ -80,26 +55,33 @@ fn untested(rounds: usize) -> f64 {
     best
 }
 
+/// Starts of a receiver: for a heartbeat with no entry, for one with 128, and for the message.
+fn starts<R: Receiver>(loads: [&Load; 3]) -> [R; 3] {
+    loads.map(Load::receiver)
+}
+
 fn line(name: &str, load: &Load, rounds: usize) {
-    let library: Before<Library> = Before::of(load);
-    let plain: Before<Plain> = Before::of(load);
+    let (empty, full) = (heartbeats(0), heartbeats(128));
+    let loads = [&empty, &full, load];
+    let library: [Library; 3] = starts(loads);
+    let plain: [Plain; 3] = starts(loads);
     let [a, b, c, d, e, f] = in_turns(
         rounds,
         [
-            &mut || library.copied(load),
-            &mut || plain.copied(load),
-            &mut || library.tested(load),
-            &mut || plain.tested(load),
-            &mut || round(&library.open, load),
-            &mut || round(&plain.open, load),
+            &mut || round(&library[0], loads[0]),
+            &mut || round(&plain[0], loads[0]),
+            &mut || round(&library[1], loads[1]),
+            &mut || round(&plain[1], loads[1]),
+            &mut || round(&library[2], loads[2]),
+            &mut || round(&plain[2], loads[2]),
         ],
     );
     println!("{name:<32}{}{}", parts(a, c, e), parts(b, d, f));
 }
 
 /// The whole, and its parts with their shares.
-fn parts(copied: f64, tested: f64, whole: f64) -> String {
+fn parts(empty: f64, full: f64, whole: f64) -> String {
     let part = |ns: f64| format!("{ns:>8.0}{:>4.0}%", 100.0 * ns / whole);
-    let parts = [copied, tested - copied, whole - tested].map(part);
+    let parts = [empty, full - empty, whole - full].map(part);
     format!("{whole:>13.0}{}", parts.concat())
 }
