@@ -1,4 +1,4 @@
-use Rattle.answering.proofs.Answering.{answering}
+use Rattle.answering.proofs.Answering.{answering, commit-made, commit-replied, answer-made, answer-replied}
 use Rattle.answering.proofs.answer.Statement.{statement}
 use Rattle.answering.proofs.answer.Tie as tie
 
@@ -15,7 +15,14 @@ same-length : tie.Need-same-length
 same-length c = search answering
 
 returns : tie.Need-returns
-returns c = search answering
+returns c =
+    let w = c .before .before in
+    let f = w .before .before in
+    let k = f .before .before .before in
+    let n = k .before .before .before .before .args .count in (
+      commit-made _ _ _ _ (k .settle .ensures) _ _ _ (f .finish .ensures) (w .give .ensures .0),
+      commit-replied _ _ _ _ (k .settle .ensures) n (w .give .result) _ (f .finish .ensures) _ _ (w .give .ensures .1),
+    )
 
 give-requires-2 : tie.Need-give-requires-2
 give-requires-2 c κs = search answering
@@ -24,7 +31,14 @@ same-length-2 : tie.Need-same-length-2
 same-length-2 c = search answering
 
 returns-2 : tie.Need-returns-2
-returns-2 c = search answering
+returns-2 c =
+    let w = c .before .before in
+    let e = w .before .before .before in
+    let k = e .before in
+    let n = k .before .before .before .before .args .count in (
+      answer-made _ _ _ _ (k .settle .ensures) _ _ (e .if1 .left) (w .give2 .ensures .0),
+      answer-replied _ _ _ _ (k .settle .ensures) n (w .give2 .result) (e .if1 .left) _ _ (w .give2 .ensures .1),
+    )
 
 pub answer-spec : {M : Type 1} → statement M
 answer-spec =

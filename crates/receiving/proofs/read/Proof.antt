@@ -13,7 +13,7 @@ same-length : tie.Need-same-length
 same-length c = search needs
 
 returns : tie.Need-returns
-returns c = search (needs, made-promise)
+returns c = made-promise _ _ _ _ _ _ _ (c .put-change .ensures) (c .before .before .before .before .before .before .read-change .ensures)
 
 pub read-spec : {M : Type 1} → statement M
 read-spec = tie.close (tie.spec read-change-requires put-change-requires same-length returns)

@@ -1,4 +1,4 @@
-use Rattle.message.proofs.Defining.{defining}
+use Rattle.message.proofs.Defining.{defining, defines}
 use Rattle.table_definition.proofs.define_at.Statement.{statement}
 use Rattle.table_definition.proofs.define_at.Tie as tie
 
@@ -12,7 +12,7 @@ table-change-requires : tie.Need-table-change-requires
 table-change-requires c κs = search defining
 
 returns : tie.Need-returns
-returns c = search defining
+returns c = let r = c .before in defines _ _ _ _ _ _ _ (r .before .bind-table .ensures) (r .no-reply .ensures) (c .table-change .ensures)
 
 pub define-at-spec : {M : Type 1} → statement M
 define-at-spec =

@@ -1,4 +1,4 @@
-use Rattle.message.proofs.Defining.{defining}
+use Rattle.message.proofs.Defining.{defining, held-agrees, held-disagrees, not-held}
 use Rattle.table_definition.proofs.define_named.Statement.{statement}
 use Rattle.table_definition.proofs.define_named.Tie as tie
 
@@ -18,7 +18,12 @@ define-at-requires : tie.Need-define-at-requires
 define-at-requires c κs = search defining
 
 returns : tie.Need-returns
-returns c = search defining
+returns c =
+    let a = c .before .before in
+    let t = a .before in
+    let e = t .before in
+    held-agrees _ _ _ _ _ _ _ (e .before .before .before .find-table .ensures) _ (e .before .place .given .1) _ (t .table-at .ensures) _ (a .agree .ensures)
+    (c .before .if1 .taken) (c .define-at .ensures)
 
 refuse-requires : tie.Need-refuse-requires
 refuse-requires c κs = search defining
@@ -30,10 +35,17 @@ define-new-requires : tie.Need-define-new-requires
 define-new-requires c κs = search defining
 
 returns-2 : tie.Need-returns-2
-returns-2 c = search defining
+returns-2 c =
+    let a = c .before .before in
+    let t = a .before in
+    let e = t .before in
+    held-disagrees _ _ _ _ _ _ _ (e .before .before .before .find-table .ensures) _ (e .before .place .given .1) _ (t .table-at .ensures) _ (a .agree .ensures)
+    (c .before .if1 .left) (c .refuse .ensures)
 
 returns-3 : tie.Need-returns-3
-returns-3 c = search defining
+returns-3 c =
+    let e = c .before in
+    not-held _ _ _ _ _ _ _ (e .before .before .find-table .ensures) (e .enum-told .given .1) (c .define-new .ensures)
 
 pub define-named-spec : {M : Type 1} → statement M
 define-named-spec =

@@ -1,4 +1,4 @@
-use Rattle.message.proofs.Defining.{defining}
+use Rattle.message.proofs.Defining.{defining, free-place, all-held}
 use Rattle.table_definition.proofs.define_new.Statement.{statement}
 use Rattle.table_definition.proofs.define_new.Tie as tie
 
@@ -18,10 +18,14 @@ refuse-requires : tie.Need-refuse-requires
 refuse-requires c κs = search defining
 
 returns : tie.Need-returns
-returns c = search defining
+returns c =
+    let e = c .before in
+    free-place _ _ _ _ _ _ (e .before .before .before .free-table .ensures) _ (e .before .place .given .1) (c .define-at .ensures)
 
 returns-2 : tie.Need-returns-2
-returns-2 c = search defining
+returns-2 c =
+    let e = c .before in
+    all-held _ _ _ _ _ _ (e .before .before .free-table .ensures) (e .enum-told .given .1) (c .refuse .ensures)
 
 pub define-new-spec : {M : Type 1} → statement M
 define-new-spec =

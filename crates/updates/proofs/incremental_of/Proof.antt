@@ -1,4 +1,4 @@
-use Rattle.message.proofs.Updating.{updating}
+use Rattle.message.proofs.Updating.{updating, no-previous, follows}
 use Rattle.updates.proofs.incremental_of.Statement.{statement}
 use Rattle.updates.proofs.incremental_of.Tie as tie
 
@@ -9,7 +9,9 @@ ask-refusal-requires : tie.Need-ask-refusal-requires
 ask-refusal-requires c κs = search updating
 
 returns : tie.Need-returns
-returns c = search updating
+returns c =
+    let t = c .before in
+    no-previous _ _ _ _ _ _ (t .before .before .binding-at .ensures) (t .if1 .taken) (c .ask-refusal .ensures)
 
 wrapping-add-u32-requires : tie.Need-wrapping-add-u32-requires
 wrapping-add-u32-requires c κs = search updating
@@ -24,7 +26,13 @@ with-fields-requires : tie.Need-with-fields-requires
 with-fields-requires c κs = search updating
 
 returns-2 : tie.Need-returns-2
-returns-2 c = search updating
+returns-2 c =
+    let f = c .before in
+    let t = f .before in
+    let w = t .before in
+    let e = w .before in
+    follows _ _ _ _ _ _ (e .before .before .binding-at .ensures) (e .if1 .left) _ (w .wrapping-add-u32 .ensures) _ (t .table-at .ensures) _
+    (f .read-incremental .ensures) (c .with-fields .ensures)
 
 pub incremental-of-spec : {M : Type 1} → statement M
 incremental-of-spec =

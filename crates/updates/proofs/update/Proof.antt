@@ -1,4 +1,5 @@
-use Rattle.message.proofs.Updating.{updating}
+use borrow.Author.Needs.{needs}
+use Rattle.message.proofs.Updating.{updating, no-current, current-there}
 use Rattle.updates.proofs.update.Statement.{statement}
 use Rattle.updates.proofs.update.Tie as tie
 
@@ -6,7 +7,7 @@ ask-refusal-requires : tie.Need-ask-refusal-requires
 ask-refusal-requires c κs = search updating
 
 returns : tie.Need-returns
-returns c = search updating
+returns c = search (needs, no-current)
 
 sub-place : tie.Need-sub-place
 sub-place c = search updating
@@ -21,7 +22,7 @@ with-fields-requires : tie.Need-with-fields-requires
 with-fields-requires c κs = search updating
 
 returns-2 : tie.Need-returns-2
-returns-2 c = search updating
+returns-2 c = search (needs, current-there)
 
 pub update-spec : {M : Type 1} → statement M
 update-spec =
