@@ -6,8 +6,8 @@
  * keeps nothing between calls.
  *
  * The host's duties: each pointer points to as much memory as its type or the length after it says (an empty one too points to
- * somewhere); what is lent to one call doesn't overlap; no other thread touches it during the call. A reading call takes 300 KB of
- * stack.
+ * somewhere); what is lent to one call doesn't overlap; no other thread touches it during the call. A reading call takes 70 KB of
+ * stack, an empty store by value 140 KB.
  */
 #ifndef PEERS_H
 #define PEERS_H
