@@ -1,4 +1,4 @@
-use Rattle.store_scan.proofs.Scanning.{comparing-keys}
+use Rattle.store_scan.proofs.Scanning.{comparing-keys, keys-unsound, keys-sound}
 use Rattle.store_scan.proofs.by_keys.Statement.{statement}
 use Rattle.store_scan.proofs.by_keys.Tie as tie
 
@@ -9,13 +9,16 @@ all-sound-requires : tie.Need-all-sound-requires
 all-sound-requires c κs = search comparing-keys
 
 returns : tie.Need-returns
-returns c = search comparing-keys
+returns c = let a = c .before in keys-unsound (a .before .place-of .ensures) (a .all-sound .ensures) (c .if1 .taken)
 
 keys-distinct-requires : tie.Need-keys-distinct-requires
 keys-distinct-requires c κs = search comparing-keys
 
 returns-2 : tie.Need-returns-2
-returns-2 c = search comparing-keys
+returns-2 c =
+    let e = c .before in
+    let a = e .before in
+    keys-sound (a .before .place-of .ensures) (a .all-sound .ensures) (e .if1 .left) (c .keys-distinct .ensures)
 
 pub by-keys-spec : {M : Type 1} → statement M
 by-keys-spec =

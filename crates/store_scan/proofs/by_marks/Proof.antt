@@ -1,4 +1,4 @@
-use Rattle.store_scan.proofs.Scanning.{comparing-marks}
+use Rattle.store_scan.proofs.Scanning.{comparing-marks, marks-held, marks-free}
 use Rattle.store_scan.proofs.by_marks.Statement.{statement}
 use Rattle.store_scan.proofs.by_marks.Tie as tie
 
@@ -9,13 +9,16 @@ keyed-as-requires : tie.Need-keyed-as-requires
 keyed-as-requires c κs = search comparing-marks
 
 returns : tie.Need-returns
-returns c = search comparing-marks
+returns c = let k = c .before in marks-held (k .before .before .all-sound .ensures) (k .keyed-as .ensures) (c .if1 .taken)
 
 lowest-free-requires : tie.Need-lowest-free-requires
 lowest-free-requires c κs = search comparing-marks
 
 returns-2 : tie.Need-returns-2
-returns-2 c = search comparing-marks
+returns-2 c =
+    let e = c .before in
+    let k = e .before in
+    marks-free (k .before .before .all-sound .ensures) (k .keyed-as .ensures) (e .if1 .left) (c .lowest-free .ensures)
 
 pub by-marks-spec : {M : Type 1} → statement M
 by-marks-spec =
