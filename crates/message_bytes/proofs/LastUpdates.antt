@@ -3,8 +3,9 @@ use Prim.Native.Nat.{ℕ}
 use native.Mathlib.Omega.{arith}
 use mathlib.Core.Path.{_≡_, refl, sym, ap, subst, _∙_}
 use mathlib.Core.Logic.{_⊎_, inl, inr, ⊎-elim}
-use mathlib.Core.List.{List, [], _∷_, _++_}
-use lib.ListN.{getD}
+use mathlib.Core.Bool.{true}
+use mathlib.Core.List.{List, [], _∷_, _++_, append-assoc, append-nil}
+use lib.ListN.{length, take, getD}
 use Rattle.lists.proofs.Cases.{eq-or-ne}
 use Rattle.store.specs.declared.Entry.{Entry}
 use Rattle.store.specs.declared.Store.{Store}
@@ -12,9 +13,18 @@ use Rattle.store.specs.Store.{noEntry}
 use Rattle.session.specs.declared.Session.{Session}
 use Rattle.session.specs.declared.Commit.{Commit}
 use Rattle.session.specs.declared.Answer.{Answer}
+use Rattle.session.specs.Session.{unfinished}
 use Rattle.session.specs.declared.Answer.the-variants as answer
-use Rattle.receiver.specs.Promise.{Made, ReadPromise}
-use Rattle.receiver.specs.Demand3.{Chain, lastSession, lastStore}
+use Rattle.soundness.specs.Sound.{sound}
+use Rattle.streams.specs.Calls.{Call}
+use Rattle.receiver.specs.Model.{State, heldBy}
+use Rattle.receiver.specs.Promise.{Made, ReadPromise, callOf}
+use Rattle.receiver.specs.Demand3.{Chain, takenBy, lastSession, lastStore}
+use Rattle.receiver.specs.Corollaries.{messageOf}
+use Rattle.receiver.proofs.Chained.{good-held}
+use Rattle.receiver.proofs.OneRead.{call-is, made-state}
+use Rattle.receiver.proofs.Lawfully.{lawful}
+use Rattle.receiver.proofs.Ways.{Way, staying, waiting-on, judging, ways, taken-is, record-stays}
 use Rattle.receiver.proofs.Acknowledging.{others-untouched}
 use Rattle.message_bytes.specs.MessageBytes.{tableAt, UpdateMessage}
 use Rattle.message_bytes.specs.LastUpdates.{lastEntry, NoneUpdates, NeverUpdated, LastUpdate, BytesOfEveryEntry}
@@ -90,11 +100,49 @@ module _ (s : Session) (t : Store) (m : Made) (p : ReadPromise s t m) (place : �
       update-place : {a b c d i j : ℕ} {h k : Commit} → answer.Update a b i h ≡ answer.Update c d j k → i ≡ j
       update-place q = cc
 
+-- ---- the bytes of one call
+
+-- of the unfinished bytes and those taken, some are done with and the others are unfinished afterwards
+module _ (s : Session) (t : Store) (m : Made) (p : ReadPromise s t m) where
+  abbrev call : Call State Answer
+  call = callOf s t (m .piece) (length (m .room))
+
+  abbrev Carried : Type 0
+  Carried = (done : List ℕ) × (messageOf s m ≡ done ++ unfinished (m .session))
+
+  unfinished-is : sound s t ≡ true → unfinished (m .session) ≡ call .state .unfinished
+  unfolding heldBy
+  unfinished-is f =
+      let g = good-held s t (p .shaped) f in
+      ap (λ (k : State). k .unfinished)
+      (made-state s t m p f lawful g ∙ ap (λ (c : Call State Answer). c .state) (sym (call-is s t (m .piece) (length (m .room)) f (g .sound))))
+
+  carried : Way s t (m .piece) call → Carried
+  carried (staying n h q) =
+      let z : call .taken ≡ 0 = ap (λ (c : Call State Answer). c .taken) q in (
+        [],
+        ap (λ (k : ℕ). unfinished s ++ take k (m .piece)) (taken-is s t m p ∙ z) ∙ (append-nil (unfinished s) ∙ ap unfinished (sym (record-stays s t m p z))),
+      )
+  carried (waiting-on w) = (
+    [],
+    ap (λ (k : ℕ). unfinished s ++ take k (m .piece)) (taken-is s t m p)
+        ∙ sym (unfinished-is (w .sound) ∙ ap (λ (k : State). k .unfinished) (w .state)),
+  )
+  carried (judging e j) = (
+    messageOf s m,
+    sym (append-nil (messageOf s m)) ∙ ap (λ (u : List ℕ). messageOf s m ++ u) (sym (unfinished-is (j .sound) ∙ ap (λ (k : State). k .unfinished) (j .state))),
+  )
+
+  carries : Carried
+  carries = carried (ways s t m p)
+
 -- ---- all calls
 
-later : (s : Session) (t : Store) (m : Made) (calls : List Made) (place : ℕ) → LastUpdate (m .session) (m .store) calls place → LastUpdate s t (m ∷ calls) place
-unfolding lastSession lastStore
-later s t m calls place u =
+later : (s : Session) (t : Store) (m : Made) (calls : List Made) (place : ℕ) → ReadPromise s t m → LastUpdate (m .session) (m .store) calls place
+    → LastUpdate s t (m ∷ calls) place
+unfolding lastSession lastStore takenBy
+later s t m calls place p u =
+    let c = carries s t m p in
     record {
       before = m ∷ u .before;
       call = u .call;
@@ -106,11 +154,17 @@ later s t m calls place u =
       answer = u .answer;
       last = u .last;
       message = u .message;
+      earlier = c .0 ++ u .earlier;
+      stood =
+          sym (append-assoc (unfinished s) (take (m .outcome .taken) (m .piece)) (takenBy calls))
+          ∙ (ap (λ (l : List ℕ). l ++ takenBy calls) (c .1)
+          ∙ (append-assoc (c .0) (unfinished (m .session)) (takenBy calls)
+          ∙ (ap (λ (l : List ℕ). c .0 ++ l) (u .stood) ∙ sym (append-assoc (c .0) (u .earlier) _))));
     }
 
 first : (s : Session) (t : Store) (m : Made) (calls : List Made) (place : ℕ) → ReadPromise s t m → NeverUpdated (m .store) calls place
     → NeverUpdated t (m ∷ calls) place ⊎ LastUpdate s t (m ∷ calls) place
-unfolding lastSession lastStore NoneUpdates
+unfolding lastSession lastStore takenBy NoneUpdates
 first s t m calls place p n =
     ⊎-elim
     (λ c.
@@ -128,6 +182,8 @@ first s t m calls place p n =
       last = n .none;
       message =
           subst (UpdateMessage s m (c .0) (c .1 .0) (tableAt m (c .0))) (sym (n .same)) (bytes-of-update s t m (c .0) (c .1 .0) place (c .1 .1 .0) p a);
+      earlier = [];
+      stood = sym (append-assoc (unfinished s) (take (m .outcome .taken) (m .piece)) (takenBy calls));
     }))
     (λ k. inl (record { none = (k .0, n .none); same = n .same ∙ k .1 }))
     (one-call s t m p place)
@@ -136,5 +192,5 @@ pub bytes-of-every-entry : BytesOfEveryEntry
 unfolding Chain lastStore NoneUpdates
 bytes-of-every-entry s t [] place c = inl (record { none = tt; same = refl })
 bytes-of-every-entry s t (m ∷ calls) place c =
-    ⊎-elim (λ n. first s t m calls place (c .0) n) (λ u. inr (later s t m calls place u))
+    ⊎-elim (λ n. first s t m calls place (c .0) n) (λ u. inr (later s t m calls place (c .0) u))
     (bytes-of-every-entry (m .session) (m .store) calls place (c .1))

@@ -10,9 +10,11 @@ use Rattle.store.specs.declared.Store.{Store}
 use Rattle.store.specs.Store.{noEntry}
 use Rattle.session.specs.declared.Session.{Session}
 use Rattle.session.specs.declared.Commit.{Commit}
+use Rattle.session.specs.Session.{unfinished}
 use Rattle.session.specs.declared.Answer.the-variants as answer
 use Rattle.receiver.specs.Promise.{Made}
-use Rattle.receiver.specs.Demand3.{Chain, lastSession, lastStore}
+use Rattle.receiver.specs.Demand3.{Chain, takenBy, lastSession, lastStore}
+use Rattle.receiver.specs.Corollaries.{messageOf}
 use Rattle.message_bytes.specs.MessageBytes.{tableAt, UpdateMessage}
 
 -- the entry at a place of the store that the calls left
@@ -43,6 +45,9 @@ pub record LastUpdate (s : Session) (t : Store) (calls : List Made) (place : ℕ
   pub last : NoneUpdates place after
   -- with the record that this call got, and the table that it left
   pub message : UpdateMessage (lastSession s before) call table id (tableAt call table) (lastEntry t calls place)
+  -- where it stood: among the bytes unfinished at the start and then all bytes that the calls took, behind these
+  pub earlier : List ℕ
+  pub stood : unfinished s ++ takenBy calls ≡ earlier ++ (messageOf (lastSession s before) call ++ takenBy after)
 
 -- Every place of the store that a list of calls left, whatever record and store they started with, with no other writer between the calls.
 abbrev pub BytesOfEveryEntry : Type 0
