@@ -46,7 +46,7 @@ use Rattle.raw.specs.declared.RawOutcome.{RawOutcome}
 use Rattle.raw.specs.Raw.{rawOutcome}
 use Rattle.read_finish.specs.declared.RawChange.{RawChange}
 use Rattle.read_finish.specs.Reading.{RawPromise}
-use Rattle.read_finish.specs.Finish.{Reads, Ends, short, unsound, closed, empty, waiting, answered, EndsRaw, rawChange, storePut}
+use Rattle.read_finish.specs.Finish.{Reads, Ends, short, unsound, closed, empty, waiting, answered, EndsRaw, rawChange}
 
 -- every key has the longest key's places
 shaped-keys : (t : Store) → StoreShape t → Keys (t .entries)
@@ -186,11 +186,6 @@ tableWritten t r = cond (r .«puts_table») (withTable t (r .place) (r .table)) 
 
 abbrev pub storeWritten : Store → RawChange → Store
 storeWritten t r = tableWritten (entryWritten t r) r
-
--- which is what is put
-pub written-put : (t : Store) (r : RawChange) → storeWritten t r ≡ storePut t r
-unfolding storePut putTable putEntry
-written-put t r = refl
 
 module _ (t : Store) (shape : StoreShape t) (c : Change) where
   abbrev p : ℕ

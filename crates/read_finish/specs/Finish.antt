@@ -2,12 +2,10 @@
 use Prim.Native.Nat.{ℕ, _≤_, _<_}
 use mathlib.Core.Path.{_≡_}
 use mathlib.Core.List.{List}
-use mathlib.Core.Bool.{true, false, cond, _&&_}
+use mathlib.Core.Bool.{true, false, _&&_}
 use lib.ListN.{length}
 use lib.Dec.{eqb, ltb}
-use Rattle.store.specs.declared.Store.{Store}
 use Rattle.store.specs.Limits.{tablePlaces, entryPlaces}
-use Rattle.store.specs.Store.{putTable, putEntry}
 use Rattle.session.specs.declared.Session.{Session}
 use Rattle.session.specs.declared.Answer.the-variants as answer
 use Rattle.session.specs.Session.{isClosed}
@@ -61,9 +59,3 @@ pub record EndsRaw (s : Session) (x : Started) (y : Scanned) (room : List ℕ) (
   pub step : StepChange
   pub ends : Ends s x y room step final
   pub numbers : r ≡ rawChange step
-
--- the store with what is put at its place
-unfoldable pub storePut : Store → RawChange → Store
-storePut t r =
-    let u = cond (r .«puts_entry») (putEntry t (r .place) (r .entry)) t in
-    cond (r .«puts_table») (putTable u (r .place) (r .table)) u
