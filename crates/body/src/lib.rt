@@ -1,4 +1,11 @@
 // The bodies of stick table messages: fields, and the bodies of a switch and an acknowledgement, read from a lent slice.
+pub mod definition;
+pub mod shape;
+pub mod string_key;
+pub mod times;
+pub mod update;
+pub mod update_data;
+
 ghost use mathlib.Core.Path.{_≡_};
 ghost use Rattle.body.specs.Fields.{integer, between, integerOf, bytes};
 ghost use Rattle.body.specs.Bodies.{switchFields, acknowledgementFields};
@@ -60,7 +67,7 @@ pub fn read_between(low: u64, high: u64, body: &[u8], at: usize) -> Field
 pub fn read_word(body: &[u8], at: usize) -> Word
     ensures { λ r. ⌜ wordRead r ≡ integerOf 32 (now (body .entry)) at ⌝ }
 {
-    match values::read_value32(body, at) {
+    match wire::values::read_value32(body, at) {
         Field::Value { value, next } => Word::Value {
             value: value as u32,
             next,
@@ -147,7 +154,7 @@ pub struct DefinitionBody {
 pub fn read_switch(body: &[u8]) -> Field
     ensures { λ r. ⌜ r ≡ switchBody (switchFields (now (body .entry))) ⌝ }
 {
-    values::read_value32(body, 0)
+    wire::values::read_value32(body, 0)
 }
 
 // What reading an acknowledgement finds.
@@ -162,7 +169,7 @@ pub fn read_acknowledgement(body: &[u8]) -> AcknowledgementBody
     ensures { λ r. ⌜ r ≡ acknowledgementBody (acknowledgementFields (now (body .entry))) ⌝ }
 {
     match read_word(body, 0) {
-        Word::Value { value: id, next } => match numbers::read_number(body, next) {
+        Word::Value { value: id, next } => match wire::fixed::read_number(body, next) {
             Number::Value {
                 value: update,
                 next: end,

@@ -1,20 +1,20 @@
 // Runs the cases of document 01 that are not in the proved table, and each refusal. A line with # says what is tried; the lines below it
 // are those of the listing, with `more` for more wanted, and where a call has to change nothing, how many bytes it took and the record's
 // lines afterwards.
-use answer_lines::put_answer;
+use dump::lines::put_entry;
+use dump::record_lines::put_record;
 use libc::STDOUT_FILENO;
+use listing::answer::put_answer;
+use listing::reply::put_reply;
 use opening::OPENING_ROOM;
 use opening::Opened;
 use opening::open_answerer;
 use opening::open_caller;
 use reading::REPLY_ROOM;
 use reading::read;
-use record_lines::put_record;
-use reply_lines::put_reply;
 use session::Answer;
 use session::Session;
 use store::Store;
-use store_lines::put_entry;
 
 struct Run {
     session: Session,

@@ -1,4 +1,11 @@
 // Hello and status of the peers protocol: what their bytes come to, and which names may be given at opening.
+pub mod lines;
+pub mod names;
+pub mod reading;
+pub mod sender;
+pub mod status_line;
+pub mod writing;
+
 ghost use mathlib.Core.Path.{_≡_};
 ghost use mathlib.Core.Bool.{true};
 ghost use Prim.Native.Nat.{_+_, _<_};

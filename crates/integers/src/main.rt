@@ -64,7 +64,7 @@ fn show_field(r: wire::Field) {
 }
 
 fn show_id(id: i32) {
-    let w = values::server_id_word(id);
+    let w = wire::values::server_id_word(id);
     if id < 0 {
         io::write_all(1, b"-");
         decimal(std::num::wrapping_sub_u64(0, w));
@@ -115,7 +115,7 @@ fn limit(max: u64, v: u64) {
     space();
     decimal(v);
     space();
-    show_field(values::read_limited(&bytes, 0, max));
+    show_field(wire::values::read_limited(&bytes, 0, max));
     line();
 }
 
@@ -125,7 +125,7 @@ fn server(v: u64) {
     io::write_all(1, b"id ");
     decimal(v);
     space();
-    match values::read_server_id(&bytes, 0) {
+    match wire::values::read_server_id(&bytes, 0) {
         wire::ServerId::Id { id, next: _ } => {
             show_id(id);
         }
@@ -140,13 +140,13 @@ fn server(v: u64) {
 }
 
 fn number(v: u32) {
-    let bytes = numbers::write_number(v);
+    let bytes = wire::fixed::write_number(v);
     io::write_all(1, b"number ");
     decimal(v as u64);
     space();
     hex(&bytes);
     space();
-    match numbers::read_number(&bytes, 0) {
+    match wire::fixed::read_number(&bytes, 0) {
         wire::Number::Value { value, next } => {
             show_value(value as u64, next);
         }
@@ -159,7 +159,7 @@ fn number(v: u32) {
 
 fn put(v: u64, at: usize) {
     let mut room = [170u8; 4];
-    let r = room::put_int(&mut room, at, v);
+    let r = wire::buffer::put_int(&mut room, at, v);
     io::write_all(1, b"put ");
     decimal(v);
     space();

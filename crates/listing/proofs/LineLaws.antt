@@ -13,9 +13,9 @@ use Rattle.session.specs.declared.Answer.the-variants as answer
 use Rattle.session.specs.Answers.{answerNumber}
 use Rattle.text.specs.Room.{Wrote}
 use Rattle.text.proofs.Rooms.{joined, retold, nothing}
-use Rattle.reply_lines.specs.Lines.{replyLine}
+use Rattle.listing.specs.ReplyLines.{replyLine}
 use Rattle.listing.specs.Lines.{callLines}
-use Rattle.answer_words.specs.Lines.{answerLine}
+use Rattle.listing.specs.WordsLines.{answerLine}
 
 -- ---- the lines of a call
 more-number : answerNumber answer.More ≡ 100

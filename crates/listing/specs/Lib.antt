@@ -1,1 +1,4 @@
 pub mod Lines
+pub mod WordsLines
+pub mod ReplyLines
+pub mod EndLines

@@ -8,8 +8,8 @@ use Rattle.session.specs.declared.Connection.{Connection}
 use Rattle.session.specs.declared.Answer.{Answer}
 use Rattle.session.specs.declared.Answer.the-variants as answer
 use Rattle.session.specs.Answers.{answerNumber}
-use Rattle.answer_words.specs.Lines.{answerLine}
-use Rattle.reply_lines.specs.Lines.{replyLine}
+use Rattle.listing.specs.WordsLines.{answerLine}
+use Rattle.listing.specs.ReplyLines.{replyLine}
 
 -- what the listing shows of one call: nothing while more is wanted
 unfoldable pub callLines : Connection → List Table → Answer → List ℕ → List ℕ

@@ -1,6 +1,12 @@
 // The lines of one reading call in a lent room, from `at` on, as far as the room reaches.
-use answer_lines::put_answer;
-use reply_lines::put_reply;
+pub mod answer;
+pub mod end;
+pub mod reply;
+pub mod update;
+pub mod words;
+
+use crate::answer::put_answer;
+use crate::reply::put_reply;
 use session::Answer;
 use session::Connection;
 use store::TABLES;
@@ -21,7 +27,7 @@ pub fn put_call(
 ) -> usize
     ensures { λ r. ⌜ Wrote (now (room .entry)) at (callLines connection tables answer (take len (now (reply .entry)))) (now (room .exit)) r ⌝ }
 {
-    if answers::answer_number(answer) == 100 {
+    if session::answers::answer_number(answer) == 100 {
         return at;
     }
     let next = put_answer(room, at, connection, tables, answer);

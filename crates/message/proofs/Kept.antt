@@ -31,10 +31,10 @@ use Rattle.session.specs.declared.Commit.the-variants as commit
 use Rattle.session.specs.declared.Answer.{Answer}
 use Rattle.session.specs.declared.Answer.the-variants as answer
 use Rattle.session.specs.Session.{closedWith, makeCurrent, bind, committed, findBound, bindingAt, isBound, boundTo}
-use Rattle.soundness.specs.Sound.{isClosing, refusesOpening}
+use Rattle.session_soundness.specs.Sound.{isClosing, refusesOpening}
 use Rattle.session.specs.Shape.{ConnectionShape}
-use Rattle.soundness.proofs.Facts.{SoundConnection, heldAt, bound-to-bound}
-use Rattle.soundness.proofs.Keeping.{put-keeps, close-keeps, establish-keeps, current-keeps, bind-keeps, commit-keeps}
+use Rattle.session_soundness.proofs.Facts.{SoundConnection, heldAt, bound-to-bound}
+use Rattle.session_soundness.proofs.Keeping.{put-keeps, close-keeps, establish-keeps, current-keeps, bind-keeps, commit-keeps}
 use Rattle.session.proofs.Bindings.{found-bound}
 use Rattle.session.proofs.Shapes.{closed-shape, current-shape, bind-shape, commit-shape}
 use Rattle.body.specs.Fields.{Read, got, short, outside, Span, spanIn}

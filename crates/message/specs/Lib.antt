@@ -2,3 +2,4 @@ pub mod Effects
 pub mod OnStores
 pub mod Settled
 pub mod Examples
+pub mod Targets

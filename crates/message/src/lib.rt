@@ -1,4 +1,11 @@
 // Messages past the handshake: what each does to session and store, and its reply.
+pub mod changes;
+pub mod commit;
+pub mod control;
+pub mod definition;
+pub mod stick_table;
+pub mod update;
+
 ghost use mathlib.Core.Path.{_≡_};
 ghost use lib.ListN.{getD};
 ghost use Rattle.store.specs.Store.{noTable};

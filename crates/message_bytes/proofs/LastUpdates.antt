@@ -15,7 +15,7 @@ use Rattle.session.specs.declared.Commit.{Commit}
 use Rattle.session.specs.declared.Answer.{Answer}
 use Rattle.session.specs.Session.{unfinished}
 use Rattle.session.specs.declared.Answer.the-variants as answer
-use Rattle.soundness.specs.Sound.{sound}
+use Rattle.session_soundness.specs.Sound.{sound}
 use Rattle.streams.specs.Calls.{Call}
 use Rattle.receiver.specs.Model.{State, heldBy}
 use Rattle.receiver.specs.Promise.{Made, ReadPromise, callOf}

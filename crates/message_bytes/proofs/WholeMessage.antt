@@ -32,9 +32,9 @@ use Rattle.session.specs.declared.Connection.{Connection}
 use Rattle.session.specs.declared.Answer.{Answer}
 use Rattle.session.specs.declared.Answer.the-variants as answer
 use Rattle.session.specs.Session.{unfinished, localName, remoteName}
-use Rattle.soundness.specs.Sound.{sound, waits}
-use Rattle.soundness.proofs.Records.{sound-session, open-facts}
-use Rattle.soundness.proofs.Waiting.{waits-frame, frame-is-waiting}
+use Rattle.session_soundness.specs.Sound.{sound, waits}
+use Rattle.session_soundness.proofs.Records.{sound-session, open-facts}
+use Rattle.session_soundness.proofs.Waiting.{waits-frame, frame-is-waiting}
 use Rattle.body.specs.Encodings.{messageBytes, bodyStart}
 use Rattle.body.proofs.Encoding.{Stands, stands-part}
 use Rattle.message.specs.Effects.{Effect, refuse, note}

@@ -21,9 +21,9 @@ use Rattle.session.specs.declared.Session.{Session}
 use Rattle.session.specs.Shape.{SessionShape}
 use Rattle.session.specs.Session.{isClosed, localName, remoteName, isBound, isUpdated, boundTo, noBinding, bindingAt, holding}
 use Rattle.session.proofs.Bindings.{past-last, unbound-past}
-use Rattle.soundness.specs.Sound.{refusesOpening, emptyBinding, emptyBuffer, isRefusedOpening, sound, soundSession}
-use Rattle.soundness.proofs.Facts.{SoundConnection}
-use Rattle.soundness.proofs.Records.{sound-both, record-refused, empty-sound}
+use Rattle.session_soundness.specs.Sound.{refusesOpening, emptyBinding, emptyBuffer, isRefusedOpening, sound, soundSession}
+use Rattle.session_soundness.proofs.Facts.{SoundConnection}
+use Rattle.session_soundness.proofs.Records.{sound-both, record-refused, empty-sound}
 use Rattle.opening.specs.Opening.{Role, answerer, caller, firstPhase, newConnection, opened, refusedOpening, refuseOpening, accept, Opening, «open»}
 use Rattle.opening.proofs.Making.{name-most}
 

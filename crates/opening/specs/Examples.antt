@@ -11,7 +11,7 @@ use Rattle.handshake.specs.Handshake.{nameOk}
 use Rattle.session.specs.declared.Answer.{Answer}
 use Rattle.session.specs.declared.Answer.the-variants as answer
 use Rattle.session.specs.Session.{noBinding, holding}
-use Rattle.soundness.specs.Sound.{refusesOpening, emptyBinding, emptyBuffer, isRefusedOpening, soundSession}
+use Rattle.session_soundness.specs.Sound.{refusesOpening, emptyBinding, emptyBuffer, isRefusedOpening, soundSession}
 use Rattle.opening.specs.Opening.{Role, answerer, caller, newConnection, refusedOpening, «open»}
 
 -- `east` and `west`

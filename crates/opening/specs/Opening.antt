@@ -14,7 +14,7 @@ use Rattle.session.specs.declared.Answer.the-variants as answer
 use Rattle.opening.specs.declared.Opened.{Opened}
 use Rattle.session.specs.Session.{holding, noBinding, awaitingHello, awaitingStatus}
 -- a connection with these names: nothing bound, no current table
-unfoldable pub use Rattle.new_sessions.specs.New.{newConnection}
+unfoldable pub use Rattle.opening.specs.New.{newConnection}
 
 -- "opening asks for 101 bytes of room in either role"
 abbrev pub openingRoom : ℕ

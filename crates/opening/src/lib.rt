@@ -1,8 +1,10 @@
 // Opening a session as answerer or caller.
+pub mod fresh;
+
+use crate::fresh::names_given;
+use crate::fresh::new_session;
 use handshake::Written;
-use hello_writing::write_hello;
-use new_sessions::names_given;
-use new_sessions::new_session;
+use handshake::writing::write_hello;
 use session::AWAITING_HELLO;
 use session::AWAITING_STATUS;
 use session::Answer;

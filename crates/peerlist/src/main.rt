@@ -1,7 +1,7 @@
 // Lists what a peer sends: standard input is read as answerer `east`, which accepts `west`, in pieces as they come.
-use end_lines::put_end;
 use libc::STDIN_FILENO;
 use libc::STDOUT_FILENO;
+use listing::end::put_end;
 use listing::put_call;
 use opening::OPENING_ROOM;
 use opening::open_answerer;

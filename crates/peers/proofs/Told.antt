@@ -4,8 +4,8 @@ use lib.ListN.{length}
 use Rattle.store.specs.declared.Store.{Store}
 use Rattle.session.specs.declared.Session.{Session}
 use Rattle.receiver.specs.Promise.{callOf, outcomeOf}
-use Rattle.raw.specs.Raw.{rawOutcome}
-use Rattle.read_finish.specs.Reading.{RawMade, RawPromise}
+use Rattle.reading.specs.Raw.{rawOutcome}
+use Rattle.reading.specs.Reading.{RawMade, RawPromise}
 
 pub numbers-told : {s : Session} {t : Store} {m : RawMade} → RawPromise s t m
     → m .outcome ≡ rawOutcome (outcomeOf (callOf s t (m .piece) (length (m .room))))

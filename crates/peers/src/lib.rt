@@ -1,10 +1,10 @@
 // The library for hosts in C and Rust: opening, reading and an empty store, each defined on every input.
 // An enum can't cross the border to C, so an answer goes as its number and values.
-use raw::RawOpened;
-use raw::RawOutcome;
-use raw::raw_opened;
-use read_finish::finish_read;
-use read_start::start_read;
+use reading::finish::finish_read;
+use reading::raw::RawOpened;
+use reading::raw::RawOutcome;
+use reading::raw::raw_opened;
+use reading::start::start_read;
 use session::Session;
 use store::Store;
 use store_scan::scan;
@@ -12,8 +12,8 @@ ghost use mathlib.Core.Path.{_≡_};
 ghost use lib.ListN.{length};
 ghost use Rattle.store.specs.Store.{emptyStore};
 ghost use Rattle.opening.specs.Opening.{answerer, caller, «open», openRoom, openedOf};
-ghost use Rattle.raw.specs.Raw.{rawOpened};
-ghost use Rattle.read_finish.specs.Reading.{RawPromise};
+ghost use Rattle.reading.specs.Raw.{rawOpened};
+ghost use Rattle.reading.specs.Reading.{RawPromise};
 
 // A store without tables and entries.
 #[no_mangle]

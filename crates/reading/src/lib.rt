@@ -1,9 +1,17 @@
 // The reading call: one session record, one store, a piece of the stream and room for a reply. By value it is `read`.
-pub use receiving::REPLY_ROOM;
-pub use receiving::read;
+pub mod answering;
+pub mod finish;
+pub mod giving;
+pub mod raw;
+pub mod receiving;
+pub mod start;
+pub mod steps;
+
+pub use crate::receiving::REPLY_ROOM;
+pub use crate::receiving::read;
+pub use crate::steps::Step;
 use session::Outcome;
 use session::Session;
-pub use steps::Step;
 use store::Store;
 ghost use Rattle.receiver.specs.Promise.{ReadPromise};
 

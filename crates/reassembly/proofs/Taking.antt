@@ -17,8 +17,8 @@ use Rattle.lists.proofs.Bytes.{pad-length, pad-take}
 use Rattle.session.specs.declared.Connection.{Connection}
 use Rattle.session.specs.declared.Session.{Session}
 use Rattle.session.specs.Session.{unfinished}
-use Rattle.soundness.specs.Sound.{waits}
-use Rattle.soundness.proofs.Waiting.{waits-few}
+use Rattle.session_soundness.specs.Sound.{waits}
+use Rattle.session_soundness.proofs.Waiting.{waits-few}
 use Rattle.reassembly.specs.declared.Taken.{Taken}
 use Rattle.reassembly.specs.Pieces.{Part, oneMore, takePiece, takenOf}
 

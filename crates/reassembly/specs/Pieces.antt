@@ -6,7 +6,7 @@ use mathlib.Core.Bool.{Bool, true, false, cond}
 use lib.ListN.{length}
 use Rattle.lists.specs.Lists.{padTo}
 use Rattle.session.specs.declared.Connection.{Connection}
-use Rattle.soundness.specs.Sound.{waits}
+use Rattle.session_soundness.specs.Sound.{waits}
 use Rattle.reassembly.specs.declared.Taken.{Taken}
 
 -- the bytes that stand unfinished, how many of the piece were taken, and whether they end a message or show a refusal

@@ -18,7 +18,7 @@ use Rattle.session.specs.declared.Answer.{Answer}
 use Rattle.session.specs.declared.Answer.the-variants as answer
 use Rattle.session.specs.Session.{holding, isClosed, unfinished}
 use Rattle.session.proofs.Holding.{unfinished-held}
-use Rattle.soundness.specs.Sound.{sound}
+use Rattle.session_soundness.specs.Sound.{sound}
 use Rattle.streams.specs.Model.{Fed, quiet, answered, Item, byte, bytes, Ran, feedAll}
 use Rattle.streams.specs.Calls.{Call, Step, reading, Response, Result, resultOf, stay, respond, scan, readCall, runCalls, takenOf, Offers, ofBytes}
 use Rattle.streams.specs.Claim.{Lawful, AsModel}

@@ -16,7 +16,7 @@ use Rattle.session.specs.declared.Session.{Session}
 use Rattle.session.specs.declared.Answer.{Answer}
 use Rattle.session.specs.declared.Answer.the-variants as answer
 use Rattle.session.specs.Session.{holding, isClosed, unfinished}
-use Rattle.soundness.specs.Sound.{sound}
+use Rattle.session_soundness.specs.Sound.{sound}
 use Rattle.streams.specs.Model.{Fed, quiet, answered, Item, bytes, bytesIn, Ended, Ran, feedAll}
 use Rattle.streams.specs.Calls.{Call, Step, reading, Result, resultOf, readCall, runCalls, takenOf, Offers, ofBytes, current, without, WithinCuts}
 use Rattle.streams.specs.Claim.{Lawful, AsModel, Division}

@@ -6,7 +6,7 @@ use mathlib.Core.List.{List}
 use Rattle.store.specs.declared.Store.{Store}
 use Rattle.session.specs.declared.Session.{Session}
 use Rattle.session.specs.declared.Answer.{Answer}
-use Rattle.soundness.specs.Sound.{sound}
+use Rattle.session_soundness.specs.Sound.{sound}
 use Rattle.streams.specs.Calls.{Result}
 use Rattle.receiver.specs.Model.{State, heldBy}
 use Rattle.receiver.specs.Promise.{Made}

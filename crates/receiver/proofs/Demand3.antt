@@ -5,7 +5,7 @@ use mathlib.Core.Bool.{true}
 use Rattle.store.specs.declared.Store.{Store}
 use Rattle.session.specs.declared.Session.{Session}
 use Rattle.session.specs.Session.{unfinished}
-use Rattle.soundness.specs.Sound.{sound}
+use Rattle.session_soundness.specs.Sound.{sound}
 use Rattle.receiver.specs.Promise.{Made}
 use Rattle.receiver.specs.Ledger.{startLedger}
 use Rattle.receiver.specs.Demand3.{Chain, Demand3}

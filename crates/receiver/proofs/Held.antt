@@ -14,8 +14,8 @@ use Rattle.session.specs.declared.Connection.{Connection}
 use Rattle.session.specs.declared.Session.{Session}
 use Rattle.session.specs.Session.{unfinished, holding}
 use Rattle.session.proofs.Holding.{unfinished-held}
-use Rattle.soundness.specs.Sound.{sound, soundSession, soundConnection, isRefusedOpening, unfinishedOk}
-use Rattle.soundness.proofs.Records.{refused-len, held-session}
+use Rattle.session_soundness.specs.Sound.{sound, soundSession, soundConnection, isRefusedOpening, unfinishedOk}
+use Rattle.session_soundness.proofs.Records.{refused-len, held-session}
 use Rattle.receiver.specs.Model.{State, heldBy, soundState}
 
 -- ---- the state of a record that holds it

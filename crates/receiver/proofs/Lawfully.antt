@@ -18,9 +18,9 @@ use Rattle.session.specs.declared.Session.{Session}
 use Rattle.session.specs.declared.Answer.{Answer}
 use Rattle.session.specs.declared.Answer.the-variants as answer
 use Rattle.session.specs.Session.{isClosed, holding, unfinished}
-use Rattle.soundness.specs.Sound.{waits, sound}
-use Rattle.soundness.proofs.Facts.{SoundConnection}
-use Rattle.soundness.proofs.Records.{sound-store, sound-session, sound-both, holding-sound, empty-sound, open-facts}
+use Rattle.session_soundness.specs.Sound.{waits, sound}
+use Rattle.session_soundness.proofs.Facts.{SoundConnection}
+use Rattle.session_soundness.proofs.Records.{sound-store, sound-session, sound-both, holding-sound, empty-sound, open-facts}
 use Rattle.message.specs.Effects.{Effect}
 use Rattle.message.proofs.Kept.{Held, Kept}
 use Rattle.streams.specs.Model.{Fed, quiet, answered, stateOf, endedBy}

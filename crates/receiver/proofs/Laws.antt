@@ -37,9 +37,9 @@ use Rattle.session.specs.declared.Answer.{Answer}
 use Rattle.session.specs.declared.Answer.the-variants as answer
 use Rattle.session.specs.Answers.{refusalReply, isSizeLimit, isProtocolError}
 use Rattle.session.specs.Session.{isClosed, localName, remoteName, establish, findBound, bindingAt, isBound, isUpdated}
-use Rattle.soundness.specs.Sound.{isClosing, refusesOpening}
+use Rattle.session_soundness.specs.Sound.{isClosing, refusesOpening}
 use Rattle.session.proofs.Bindings.{found-bound, committed-previous}
-use Rattle.soundness.proofs.Keeping.{establish-keeps}
+use Rattle.session_soundness.proofs.Keeping.{establish-keeps}
 use Rattle.session.proofs.Shapes.{establish-shape}
 use Rattle.body.specs.Fields.{Read, got, short, outside, spanIn}
 use Rattle.body.specs.Bodies.{Definition, definitionFields, switchFields, acknowledgementFields, Update, updateFields, incrementalFields}

@@ -14,7 +14,7 @@ use Rattle.session.specs.declared.Session.{Session}
 use Rattle.session.specs.declared.Answer.{Answer}
 use Rattle.session.specs.declared.Outcome.{Outcome}
 use Rattle.session.specs.Session.{isClosed}
-use Rattle.soundness.specs.Sound.{sound}
+use Rattle.session_soundness.specs.Sound.{sound}
 use Rattle.streams.specs.Calls.{Call, scan}
 use Rattle.streams.proofs.OneCall.{scan-nil, scan-inside}
 use Rattle.receiver.specs.Model.{State, heldBy, peers}

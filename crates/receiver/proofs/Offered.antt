@@ -14,7 +14,7 @@ use Rattle.store.specs.declared.Store.{Store}
 use Rattle.session.specs.declared.Session.{Session}
 use Rattle.session.specs.declared.Answer.{Answer}
 use Rattle.session.specs.Session.{holding, isClosed}
-use Rattle.soundness.specs.Sound.{sound}
+use Rattle.session_soundness.specs.Sound.{sound}
 use Rattle.session.proofs.Shapes.{holding-shape}
 use Rattle.streams.specs.Model.{Item, byte, bytes, bytesIn}
 use Rattle.streams.specs.Calls.{Call, Step, reading, happening, readCall, Offers, WithinCuts, ofBytes, readsIn, current, without}

@@ -15,7 +15,7 @@ use Rattle.session.specs.declared.Session.{Session}
 use Rattle.session.specs.declared.Answer.{Answer}
 use Rattle.session.specs.declared.Outcome.{Outcome}
 use Rattle.session.specs.Session.{holding, isClosed}
-use Rattle.soundness.specs.Sound.{sound}
+use Rattle.session_soundness.specs.Sound.{sound}
 use Rattle.streams.specs.Model.{Fed, quiet, answered}
 use Rattle.streams.specs.Calls.{Call, stay, scan, readCall}
 use Rattle.streams.specs.Claim.{Lawful}

@@ -21,7 +21,7 @@ use Rattle.session.specs.declared.Session.{Session}
 use Rattle.session.specs.declared.Answer.{Answer}
 use Rattle.session.specs.declared.Answer.the-variants as answer
 use Rattle.session.specs.Session.{isClosed, localName, remoteName}
-use Rattle.soundness.specs.Sound.{waits, helloWaits, statusWaits, frameWaits}
+use Rattle.session_soundness.specs.Sound.{waits, helloWaits, statusWaits, frameWaits}
 use Rattle.message.specs.Effects.{Effect}
 use Rattle.streams.specs.Model.{Fed, quiet, answered}
 use Rattle.streams.specs.Calls.{Call, scan, onward}

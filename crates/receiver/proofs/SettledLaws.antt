@@ -19,8 +19,8 @@ use Rattle.session.specs.declared.Commit.{Commit}
 use Rattle.session.specs.declared.Answer.{Answer}
 use Rattle.session.specs.declared.Answer.the-variants as answer
 use Rattle.session.specs.Session.{bindingAt, isUpdated}
-use Rattle.soundness.proofs.Facts.{heldAt}
-use Rattle.soundness.proofs.Keeping.{put-held}
+use Rattle.session_soundness.proofs.Facts.{heldAt}
+use Rattle.session_soundness.proofs.Keeping.{put-held}
 use Rattle.body.specs.Fields.{got}
 use Rattle.body.specs.Bodies.{Update}
 use Rattle.message.specs.Effects.{Effect, refuse, note, peerError, defineAt, acknowledge, updatedEntry, commitAt}

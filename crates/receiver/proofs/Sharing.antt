@@ -17,10 +17,10 @@ use Rattle.session.specs.declared.Session.{Session}
 use Rattle.session.specs.declared.Answer.{Answer}
 use Rattle.session.specs.declared.Answer.the-variants as answer
 use Rattle.session.proofs.OneToOne.{RefusedBelow, answers-one-to-one}
-use Rattle.soundness.specs.Sound.{sound, soundSession, soundConnection, unfinishedOk, isRefusedOpening}
-use Rattle.soundness.proofs.Facts.{heldAt, connection-facts, facts-connection}
-use Rattle.soundness.proofs.Keeping.{held-keeps}
-use Rattle.soundness.proofs.Records.{sound-session, sound-both}
+use Rattle.session_soundness.specs.Sound.{sound, soundSession, soundConnection, unfinishedOk, isRefusedOpening}
+use Rattle.session_soundness.proofs.Facts.{heldAt, connection-facts, facts-connection}
+use Rattle.session_soundness.proofs.Keeping.{held-keeps}
+use Rattle.session_soundness.proofs.Records.{sound-session, sound-both}
 use Rattle.body.specs.Fields.{Read}
 use Rattle.message.specs.Effects.{refuse}
 use Rattle.reassembly.specs.Judge.{waiting, settled, judge}

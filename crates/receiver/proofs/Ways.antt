@@ -17,7 +17,7 @@ use Rattle.session.specs.declared.Answer.{Answer}
 use Rattle.session.specs.declared.Answer.the-variants as answer
 use Rattle.session.specs.declared.Outcome.{Outcome}
 use Rattle.session.specs.Session.{unfinished, isClosed, holding}
-use Rattle.soundness.specs.Sound.{sound, waits}
+use Rattle.session_soundness.specs.Sound.{sound, waits}
 use Rattle.message.specs.Effects.{Effect}
 use Rattle.reassembly.specs.Judge.{Judged, settled, judge}
 use Rattle.reassembly.specs.Pieces.{Part, takePiece}

@@ -16,7 +16,7 @@ use Rattle.session.specs.declared.Commit.{Commit}
 use Rattle.session.specs.declared.Answer.the-variants as answer
 use Rattle.session.specs.Answers.{refusalReply, answerNumber, answerValues}
 use Rattle.session.specs.Session.{unfinished, bindingAt, holding, closedWith}
-use Rattle.soundness.specs.Sound.{sound}
+use Rattle.session_soundness.specs.Sound.{sound}
 use Rattle.opening.specs.Opening.{Role, refusedOpening, «open», openRoom}
 use Rattle.body.specs.Fields.{Read, got, spanIn}
 use Rattle.body.specs.Bodies.{Update, updateFields, incrementalFields, acknowledgementFields}

@@ -9,7 +9,7 @@ use Rattle.session.specs.declared.Session.{Session}
 use Rattle.session.specs.declared.Answer.{Answer}
 use Rattle.session.specs.declared.Answer.the-variants as answer
 use Rattle.session.specs.Session.{unfinished, isClosed, holding}
-use Rattle.soundness.specs.Sound.{sound}
+use Rattle.session_soundness.specs.Sound.{sound}
 use Rattle.reassembly.specs.Judge.{Judged, waiting, settled, judge}
 use Rattle.streams.specs.Model.{Fed, quiet, answered, Receiver}
 

@@ -14,7 +14,7 @@ use Rattle.session.specs.declared.Answer.the-variants as answer
 use Rattle.session.specs.declared.Outcome.{Outcome}
 use Rattle.session.specs.Session.{isClosed, holding}
 use Rattle.session.specs.Shape.{SessionShape}
-use Rattle.soundness.specs.Sound.{sound}
+use Rattle.session_soundness.specs.Sound.{sound}
 use Rattle.streams.specs.Calls.{Call, stay, scan}
 use Rattle.receiver.specs.Model.{State, heldBy, replyRoom, isByte, peers}
 

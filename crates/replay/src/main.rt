@@ -5,26 +5,26 @@
 //                          `took N`, the answer's line (`more` for more wanted), the reply, `spoiled` if a byte past the reply changed
 //   D                      a dump of record and store
 // Anything else ends the script, and so do N, C and D before the first O and the end of the input: `end`.
-use answer_lines::put_answer;
+use dump::lines::put_entry;
+use dump::lines::put_table;
+use dump::record_lines::put_record;
 use libc::STDIN_FILENO;
 use libc::STDOUT_FILENO;
+use listing::answer::put_answer;
+use listing::reply::put_reply;
 use opening::OPENING_ROOM;
 use opening::Opened;
 use opening::open_answerer;
 use opening::open_caller;
 use reading::Step;
 use reading::read;
-use record_lines::put_record;
-use reply_lines::put_reply;
 use session::Session;
 use store::ENTRIES;
 use store::Store;
 use store::TABLES;
 use store::Table;
-use store_lines::put_entry;
-use store_lines::put_table;
 use text::put;
-use words::put_number;
+use text::spaced::put_number;
 
 // More than the lines of one command, or of one entry, need.
 const MARGIN: usize = 4096;

@@ -3,3 +3,4 @@ pub mod Store
 pub mod Shape
 pub mod Sound
 pub mod Examples
+pub mod Places

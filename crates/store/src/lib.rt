@@ -1,5 +1,9 @@
 // The store of document 01: 8 table places and 128 entry places, as plain numbers.
 // The lender of a store can put any number anywhere; `sound_store` of the crate `store_soundness` says whether it is one that the rules allow.
+pub mod entries;
+pub mod tables;
+pub mod types;
+
 ghost use mathlib.Core.Path.{_≡_};
 ghost use Rattle.store.specs.Store.{makeEntry, makeTable, putTable, putEntry, noTable, noEntry, emptyStore};
 

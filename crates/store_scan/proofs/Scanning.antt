@@ -25,14 +25,14 @@ use Rattle.store.specs.Sound.{soundEntry, sameKey}
 use Rattle.store.specs.Shape.{StoreShape}
 use Rattle.store.proofs.Lookup.{blankEntry, long-key, prefix-length, prefix-within}
 use Rattle.store.proofs.Typed.{length-mapped}
-use Rattle.entry_marks.specs.Marks.{markEnd, markKey, entryMark, sameMark}
-use Rattle.entry_marks.proofs.Marking.{key-below, start-small, held-is, same-alike, mapped-at, marks-tell}
-use Rattle.entry_codes.specs.Codes.{entryCode, soundCode, isCode}
-use Rattle.entry_codes.proofs.Coding.{codes-sound, codes-marks, free-marked}
-use Rattle.entry_lookup.specs.declared.Place.{Place}
-use Rattle.entry_lookup.specs.declared.Place.the-variants as place
-use Rattle.entry_lookup.specs.Places.{freeOf, placeOf}
-use Rattle.commits.specs.Targets.{keyedAs, goesTo}
+use Rattle.store_soundness.specs.Marks.{markEnd, markKey, entryMark, sameMark}
+use Rattle.store_soundness.proofs.marks.Marking.{key-below, start-small, held-is, same-alike, mapped-at, marks-tell}
+use Rattle.store_soundness.specs.Codes.{entryCode, soundCode, isCode}
+use Rattle.store_soundness.proofs.codes.Coding.{codes-sound, codes-marks, free-marked}
+use Rattle.store.specs.declared.entries.Place.{Place}
+use Rattle.store.specs.declared.entries.Place.the-variants as place
+use Rattle.store.specs.Places.{freeOf, placeOf}
+use Rattle.message.specs.Targets.{keyedAs, goesTo}
 use Rattle.store_scan.specs.declared.Query.{Query}
 use Rattle.store_scan.specs.declared.Candidate.{Candidate}
 use Rattle.store_scan.specs.declared.Scanned.{Scanned}

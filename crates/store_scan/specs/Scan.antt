@@ -9,11 +9,11 @@ use Rattle.store.specs.declared.Entry.{Entry}
 use Rattle.store.specs.Limits.{entryPlaces}
 use Rattle.store.specs.Store.{keyOf}
 use Rattle.store.specs.Sound.{soundEntry, sameKey}
-use Rattle.entry_marks.specs.Marks.{markEnd, markKey, sameMark}
-use Rattle.entry_codes.specs.Codes.{soundCode, isCode}
-use Rattle.entry_lookup.specs.declared.Place.the-variants as place
-use Rattle.entry_lookup.specs.Places.{freeOf}
-use Rattle.commits.specs.Targets.{keyedAs, goesTo}
+use Rattle.store_soundness.specs.Marks.{markEnd, markKey, sameMark}
+use Rattle.store_soundness.specs.Codes.{soundCode, isCode}
+use Rattle.store.specs.declared.entries.Place.the-variants as place
+use Rattle.store.specs.Places.{freeOf}
+use Rattle.message.specs.Targets.{keyedAs, goesTo}
 use Rattle.store_scan.specs.declared.Query.{Query}
 use Rattle.store_scan.specs.declared.Candidate.{Candidate}
 use Rattle.store_scan.specs.declared.Scanned.{Scanned}

@@ -1,28 +1,28 @@
 // A store's entries tested and looked up behind a reference. They are copied only where two marks are equal.
-use commits::place_of;
-use entry_codes::all_sound;
-use entry_codes::code_place;
-use entry_codes::entry_code;
-use entry_lookup::Place;
-use entry_marks::MARK_END;
-use entry_marks::held_mark;
-use entry_marks::marks_distinct;
-use key_twins::entry_keyed;
-use key_twins::keys_distinct;
 use lists::Found;
+use message::commit::place_of;
 use store::ENTRIES;
 use store::Entry;
 use store::KEY_MAX;
 use store::Store;
 use store::TABLES;
 use store::Table;
+use store::entries::Place;
+use store_soundness::codes::all_sound;
+use store_soundness::codes::code_place;
+use store_soundness::codes::entry_code;
+use store_soundness::keys::entry_keyed;
+use store_soundness::keys::keys_distinct;
+use store_soundness::marks::MARK_END;
+use store_soundness::marks::held_mark;
+use store_soundness::marks::marks_distinct;
 ghost use mathlib.Core.Path.{_≡_};
 ghost use mathlib.Core.List.{map};
 ghost use Rattle.lists.specs.Lists.{firstPlace};
-ghost use Rattle.entry_marks.specs.Marks.{markEnd};
-ghost use Rattle.entry_codes.specs.Codes.{entryCode, isCode};
-ghost use Rattle.entry_lookup.specs.Places.{freeOf};
-ghost use Rattle.commits.specs.Targets.{keyedAs};
+ghost use Rattle.store_soundness.specs.Marks.{markEnd};
+ghost use Rattle.store_soundness.specs.Codes.{entryCode, isCode};
+ghost use Rattle.store.specs.Places.{freeOf};
+ghost use Rattle.message.specs.Targets.{keyedAs};
 ghost use Rattle.store_scan.specs.Scan.{Scans, Candidates, ScansByMarks, ScansByKeys};
 
 // What a scan is asked: the tables that the entries are tested with, and an entry whose place is looked for.

@@ -1,5 +1,9 @@
 // Text in a lent room. Each function puts its text into the room from `at` on, as far as the room reaches,
 // and returns the position behind it.
+pub mod decimal;
+pub mod hex;
+pub mod spaced;
+
 ghost use Rattle.text.specs.Room.{Wrote};
 
 // The bytes as they are.

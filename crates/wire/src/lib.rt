@@ -1,4 +1,8 @@
 // Numbers on the wire: the encoded integer, 4-byte numbers, values of a width, the server ID, and writing into lent room.
+pub mod buffer;
+pub mod fixed;
+pub mod values;
+
 ghost use mathlib.Core.Path.{_≡_};
 ghost use Prim.Native.Nat.{_<_};
 ghost use lib.ListN.{drop};

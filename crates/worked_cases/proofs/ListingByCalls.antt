@@ -20,8 +20,8 @@ use Rattle.session.specs.declared.Answer.{Answer}
 use Rattle.session.specs.Shape.{BindingShape, ConnectionShape}
 use Rattle.session.specs.Session.{unfinished, isClosed, holding, noBinding, bindingAt}
 use Rattle.session.proofs.Shapes.{holding-shape}
-use Rattle.soundness.specs.Sound.{sound}
-use Rattle.soundness.proofs.Records.{sound-both}
+use Rattle.session_soundness.specs.Sound.{sound}
+use Rattle.session_soundness.proofs.Records.{sound-both}
 use Rattle.opening.specs.Opening.{answerer, opened, newConnection}
 use Rattle.opening.proofs.SoundOpening.{opened-sound}
 use Rattle.streams.specs.Calls.{Result}

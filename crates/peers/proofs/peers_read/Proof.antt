@@ -53,29 +53,29 @@ use denote.Signature.{Slot, plain, shrSliceOf}
 use borrow.Table.Elements.{at-mul}
 use Rattle.store.proofs.Typed.{store-shape}
 use Rattle.store_scan.specs.Scan.{Scans}
-use Rattle.read_start.specs.Start.{Starts}
-use Rattle.read_finish.specs.Finish.{EndsRaw}
-use Rattle.read_finish.proofs.Finishing.{promised, in-entries, in-tables, withEntry, withTable, entryWritten, tableWritten, storeWritten}
-use Rattle.raw.specs.declared.RawOutcome.{RawOutcome}
+use Rattle.reading.specs.Start.{Starts}
+use Rattle.reading.specs.Finish.{EndsRaw}
+use Rattle.reading.proofs.finish.Finishing.{promised, in-entries, in-tables, withEntry, withTable, entryWritten, tableWritten, storeWritten}
+use Rattle.reading.specs.declared.raw.RawOutcome.{RawOutcome}
 use Rattle.session.specs.declared.Session.{Session}
 use Rattle.store.specs.declared.Store.{Store}
-use Rattle.read_finish.specs.declared.RawChange.{RawChange}
-use Rattle.read_start.specs.declared.Started.{Started}
+use Rattle.reading.specs.declared.finish.RawChange.{RawChange}
+use Rattle.reading.specs.declared.start.Started.{Started}
 use Rattle.store_scan.specs.declared.Query.{Query}
 use Rattle.store_scan.specs.declared.Scanned.{Scanned}
 use Rattle.store.specs.declared.Entry.{Entry}
 use Rattle.store.specs.declared.Table.{Table}
 use Rattle.store_scan.proofs.Items.{elem, unraw, vals-len, vals-put, items-put, rows-is, lends-plain, plain-back}
-use Rattle.raw.proofs.RawOutcome as O
-use Rattle.raw.proofs.RawOutcome.Laws as O′
+use Rattle.reading.proofs.raw.RawOutcome as O
+use Rattle.reading.proofs.raw.RawOutcome.Laws as O′
 use Rattle.session.proofs.Session as S
 use Rattle.session.proofs.Session.Laws as S′
 use Rattle.store.proofs.Store as T
 use Rattle.store.proofs.Store.Laws as T′
-use Rattle.read_finish.proofs.RawChange as P
-use Rattle.read_finish.proofs.RawChange.Laws as P′
-use Rattle.read_start.proofs.Started as Wa
-use Rattle.read_start.proofs.Started.Laws as Wa′
+use Rattle.reading.proofs.finish.RawChange as P
+use Rattle.reading.proofs.finish.RawChange.Laws as P′
+use Rattle.reading.proofs.start.Started as Wa
+use Rattle.reading.proofs.start.Started.Laws as Wa′
 use Rattle.store_scan.proofs.Query as Qy
 use Rattle.store_scan.proofs.Query.Laws as Qy′
 use Rattle.store_scan.proofs.Scanned as B
@@ -84,18 +84,18 @@ use Rattle.store.proofs.Entry as N₀
 use Rattle.store.proofs.Entry.Laws as N₀′
 use Rattle.store.proofs.Table as N₁
 use Rattle.store.proofs.Table.Laws as N₁′
-use Rattle.read_start.proofs.start_read as begin
-use Rattle.read_start.proofs.start_read.Symbol as begin-def
-use Rattle.read_start.proofs.start_read.Symbol.{name as #begin}
-use Rattle.read_start.proofs.start_read.Met as begin-thm
+use Rattle.reading.proofs.start.start_read as begin
+use Rattle.reading.proofs.start.start_read.Symbol as begin-def
+use Rattle.reading.proofs.start.start_read.Symbol.{name as #begin}
+use Rattle.reading.proofs.start.start_read.Met as begin-thm
 use Rattle.store_scan.proofs.scan as looking
 use Rattle.store_scan.proofs.scan.Symbol as looking-def
 use Rattle.store_scan.proofs.scan.Symbol.{name as #looking}
 use Rattle.store_scan.proofs.scan.Met as looking-thm
-use Rattle.read_finish.proofs.finish_read as core
-use Rattle.read_finish.proofs.finish_read.Symbol as core-def
-use Rattle.read_finish.proofs.finish_read.Symbol.{name as #core}
-use Rattle.read_finish.proofs.finish_read.Met as core-thm
+use Rattle.reading.proofs.finish.finish_read as core
+use Rattle.reading.proofs.finish.finish_read.Symbol as core-def
+use Rattle.reading.proofs.finish.finish_read.Symbol.{name as #core}
+use Rattle.reading.proofs.finish.finish_read.Met as core-thm
 use Rattle.peers.proofs.peers_read.Key.{name as #fn}
 use Rattle.peers.proofs.peers_read as fn
 use Rattle.peers.proofs.peers_read.Statement as stated
@@ -678,6 +678,6 @@ peers-read-spec 𝓤 H 𝓜 𝓖 𝓡 =
     entered 𝓤 H (tripleOf 𝓤 H (𝓖 .A) fn.signature (fn.spec 𝓤 H (𝓖 .A) (𝓜 .mem) (𝓡 .run)))
     (tables 𝓤 H 𝓜 𝓡 code.env .C) (tables 𝓤 H 𝓜 𝓡 code.env .Λ) #fn code.function (code.unfolded 𝓤 H 𝓜 𝓡)
     (fn-meets 𝓤 H (𝓖 .A) (givenOf 𝓤 H 𝓜 𝓖) (𝓜 .mem) (𝓡 .run) (tablesOf 𝓤 H 𝓜 (tables 𝓤 H 𝓜 𝓡 code.env))
-    (cited 𝓤 H (Begin 𝓤 H (𝓖 .A) (𝓜 .mem) (𝓡 .run)) 𝓜 𝓡 code.env #begin begin-def.routine code.calls-read-start·start-read (begin-thm.met 𝓤 H 𝓜 𝓖 𝓡))
+    (cited 𝓤 H (Begin 𝓤 H (𝓖 .A) (𝓜 .mem) (𝓡 .run)) 𝓜 𝓡 code.env #begin begin-def.routine code.calls-reading·start·start-read (begin-thm.met 𝓤 H 𝓜 𝓖 𝓡))
     (cited 𝓤 H (Look 𝓤 H (𝓖 .A) (𝓜 .mem) (𝓡 .run)) 𝓜 𝓡 code.env #looking looking-def.routine code.calls-store-scan·scan (looking-thm.met 𝓤 H 𝓜 𝓖 𝓡))
-    (cited 𝓤 H (Core 𝓤 H (𝓖 .A) (𝓜 .mem) (𝓡 .run)) 𝓜 𝓡 code.env #core core-def.routine code.calls-read-finish·finish-read (core-thm.met 𝓤 H 𝓜 𝓖 𝓡)))
+    (cited 𝓤 H (Core 𝓤 H (𝓖 .A) (𝓜 .mem) (𝓡 .run)) 𝓜 𝓡 code.env #core core-def.routine code.calls-reading·finish·finish-read (core-thm.met 𝓤 H 𝓜 𝓖 𝓡)))

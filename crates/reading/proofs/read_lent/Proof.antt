@@ -49,13 +49,13 @@ use Rattle.session.proofs.Session.Laws as S′
 use Rattle.store.specs.declared.Store.{Store}
 use Rattle.store.proofs.Store as T
 use Rattle.store.proofs.Store.Laws as T′
-use Rattle.steps.specs.declared.Step.{Step}
-use Rattle.steps.proofs.Step as P
-use Rattle.steps.proofs.Step.Laws as P′
-use Rattle.receiving.proofs.read as core
-use Rattle.receiving.proofs.read.Symbol as core-def
-use Rattle.receiving.proofs.read.Symbol.{name as #core}
-use Rattle.receiving.proofs.read.Met as core-thm
+use Rattle.reading.specs.declared.steps.Step.{Step}
+use Rattle.reading.proofs.steps.Step as P
+use Rattle.reading.proofs.steps.Step.Laws as P′
+use Rattle.reading.proofs.receiving.read as core
+use Rattle.reading.proofs.receiving.read.Symbol as core-def
+use Rattle.reading.proofs.receiving.read.Symbol.{name as #core}
+use Rattle.reading.proofs.receiving.read.Met as core-thm
 use Rattle.reading.proofs.read_lent.Key.{name as #lent}
 use Rattle.reading.proofs.read_lent as lent
 use Rattle.reading.proofs.read_lent.Statement as stated
@@ -214,4 +214,4 @@ read-lent-spec 𝓤 H 𝓜 𝓖 𝓡 =
     entered 𝓤 H (tripleOf 𝓤 H (𝓖 .A) lent.signature (lent.spec 𝓤 H (𝓖 .A) (𝓜 .mem) (𝓡 .run)))
     (tables 𝓤 H 𝓜 𝓡 code.env .C) (tables 𝓤 H 𝓜 𝓡 code.env .Λ) #lent code.function (code.unfolded 𝓤 H 𝓜 𝓡)
     (lent-meets 𝓤 H (𝓖 .A) (givenOf 𝓤 H 𝓜 𝓖) (𝓜 .mem) (𝓡 .run) (tablesOf 𝓤 H 𝓜 (tables 𝓤 H 𝓜 𝓡 code.env))
-    (cited 𝓤 H (Core 𝓤 H (𝓖 .A) (𝓜 .mem) (𝓡 .run)) 𝓜 𝓡 code.env #core core-def.routine code.calls-receiving·read (core-thm.met 𝓤 H 𝓜 𝓖 𝓡)))
+    (cited 𝓤 H (Core 𝓤 H (𝓖 .A) (𝓜 .mem) (𝓡 .run)) 𝓜 𝓡 code.env #core core-def.routine code.calls-reading·receiving·read (core-thm.met 𝓤 H 𝓜 𝓖 𝓡)))

@@ -61,12 +61,12 @@ use Rattle.store.proofs.Entry as N
 use Rattle.store.proofs.Entry.Laws as N′
 use Rattle.store.proofs.Table as Tb
 use Rattle.store.proofs.Table.Laws as Tb′
-use Rattle.entry_codes.specs.Codes.{entryCode}
-use Rattle.entry_codes.proofs.Coding.{free-code}
-use Rattle.entry_codes.proofs.entry_code as coding
-use Rattle.entry_codes.proofs.entry_code.Symbol as coding-def
-use Rattle.entry_codes.proofs.entry_code.Symbol.{name as #entry-code}
-use Rattle.entry_codes.proofs.entry_code.Met as coding-thm
+use Rattle.store_soundness.specs.Codes.{entryCode}
+use Rattle.store_soundness.proofs.codes.Coding.{free-code}
+use Rattle.store_soundness.proofs.codes.entry_code as coding
+use Rattle.store_soundness.proofs.codes.entry_code.Symbol as coding-def
+use Rattle.store_soundness.proofs.codes.entry_code.Symbol.{name as #entry-code}
+use Rattle.store_soundness.proofs.codes.entry_code.Met as coding-thm
 use Rattle.store_scan.proofs.Items.{map-set, map-replicate, elem, unraw, big-lit, array-put, array-of, items-len, vals-len, item-val, item-is}
 use Rattle.store_scan.proofs.codes_of.Key.{name as #codes-of}
 use Rattle.store_scan.proofs.codes_of as fn
@@ -414,4 +414,4 @@ codes-of-spec 𝓤 H 𝓜 𝓖 𝓡 =
     entered 𝓤 H (tripleOf 𝓤 H (𝓖 .A) fn.signature (fn.spec 𝓤 H (𝓖 .A) (𝓜 .mem) (𝓡 .run)))
     (tables-of 𝓤 H 𝓜 𝓡 code.env .C) (tables-of 𝓤 H 𝓜 𝓡 code.env .Λ) #codes-of code.function (code.unfolded 𝓤 H 𝓜 𝓡)
     (codes-meets 𝓤 H (𝓖 .A) (givenOf 𝓤 H 𝓜 𝓖) (𝓜 .mem) (𝓡 .run) (tablesOf 𝓤 H 𝓜 (tables-of 𝓤 H 𝓜 𝓡 code.env))
-    (cited 𝓤 H (Coding 𝓤 H (𝓖 .A) (𝓜 .mem) (𝓡 .run)) 𝓜 𝓡 code.env #entry-code coding-def.routine code.calls-entry-codes·entry-code (coding-thm.met 𝓤 H 𝓜 𝓖 𝓡)))
+    (cited 𝓤 H (Coding 𝓤 H (𝓖 .A) (𝓜 .mem) (𝓡 .run)) 𝓜 𝓡 code.env #entry-code coding-def.routine code.calls-store-soundness·codes·entry-code (coding-thm.met 𝓤 H 𝓜 𝓖 𝓡)))

@@ -57,7 +57,7 @@ use Rattle.store.proofs.Entry as N
 use Rattle.store.proofs.Entry.Laws as N′
 use Rattle.store.proofs.Table as Tb
 use Rattle.store.proofs.Table.Laws as Tb′
-use Rattle.entry_codes.specs.Codes.{entryCode}
+use Rattle.store_soundness.specs.Codes.{entryCode}
 use Rattle.store_scan.specs.declared.Query.{Query}
 use Rattle.store_scan.specs.declared.Candidate.{Candidate}
 use Rattle.store_scan.specs.declared.Scanned.{Scanned}

@@ -1,0 +1,97 @@
+use Rattle.body.proofs.DefinitionLaws.{shape-laws}
+use borrow.Author.Needs.{needs}
+use Rattle.body.proofs.shape.read_shape.Statement.{statement}
+use Rattle.body.proofs.shape.read_shape.Tie as tie
+
+read-key-type-requires : tie.Need-read-key-type-requires
+read-key-type-requires c κs = search shape-laws
+
+enum-known-kind : tie.Need-enum-known-kind
+enum-known-kind c = search shape-laws
+
+cast-read-key-len : tie.Need-cast-read-key-len
+cast-read-key-len c = search shape-laws
+
+read-key-len-requires : tie.Need-read-key-len-requires
+read-key-len-requires c κs = search shape-laws
+
+enum-known-len : tie.Need-enum-known-len
+enum-known-len c = search shape-laws
+
+read-between-requires : tie.Need-read-between-requires
+read-between-requires c κs = search shape-laws
+
+enum-known-types : tie.Need-enum-known-types
+enum-known-types c = search shape-laws
+
+cast-t16 : tie.Need-cast-t16
+cast-t16 c = search shape-laws
+
+cast-t18 : tie.Need-cast-t18
+cast-t18 c = search shape-laws
+
+enum-told : tie.Need-enum-told
+enum-told c = search shape-laws
+
+enum-told-2 : tie.Need-enum-told-2
+enum-told-2 c = search shape-laws
+
+enum-told-3 : tie.Need-enum-told-3
+enum-told-3 c = search shape-laws
+
+enum-told-4 : tie.Need-enum-told-4
+enum-told-4 c = search shape-laws
+
+enum-told-5 : tie.Need-enum-told-5
+enum-told-5 c = search shape-laws
+
+enum-told-6 : tie.Need-enum-told-6
+enum-told-6 c = search shape-laws
+
+returns : tie.Need-returns
+returns c = search shape-laws
+
+returns-2 : tie.Need-returns-2
+returns-2 c = search shape-laws
+
+returns-3 : tie.Need-returns-3
+returns-3 c = search shape-laws
+
+returns-4 : tie.Need-returns-4
+returns-4 c = search shape-laws
+
+returns-5 : tie.Need-returns-5
+returns-5 c = search shape-laws
+
+returns-6 : tie.Need-returns-6
+returns-6 c = search shape-laws
+
+returns-7 : tie.Need-returns-7
+returns-7 c = search shape-laws
+
+pub read-shape-spec : {M : Type 1} → statement M
+read-shape-spec =
+    tie.close
+    (tie.spec
+    read-key-type-requires
+    enum-known-kind
+    cast-read-key-len
+    read-key-len-requires
+    enum-known-len
+    read-between-requires
+    enum-known-types
+    cast-t16
+    cast-t18
+    enum-told
+    enum-told-2
+    enum-told-3
+    enum-told-4
+    enum-told-5
+    enum-told-6
+    returns
+    returns-2
+    returns-3
+    returns-4
+    returns-5
+    returns-6
+    returns-7)

@@ -1,0 +1,41 @@
+use Rattle.body.proofs.FieldLaws.{key-laws}
+use borrow.Author.Needs.{needs}
+use Rattle.body.proofs.string_key.read_string.Statement.{statement}
+use Rattle.body.proofs.string_key.read_string.Tie as tie
+
+read-between-requires : tie.Need-read-between-requires
+read-between-requires c κs = search key-laws
+
+enum-known-len : tie.Need-enum-known-len
+enum-known-len c = search key-laws
+
+read-part-requires : tie.Need-read-part-requires
+read-part-requires c κs = search key-laws
+
+enum-told : tie.Need-enum-told
+enum-told c = search key-laws
+
+enum-told-2 : tie.Need-enum-told-2
+enum-told-2 c = search key-laws
+
+returns : tie.Need-returns
+returns c = search key-laws
+
+returns-2 : tie.Need-returns-2
+returns-2 c = search key-laws
+
+returns-3 : tie.Need-returns-3
+returns-3 c = search key-laws
+
+pub read-string-spec : {M : Type 1} → statement M
+read-string-spec =
+    tie.close
+    (tie.spec
+    read-between-requires
+    enum-known-len
+    read-part-requires
+    enum-told
+    enum-told-2
+    returns
+    returns-2
+    returns-3)

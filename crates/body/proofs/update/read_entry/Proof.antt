@@ -1,0 +1,77 @@
+use Rattle.body.proofs.UpdateLaws.{entry-laws}
+use borrow.Author.Needs.{needs}
+use Rattle.body.proofs.update.read_entry.Statement.{statement}
+use Rattle.body.proofs.update.read_entry.Tie as tie
+
+read-key-requires : tie.Need-read-key-requires
+read-key-requires c κs = search entry-laws
+
+enum-known-start : tie.Need-enum-known-start
+enum-known-start c = search entry-laws
+
+read-data-requires : tie.Need-read-data-requires
+read-data-requires c κs = search entry-laws
+
+enum-known-how : tie.Need-enum-known-how
+enum-known-how c = search entry-laws
+
+enum-told : tie.Need-enum-told
+enum-told c = search entry-laws
+
+no-update-requires : tie.Need-no-update-requires
+no-update-requires c κs = search entry-laws
+
+enum-told-2 : tie.Need-enum-told-2
+enum-told-2 c = search entry-laws
+
+no-update-requires-2 : tie.Need-no-update-requires-2
+no-update-requires-2 c κs = search entry-laws
+
+enum-told-3 : tie.Need-enum-told-3
+enum-told-3 c = search entry-laws
+
+no-update-requires-3 : tie.Need-no-update-requires-3
+no-update-requires-3 c κs = search entry-laws
+
+enum-told-4 : tie.Need-enum-told-4
+enum-told-4 c = search entry-laws
+
+no-update-requires-4 : tie.Need-no-update-requires-4
+no-update-requires-4 c κs = search entry-laws
+
+returns : tie.Need-returns
+returns c = search entry-laws
+
+returns-2 : tie.Need-returns-2
+returns-2 c = search entry-laws
+
+returns-3 : tie.Need-returns-3
+returns-3 c = search entry-laws
+
+returns-4 : tie.Need-returns-4
+returns-4 c = search entry-laws
+
+returns-5 : tie.Need-returns-5
+returns-5 c = search entry-laws
+
+pub read-entry-spec : {M : Type 1} → statement M
+read-entry-spec =
+    tie.close
+    (tie.spec
+    read-key-requires
+    enum-known-start
+    read-data-requires
+    enum-known-how
+    enum-told
+    no-update-requires
+    enum-told-2
+    no-update-requires-2
+    enum-told-3
+    no-update-requires-3
+    enum-told-4
+    no-update-requires-4
+    returns
+    returns-2
+    returns-3
+    returns-4
+    returns-5)

@@ -1,0 +1,13 @@
+use Rattle.body.proofs.UpdateLaws.{update-laws}
+use borrow.Author.Needs.{needs}
+use Rattle.body.proofs.update.read_incremental.Statement.{statement}
+use Rattle.body.proofs.update.read_incremental.Tie as tie
+
+read-entry-requires : tie.Need-read-entry-requires
+read-entry-requires c κs = search update-laws
+
+returns : tie.Need-returns
+returns c = search update-laws
+
+pub read-incremental-spec : {M : Type 1} → statement M
+read-incremental-spec = tie.close (tie.spec read-entry-requires returns)

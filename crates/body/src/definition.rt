@@ -1,0 +1,121 @@
+// The fields of a definition, read from its body.
+ghost use mathlib.Core.Path.{_≡_};
+ghost use Rattle.body.specs.Bodies.{named, namedFields, restFields, definitionFields};
+ghost use Rattle.body.specs.Results.{namedRead, definitionStruct, noDefinition, definitionBody};
+use crate::DefinitionBody;
+use crate::NamedRead;
+use crate::Part;
+use crate::Reading;
+use crate::ShapeRead;
+use crate::Word;
+use crate::read_between;
+use crate::read_part;
+use crate::read_word;
+use crate::shape::read_shape;
+use crate::times::read_times;
+use store::NAME_MAX;
+use store::RATES;
+use wire::Field;
+
+// The ID, the name's length and the name at `at`.
+fn read_named(body: &[u8], at: usize) -> NamedRead
+    ensures { λ r. ⌜ namedRead r ≡ namedFields (now (body .entry)) at ⌝ }
+{
+    match read_word(body, at) {
+        Word::Value { value: id, next } => match read_between(1, NAME_MAX as u64, body, next) {
+            Field::Value {
+                value: len,
+                next: at2,
+            } => match read_part(len as usize, body, at2) {
+                Part::Bytes {
+                    start,
+                    len: n,
+                    next: end,
+                } => NamedRead::Fields {
+                    id,
+                    name_at: start,
+                    name_len: n,
+                    next: end,
+                },
+                Part::Short => NamedRead::Short,
+                Part::OutOfRange => NamedRead::OutOfRange,
+            },
+            Field::Short => NamedRead::Short,
+            Field::OutOfRange => NamedRead::OutOfRange,
+        },
+        Word::Short => NamedRead::Short,
+        Word::OutOfRange => NamedRead::OutOfRange,
+    }
+}
+
+// What follows the name of a definition, from `at` on.
+fn read_rest(id: u32, name_at: usize, name_len: usize, body: &[u8], at: usize) -> DefinitionBody
+    ensures { λ r. ⌜ r ≡ definitionBody (restFields (named id «name_at» «name_len») (now (body .entry)) at) ⌝ }
+{
+    match read_shape(body, at) {
+        ShapeRead::Fields {
+            key_type,
+            key_len,
+            data_types,
+            next,
+        } => {
+            let read = read_times(data_types, body, next);
+            let how = read.reading;
+            let timed = read.timed;
+            let expiry = read.expiry;
+            let periods = read.periods;
+            match how {
+                Reading::Whole(end) => DefinitionBody {
+                    reading: Reading::Whole(end),
+                    id,
+                    name_at,
+                    name_len,
+                    key_type,
+                    key_len,
+                    data_types,
+                    timed,
+                    expiry,
+                    periods,
+                },
+                Reading::Short => no_definition(Reading::Short),
+                Reading::OutOfRange => no_definition(Reading::OutOfRange),
+            }
+        }
+        ShapeRead::Short => no_definition(Reading::Short),
+        ShapeRead::OutOfRange => no_definition(Reading::OutOfRange),
+    }
+}
+
+// The fields of a definition.
+pub fn read_definition(body: &[u8]) -> DefinitionBody
+    ensures { λ r. ⌜ r ≡ definitionBody (definitionFields (now (body .entry))) ⌝ }
+{
+    match read_named(body, 0) {
+        NamedRead::Fields {
+            id,
+            name_at,
+            name_len,
+            next,
+        } => read_rest(id, name_at, name_len, body, next),
+        NamedRead::Short => no_definition(Reading::Short),
+        NamedRead::OutOfRange => no_definition(Reading::OutOfRange),
+    }
+}
+
+// A definition that could not be read.
+fn no_definition(reading: Reading) -> DefinitionBody
+    ensures { λ r. ⌜ r ≡ definitionStruct reading noDefinition ⌝ }
+{
+    DefinitionBody {
+        reading,
+        id: 0,
+        name_at: 0,
+        name_len: 0,
+        key_type: 0,
+        key_len: 0,
+        data_types: 0,
+        timed: 0,
+        expiry: 0,
+        periods: [0u32; RATES],
+    }
+}

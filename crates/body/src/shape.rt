@@ -1,0 +1,85 @@
+// Key type, key length and data types of a definition, read from its body.
+ghost use mathlib.Core.Path.{_≡_};
+ghost use Rattle.store.specs.Limits.{keyLengthOk};
+ghost use Rattle.body.specs.Fields.{integer};
+ghost use Rattle.body.specs.Bodies.{isKeyType, shapeFields};
+ghost use Rattle.body.specs.Results.{fieldRead, shapeRead};
+use crate::ShapeRead;
+use crate::read_between;
+use wire::Field;
+use wire::Int;
+
+// Data types are bits 0 to 18.
+const DATA_TYPES_MAX: u64 = 0x7_ffff;
+
+// Whether a number is a key type.
+fn is_key_type(n: u64) -> bool
+    ensures { λ r. ⌜ r ≡ isKeyType n ⌝ }
+{
+    if 255 < n {
+        return false;
+    }
+    store::types::is_known(store::types::key_kind(n as u8))
+}
+
+// The key type at `at`.
+fn read_key_type(body: &[u8], at: usize) -> Field
+    ensures { λ r. ⌜ fieldRead r ≡ integer isKeyType (now (body .entry)) at ⌝ }
+{
+    match wire::read_int(body, at) {
+        Int::Value { value, next } => {
+            if is_key_type(value) {
+                return Field::Value { value, next };
+            }
+            Field::OutOfRange
+        }
+        Int::Short => Field::Short,
+        Int::Overflow => Field::OutOfRange,
+    }
+}
+
+// The key length at `at`, of keys of a type.
+fn read_key_len(key_type: u8, body: &[u8], at: usize) -> Field
+    ensures { λ r. ⌜ fieldRead r ≡ integer (keyLengthOk «key_type») (now (body .entry)) at ⌝ }
+{
+    match wire::read_int(body, at) {
+        Int::Value { value, next } => {
+            if store::types::key_length_ok(key_type, value as usize) {
+                return Field::Value { value, next };
+            }
+            Field::OutOfRange
+        }
+        Int::Short => Field::Short,
+        Int::Overflow => Field::OutOfRange,
+    }
+}
+
+// The key type, the key length and the data types at `at`.
+pub fn read_shape(body: &[u8], at: usize) -> ShapeRead
+    ensures { λ r. ⌜ shapeRead r ≡ shapeFields (now (body .entry)) at ⌝ }
+{
+    match read_key_type(body, at) {
+        Field::Value { value: kind, next } => match read_key_len(kind as u8, body, next) {
+            Field::Value {
+                value: len,
+                next: at2,
+            } => match read_between(0, DATA_TYPES_MAX, body, at2) {
+                Field::Value {
+                    value: types,
+                    next: end,
+                } => ShapeRead::Fields {
+                    key_type: kind as u8,
+                    key_len: len as usize,
+                    data_types: types as u32,
+                    next: end,
+                },
+                Field::Short => ShapeRead::Short,
+                Field::OutOfRange => ShapeRead::OutOfRange,
+            },
+            Field::Short => ShapeRead::Short,
+            Field::OutOfRange => ShapeRead::OutOfRange,
+        },
+        Field::Short => ShapeRead::Short,
+        Field::OutOfRange => ShapeRead::OutOfRange,
+    }
+}

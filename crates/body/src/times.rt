@@ -1,0 +1,107 @@
+// Expiry and periods of a definition, read from its body.
+ghost use mathlib.Core.Path.{_≡_};
+ghost use Rattle.body.specs.Bodies.{pairField, periodField, periodFields, noTimes, timesFields};
+ghost use Rattle.body.specs.Results.{wordRead, periodsRead, readAs, timesRead};
+use crate::PeriodsRead;
+use crate::Reading;
+use crate::TimesRead;
+use crate::Word;
+use crate::read_between;
+use crate::read_word;
+use store::RATES;
+use wire::Field;
+
+// The pair of rate type `t` at `at`: its number and its period.
+fn read_pair(t: usize, body: &[u8], at: usize) -> Word
+    ensures { λ r. ⌜ wordRead r ≡ pairField t (now (body .entry)) at ⌝ }
+{
+    let number = t as u64;
+    match read_between(number, number, body, at) {
+        Field::Value { value: _, next } => read_word(body, next),
+        Field::Short => Word::Short,
+        Field::OutOfRange => Word::OutOfRange,
+    }
+}
+
+// The period of rate type `t` at `at`, if that type is present.
+fn read_period(types: u32, t: usize, body: &[u8], at: usize) -> Word
+    ensures { λ r. ⌜ wordRead r ≡ periodField types t (now (body .entry)) at ⌝ }
+{
+    if store::types::present(types, t) {
+        return read_pair(t, body, at);
+    }
+    Word::Value { value: 0, next: at }
+}
+
+// The pairs at `at`, of the rate types present.
+fn read_periods(types: u32, body: &[u8], at: usize) -> PeriodsRead
+    ensures { λ r. ⌜ periodsRead r ≡ periodFields types (now (body .entry)) at ⌝ }
+{
+    let mut periods = [0u32; RATES];
+    let mut position = at;
+    let mut i: usize = 0;
+    while i < RATES {
+        match read_period(types, store::types::rate_type(i), body, position) {
+            Word::Value { value, next } => {
+                periods[i] = value;
+                position = next;
+                i += 1;
+            }
+            Word::Short => {
+                return PeriodsRead {
+                    reading: Reading::Short,
+                    periods,
+                };
+            }
+            Word::OutOfRange => {
+                return PeriodsRead {
+                    reading: Reading::OutOfRange,
+                    periods,
+                };
+            }
+        }
+    }
+    PeriodsRead {
+        reading: Reading::Whole(position),
+        periods,
+    }
+}
+
+// Expiry and periods at `at`, unless the body ends there.
+pub fn read_times(types: u32, body: &[u8], at: usize) -> TimesRead
+    ensures { λ r. ⌜ timesRead r ≡ timesFields types (now (body .entry)) at ⌝ }
+{
+    if at == body.len() {
+        return no_times(Reading::Whole(at));
+    }
+    match read_word(body, at) {
+        Word::Value {
+            value: expiry,
+            next,
+        } => {
+            let read = read_periods(types, body, next);
+            let reading = read.reading;
+            let periods = read.periods;
+            TimesRead {
+                reading,
+                timed: 1,
+                expiry,
+                periods,
+            }
+        }
+        Word::Short => no_times(Reading::Short),
+        Word::OutOfRange => no_times(Reading::OutOfRange),
+    }
+}
+
+// No expiry and no periods.
+fn no_times(reading: Reading) -> TimesRead
+    ensures { λ r. ⌜ timesRead r ≡ readAs reading noTimes ⌝ }
+{
+    TimesRead {
+        reading,
+        timed: 0,
+        expiry: 0,
+        periods: [0u32; RATES],
+    }
+}

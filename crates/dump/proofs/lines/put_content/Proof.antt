@@ -1,0 +1,24 @@
+use Rattle.dump.proofs.store_words.LineLaws.{entry-words}
+use borrow.Author.Needs.{needs}
+use Rattle.dump.proofs.lines.put_content.Statement.{statement}
+use Rattle.dump.proofs.lines.put_content.Tie as tie
+
+put-number-requires : tie.Need-put-number-requires
+put-number-requires c κs = search needs
+
+put-key-requires : tie.Need-put-key-requires
+put-key-requires c κs = search needs
+
+put-values-requires : tie.Need-put-values-requires
+put-values-requires c κs = search needs
+
+same-length : tie.Need-same-length
+same-length c = search needs
+
+returns : tie.Need-returns
+returns c = search entry-words
+
+pub put-content-spec : {M : Type 1} → statement M
+put-content-spec =
+    tie.close
+    (tie.spec put-number-requires put-key-requires put-values-requires same-length returns)

@@ -1,0 +1,45 @@
+use Rattle.dump.proofs.phase.LineLaws.{prefixes}
+use borrow.Author.Needs.{needs}
+use Rattle.dump.proofs.record_lines.put_unfinished.Statement.{statement}
+use Rattle.dump.proofs.record_lines.put_unfinished.Tie as tie
+
+array-share-prefix-buffer : tie.Need-array-share-prefix-buffer
+array-share-prefix-buffer c = search prefixes
+
+slice-aggregate-put-bytes : tie.Need-slice-aggregate-put-bytes
+slice-aggregate-put-bytes c = search prefixes
+
+put-bytes-requires : tie.Need-put-bytes-requires
+put-bytes-requires c κs = search needs
+
+same-length : tie.Need-same-length
+same-length c = search needs
+
+returns : tie.Need-returns
+returns c = search prefixes
+
+slice-aggregate-put-bytes-2 : tie.Need-slice-aggregate-put-bytes-2
+slice-aggregate-put-bytes-2 c = search needs
+
+put-bytes-requires-2 : tie.Need-put-bytes-requires-2
+put-bytes-requires-2 c κs = search needs
+
+same-length-2 : tie.Need-same-length-2
+same-length-2 c = search needs
+
+returns-2 : tie.Need-returns-2
+returns-2 c = search prefixes
+
+pub put-unfinished-spec : {M : Type 1} → statement M
+put-unfinished-spec =
+    tie.close
+    (tie.spec
+    array-share-prefix-buffer
+    slice-aggregate-put-bytes
+    put-bytes-requires
+    same-length
+    returns
+    slice-aggregate-put-bytes-2
+    put-bytes-requires-2
+    same-length-2
+    returns-2)

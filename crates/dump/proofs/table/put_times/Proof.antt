@@ -1,0 +1,45 @@
+use Rattle.dump.proofs.store_words.LineLaws.{no-times, times}
+use borrow.Author.Needs.{needs}
+use Rattle.dump.proofs.table.put_times.Statement.{statement}
+use Rattle.dump.proofs.table.put_times.Tie as tie
+
+slice-aggregate-put-word : tie.Need-slice-aggregate-put-word
+slice-aggregate-put-word c = search needs
+
+put-word-requires : tie.Need-put-word-requires
+put-word-requires c κs = search needs
+
+same-length : tie.Need-same-length
+same-length c = search needs
+
+returns : tie.Need-returns
+returns c = no-times _ (c .before .before .before .before .before .if1 .taken) (c .before .before .put-word .ensures)
+
+cast-put-number : tie.Need-cast-put-number
+cast-put-number c = search needs
+
+put-number-requires : tie.Need-put-number-requires
+put-number-requires c κs = search needs
+
+put-periods-requires : tie.Need-put-periods-requires
+put-periods-requires c κs = search needs
+
+same-length-2 : tie.Need-same-length-2
+same-length-2 c = search needs
+
+returns-2 : tie.Need-returns-2
+returns-2 c = times _ (c .before .before .before .before .before .before .before .before .before .if1 .left) (c .before .before .before .before .before .before .put-number .ensures) (c .before .before .put-periods .ensures)
+
+pub put-times-spec : {M : Type 1} → statement M
+put-times-spec =
+    tie.close
+    (tie.spec
+    slice-aggregate-put-word
+    put-word-requires
+    same-length
+    returns
+    cast-put-number
+    put-number-requires
+    put-periods-requires
+    same-length-2
+    returns-2)

@@ -1,0 +1,46 @@
+// The bound and previous IDs of a session record in a lent room. Each function puts its text into the room from `at` on, as far as the room
+// reaches, and returns the position behind it.
+use session::Binding;
+use store::TABLES;
+use text::put;
+use text::spaced::put_number;
+ghost use mathlib.Core.Bool.{cond};
+ghost use mathlib.Core.List.{[], _∷_};
+ghost use lib.Dec.{eqb};
+ghost use Rattle.handshake.specs.Bytes.{decimal};
+ghost use Rattle.text.specs.Text.{line};
+ghost use Rattle.text.specs.Room.{Wrote};
+ghost use Rattle.dump.specs.Lines.{bindingLines, bindingsLines};
+
+// A line of a word, a place and an ID, where the mark says that there is one.
+fn mark_line(room: &mut [u8], at: usize, mark: u8, word: &[u8], place: usize, id: u32) -> usize
+    ensures { λ r. ⌜ Wrote (now (room .entry)) at (cond (eqb mark 1) (line (now (word .entry)) (decimal place ∷ decimal id ∷ [])) []) (now (room .exit)) r ⌝ }
+{
+    if mark != 1 {
+        return at;
+    }
+    let a = put(room, at, word);
+    let b = put_number(room, a, place as u64);
+    let c = put_number(room, b, id as u64);
+    put(room, c, b"\n")
+}
+
+fn binding_lines(room: &mut [u8], at: usize, place: usize, b: Binding) -> usize
+    ensures { λ r. ⌜ Wrote (now (room .entry)) at (bindingLines place b) (now (room .exit)) r ⌝ }
+{
+    let next = mark_line(room, at, b.bound, b"bound", place, b.id);
+    mark_line(room, next, b.updated, b"previous", place, b.previous)
+}
+
+pub fn bindings_lines(room: &mut [u8], at: usize, bindings: [Binding; TABLES]) -> usize
+    ensures { λ r. ⌜ Wrote (now (room .entry)) at (bindingsLines 0 bindings) (now (room .exit)) r ⌝ }
+{
+    let mut next = at;
+    let mut place = 0;
+    while place < TABLES {
+        let b = bindings[place];
+        next = binding_lines(room, next, place, b);
+        place += 1;
+    }
+    next
+}

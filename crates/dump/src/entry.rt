@@ -1,0 +1,42 @@
+// An entry's values in a lent room. Each function puts its text into the room from `at` on, as far as the room
+// reaches, and returns the position behind it.
+use crate::store_words::put_present;
+use store::Entry;
+use store::VALUES;
+use text::spaced::put_signed;
+ghost use mathlib.Core.List.{[], _∷_, map};
+ghost use Rattle.handshake.specs.Bytes.{decimal};
+ghost use Rattle.store.specs.Limits.{slotTypes};
+ghost use Rattle.text.specs.Text.{signed, spaced};
+ghost use Rattle.text.specs.Room.{Wrote};
+ghost use Rattle.dump.specs.StoreWordsLines.{presentAmong, valuesOf};
+
+// The server ID with a space before it, if data type 0 is present.
+fn put_server(room: &mut [u8], at: usize, types: u32, id: i32) -> usize
+    ensures { λ r. ⌜ Wrote (now (room .entry)) at (spaced (map signed (presentAmong types (0 ∷ []) (id ∷ [])))) (now (room .exit)) r ⌝ }
+{
+    if store::types::present(types, 0) {
+        return put_signed(room, at, id);
+    }
+    at
+}
+
+fn put_slots(room: &mut [u8], at: usize, types: u32, values: [u64; VALUES]) -> usize
+    ensures { λ r. ⌜ Wrote (now (room .entry)) at (spaced (map decimal (presentAmong types slotTypes values))) (now (room .exit)) r ⌝ }
+{
+    let mut next = at;
+    let mut i = 0;
+    while i < VALUES {
+        next = put_present(room, next, types, store::types::slot_type(i), values[i]);
+        i += 1;
+    }
+    next
+}
+
+pub fn put_values(room: &mut [u8], at: usize, types: u32, e: Entry) -> usize
+    ensures { λ r. ⌜ Wrote (now (room .entry)) at (spaced (map signed (valuesOf types e))) (now (room .exit)) r ⌝ }
+{
+    let next = put_server(room, at, types, e.server_id);
+    let values = e.values;
+    put_slots(room, next, types, values)
+}

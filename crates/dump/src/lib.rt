@@ -1,0 +1,8 @@
+// Record and store as lines, for `replay`.
+pub mod bound;
+pub mod entry;
+pub mod lines;
+pub mod phase;
+pub mod record_lines;
+pub mod store_words;
+pub mod table;

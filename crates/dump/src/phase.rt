@@ -1,0 +1,22 @@
+// The first line of a session record in a lent room. Each function puts its text into the room from `at` on, as far as the room
+// reaches, and returns the position behind it.
+use session::Connection;
+use session::ESTABLISHED;
+use text::put;
+use text::spaced::put_number;
+ghost use Rattle.text.specs.Room.{Wrote};
+ghost use Rattle.dump.specs.Lines.{phaseLine};
+
+pub fn phase_line(room: &mut [u8], at: usize, c: Connection) -> usize
+    ensures { λ r. ⌜ Wrote (now (room .entry)) at (phaseLine c) (now (room .exit)) r ⌝ }
+{
+    if c.closed == 1 {
+        let a = put(room, at, b"session closed");
+        let b = put_number(room, a, c.number as u64);
+        return put(room, b, b"\n");
+    }
+    if c.phase == ESTABLISHED {
+        return put(room, at, b"session open\n");
+    }
+    put(room, at, b"session handshake\n")
+}

@@ -1,0 +1,58 @@
+// A session record as lines. Each function puts its text into a lent room from `at` on, as far as the room reaches, and returns the
+// position behind it.
+use crate::bound::bindings_lines;
+use crate::phase::phase_line;
+use session::Connection;
+use session::Session;
+use session::UNFINISHED_MAX;
+use text::put;
+use text::spaced::put_bytes;
+use text::spaced::put_number;
+ghost use mathlib.Core.List.{[], _∷_};
+ghost use Rattle.session.specs.Session.{unfinished};
+ghost use Rattle.text.specs.Text.{hexOrNone, spaced};
+ghost use Rattle.text.specs.Room.{Wrote};
+ghost use Rattle.dump.specs.Lines.{unfinishedLine, currentLine, recordLines};
+
+fn put_unfinished(room: &mut [u8], at: usize, session: Session) -> usize
+    ensures { λ r. ⌜ Wrote (now (room .entry)) at (spaced (hexOrNone (unfinished session) ∷ [])) (now (room .exit)) r ⌝ }
+{
+    let n = session.len;
+    let buffer = session.buffer;
+    if n < UNFINISHED_MAX {
+        return put_bytes(room, at, &buffer[..n]);
+    }
+    put_bytes(room, at, &buffer)
+}
+
+fn unfinished_line(room: &mut [u8], at: usize, session: Session) -> usize
+    ensures { λ r. ⌜ Wrote (now (room .entry)) at (unfinishedLine session) (now (room .exit)) r ⌝ }
+{
+    let a = put(room, at, b"unfinished");
+    let b = put_unfinished(room, a, session);
+    put(room, b, b"\n")
+}
+
+fn current_line(room: &mut [u8], at: usize, c: Connection) -> usize
+    ensures { λ r. ⌜ Wrote (now (room .entry)) at (currentLine c) (now (room .exit)) r ⌝ }
+{
+    let mark = c.current;
+    if mark == 0 {
+        return put(room, at, b"current -\n");
+    }
+    let a = put(room, at, b"current");
+    let b = put_number(room, a, (mark - 1) as u64);
+    put(room, b, b"\n")
+}
+
+// The lines of a session record.
+pub fn put_record(room: &mut [u8], at: usize, session: Session) -> usize
+    ensures { λ r. ⌜ Wrote (now (room .entry)) at (recordLines session) (now (room .exit)) r ⌝ }
+{
+    let connection = session.connection;
+    let a = phase_line(room, at, connection);
+    let b = unfinished_line(room, a, session);
+    let c = current_line(room, b, connection);
+    let bindings = connection.bindings;
+    bindings_lines(room, c, bindings)
+}

@@ -1,0 +1,41 @@
+use Rattle.text.proofs.Words.{putting-line}
+use borrow.Author.Needs.{needs}
+use Rattle.listing.proofs.update.update_line.Statement.{statement}
+use Rattle.listing.proofs.update.update_line.Tie as tie
+
+slice-aggregate-put : tie.Need-slice-aggregate-put
+slice-aggregate-put c = search needs
+
+put-requires : tie.Need-put-requires
+put-requires c κs = search needs
+
+put-numbers-requires : tie.Need-put-numbers-requires
+put-numbers-requires c κs = search needs
+
+put-commit-at-requires : tie.Need-put-commit-at-requires
+put-commit-at-requires c κs = search needs
+
+slice-aggregate-put-2 : tie.Need-slice-aggregate-put-2
+slice-aggregate-put-2 c = search needs
+
+put-requires-2 : tie.Need-put-requires-2
+put-requires-2 c κs = search needs
+
+same-length : tie.Need-same-length
+same-length c = search needs
+
+returns : tie.Need-returns
+returns c = search putting-line
+
+pub update-line-spec : {M : Type 1} → statement M
+update-line-spec =
+    tie.close
+    (tie.spec
+    slice-aggregate-put
+    put-requires
+    put-numbers-requires
+    put-commit-at-requires
+    slice-aggregate-put-2
+    put-requires-2
+    same-length
+    returns)

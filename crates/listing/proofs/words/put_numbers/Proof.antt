@@ -1,0 +1,20 @@
+use Rattle.text.proofs.Words.{putting-line}
+use borrow.Author.Needs.{needs}
+use Rattle.listing.proofs.words.put_numbers.Statement.{statement}
+use Rattle.listing.proofs.words.put_numbers.Tie as tie
+
+put-number-requires : tie.Need-put-number-requires
+put-number-requires c κs = search needs
+
+put-number-requires-2 : tie.Need-put-number-requires-2
+put-number-requires-2 c κs = search needs
+
+same-length : tie.Need-same-length
+same-length c = search needs
+
+returns : tie.Need-returns
+returns c = search putting-line
+
+pub put-numbers-spec : {M : Type 1} → statement M
+put-numbers-spec =
+    tie.close (tie.spec put-number-requires put-number-requires-2 same-length returns)

@@ -1,0 +1,88 @@
+// Lines of a word and numbers, of a hello and of a table in a lent room. Each function puts its text into the room from `at` on, as far as the room
+// reaches, and returns the position behind it.
+use dump::store_words::put_name;
+use session::Connection;
+use store::NAME_MAX;
+use store::TABLES;
+use store::Table;
+use text::put;
+use text::spaced::put_number;
+use text::spaced::put_word;
+ghost use mathlib.Core.Path.{_≡_};
+ghost use mathlib.Core.List.{[], _∷_};
+ghost use lib.ListN.{getD};
+ghost use Rattle.handshake.specs.Bytes.{decimal};
+ghost use Rattle.store.specs.Store.{nameOf, noTable};
+ghost use Rattle.session.specs.Session.{remoteName};
+ghost use Rattle.text.specs.Text.{ascii, hex, spaced, line};
+ghost use Rattle.text.specs.Room.{Wrote};
+
+pub fn word_line(room: &mut [u8], at: usize, word: &[u8]) -> usize
+    ensures { λ r. ⌜ Wrote (now (room .entry)) at (line (now (word .entry)) []) (now (room .exit)) r ⌝ }
+{
+    let next = put(room, at, word);
+    put(room, next, b"\n")
+}
+
+pub fn number_line(room: &mut [u8], at: usize, word: &[u8], n: u64) -> usize
+    ensures { λ r. ⌜ Wrote (now (room .entry)) at (line (now (word .entry)) (decimal n ∷ [])) (now (room .exit)) r ⌝ }
+{
+    let a = put(room, at, word);
+    let b = put_number(room, a, n);
+    put(room, b, b"\n")
+}
+
+// Two numbers, each with a space before it.
+pub fn put_numbers(room: &mut [u8], at: usize, n: u64, m: u64) -> usize
+    ensures { λ r. ⌜ Wrote (now (room .entry)) at (spaced (decimal n ∷ decimal m ∷ [])) (now (room .exit)) r ⌝ }
+{
+    let next = put_number(room, at, n);
+    put_number(room, next, m)
+}
+
+pub fn numbers_line(room: &mut [u8], at: usize, word: &[u8], n: u64, m: u64) -> usize
+    ensures { λ r. ⌜ Wrote (now (room .entry)) at (line (now (word .entry)) (decimal n ∷ decimal m ∷ [])) (now (room .exit)) r ⌝ }
+{
+    let a = put(room, at, word);
+    let b = put_numbers(room, a, n, m);
+    put(room, b, b"\n")
+}
+
+// The accepted peer's name.
+fn put_peer(room: &mut [u8], at: usize, c: Connection) -> usize
+    ensures { λ r. ⌜ Wrote (now (room .entry)) at (spaced (remoteName c ∷ [])) (now (room .exit)) r ⌝ }
+{
+    let n = c.remote_len;
+    let name = c.remote;
+    if n < NAME_MAX {
+        return put_word(room, at, &name[..n]);
+    }
+    put_word(room, at, &name)
+}
+
+pub fn hello_line(room: &mut [u8], at: usize, c: Connection, process: u32, relative: u32) -> usize
+    ensures { λ r. ⌜ Wrote (now (room .entry)) at (line (ascii "hello") (remoteName c ∷ decimal process ∷ decimal relative ∷ [])) (now (room .exit)) r ⌝ }
+{
+    let a = put(room, at, b"hello");
+    let b = put_peer(room, a, c);
+    let d = put_numbers(room, b, process as u64, relative as u64);
+    put(room, d, b"\n")
+}
+
+pub fn table_at(tables: [Table; TABLES], place: usize) -> Table
+    ensures { λ r. ⌜ r ≡ getD tables place noTable ⌝ }
+{
+    if TABLES <= place {
+        return store::no_table();
+    }
+    tables[place]
+}
+
+pub fn table_line(room: &mut [u8], at: usize, place: usize, t: Table) -> usize
+    ensures { λ r. ⌜ Wrote (now (room .entry)) at (line (ascii "table") (decimal place ∷ hex (nameOf t) ∷ [])) (now (room .exit)) r ⌝ }
+{
+    let a = put(room, at, b"table");
+    let b = put_number(room, a, place as u64);
+    let c = put_name(room, b, t);
+    put(room, c, b"\n")
+}

@@ -1,0 +1,64 @@
+use Rattle.message.proofs.Committing.{reading-fields}
+use Rattle.message.proofs.update.with_fields.Statement.{statement}
+use Rattle.message.proofs.update.with_fields.Tie as tie
+
+enum-told : tie.Need-enum-told
+enum-told c = search reading-fields
+
+add-end : tie.Need-add-end
+add-end c = search reading-fields
+
+sub-key : tie.Need-sub-key
+sub-key c = search reading-fields
+
+part-key-start : tie.Need-part-key-start
+part-key-start c = search reading-fields
+
+part-key-end : tie.Need-part-key-end
+part-key-end c = search reading-fields
+
+make-entry-requires : tie.Need-make-entry-requires
+make-entry-requires c κs = search reading-fields
+
+ask-commit-requires : tie.Need-ask-commit-requires
+ask-commit-requires c κs = search reading-fields
+
+enum-told-2 : tie.Need-enum-told-2
+enum-told-2 c = search reading-fields
+
+ask-refusal-requires : tie.Need-ask-refusal-requires
+ask-refusal-requires c κs = search reading-fields
+
+enum-told-3 : tie.Need-enum-told-3
+enum-told-3 c = search reading-fields
+
+ask-refusal-requires-2 : tie.Need-ask-refusal-requires-2
+ask-refusal-requires-2 c κs = search reading-fields
+
+returns : tie.Need-returns
+returns c = search reading-fields
+
+returns-2 : tie.Need-returns-2
+returns-2 c = search reading-fields
+
+returns-3 : tie.Need-returns-3
+returns-3 c = search reading-fields
+
+pub with-fields-spec : {M : Type 1} → statement M
+with-fields-spec =
+    tie.close
+    (tie.spec
+    enum-told
+    add-end
+    sub-key
+    part-key-start
+    part-key-end
+    make-entry-requires
+    ask-commit-requires
+    enum-told-2
+    ask-refusal-requires
+    enum-told-3
+    ask-refusal-requires-2
+    returns
+    returns-2
+    returns-3)

@@ -1,0 +1,130 @@
+// What a message changes, and refusals: the store with a change made, what is asked before the entries are looked at.
+ghost use mathlib.Core.Path.{_≡_};
+ghost use Rattle.message.specs.OnStores.{refuseOn};
+ghost use Rattle.message.specs.Settled.{noChange, tableChange, entryChange, changed, SettlesAll, AsksAll, asksNothing, asksCommit};
+use crate::Asked;
+use crate::Change;
+use crate::PUTS_ENTRY;
+use crate::PUTS_NOTHING;
+use crate::PUTS_TABLE;
+use crate::Settled;
+use session::Answer;
+use session::Connection;
+use session::reply_bytes::no_reply;
+use store::Entry;
+use store::Store;
+use store::Table;
+use store::no_entry;
+use store::no_table;
+
+// The store stays as it is.
+pub fn no_change() -> Change
+    ensures { λ r. ⌜ r ≡ noChange ⌝ }
+{
+    let table = no_table();
+    let entry = no_entry();
+    Change {
+        kind: PUTS_NOTHING,
+        place: 0,
+        table,
+        entry,
+    }
+}
+
+// The table goes to the place.
+pub fn table_change(place: usize, table: Table) -> Change
+    ensures { λ r. ⌜ r ≡ tableChange place table ⌝ }
+{
+    let entry = no_entry();
+    Change {
+        kind: PUTS_TABLE,
+        place,
+        table,
+        entry,
+    }
+}
+
+// The entry goes to the place.
+pub fn entry_change(place: usize, entry: Entry) -> Change
+    ensures { λ r. ⌜ r ≡ entryChange place entry ⌝ }
+{
+    let table = no_table();
+    Change {
+        kind: PUTS_ENTRY,
+        place,
+        table,
+        entry,
+    }
+}
+
+// The store with the change made.
+pub fn put_change(store: Store, change: Change) -> Store
+    ensures { λ r. ⌜ r ≡ changed store change ⌝ }
+{
+    let place = change.place;
+    if change.kind == PUTS_TABLE {
+        let table = change.table;
+        return store::put_table(store, place, table);
+    }
+    if change.kind == PUTS_ENTRY {
+        let entry = change.entry;
+        return store::put_entry(store, place, entry);
+    }
+    store
+}
+
+// No entry is committed.
+pub fn ask_nothing(settled: Settled) -> Asked
+    ensures { λ r. ⌜ r ≡ asksNothing settled ⌝ }
+{
+    let entry = no_entry();
+    Asked {
+        settled,
+        commits: false,
+        id: 0,
+        entry,
+    }
+}
+
+// The entry is committed, with the update ID.
+pub fn ask_commit(connection: Connection, id: u32, entry: Entry) -> Asked
+    ensures { λ r. ⌜ r ≡ asksCommit connection id entry ⌝ }
+{
+    let reply = no_reply();
+    let change = no_change();
+    let settled = Settled {
+        answer: Answer::More,
+        reply,
+        connection,
+        change,
+    };
+    Asked {
+        settled,
+        commits: true,
+        id,
+        entry,
+    }
+}
+
+// A message that is refused with a number: it closes the session, and changes nothing else.
+pub fn refuse(connection: Connection, number: u8) -> Settled
+    ensures { λ r. ⌜ SettlesAll (refuseOn connection number) r ⌝ }
+{
+    let closed = session::close_connection(connection, number);
+    let reply = session::reply_bytes::refusal_reply(number);
+    let change = no_change();
+    Settled {
+        answer: Answer::Refused(number),
+        reply,
+        connection: closed,
+        change,
+    }
+}
+
+// The same, asked before the entries are looked at.
+pub fn ask_refusal(connection: Connection, number: u8) -> Asked
+    ensures { λ r. ⌜ AsksAll connection (refuseOn connection number) r ⌝ }
+{
+    let refused = refuse(connection, number);
+    ask_nothing(refused)
+}

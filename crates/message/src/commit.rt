@@ -1,0 +1,141 @@
+// Committing an entry, and the acknowledgement of its update.
+use crate::Asked;
+use crate::Settled;
+use crate::binding_at;
+use crate::changes::refuse;
+use session::Answer;
+use session::Commit;
+use session::Connection;
+use session::Reply;
+use store::ENTRIES;
+use store::Entry;
+use store::KEY_MAX;
+use store::entries::Place;
+use store::entries::find_entry;
+ghost use mathlib.Core.Path.{_≡_};
+ghost use Rattle.session.specs.Answers.{replyOf};
+ghost use Rattle.message.specs.Effects.{acknowledge};
+ghost use Rattle.message.specs.OnStores.{commitAtOn};
+ghost use Rattle.message.specs.Settled.{SettlesAll, Finishes};
+ghost use Rattle.message.specs.Targets.{lookedUp, goesTo, targetOf, FinishesAt};
+
+// The acknowledgement of an update: class 10, type 133, the length of its body, the table's bound ID and the update's ID.
+pub fn acknowledge(id: u32, update: u32) -> Reply
+    ensures { λ r. ⌜ r ≡ replyOf (acknowledge id update) ⌝ }
+{
+    let e = wire::write_int(id as u64);
+    let len = e.len;
+    let encoded = e.bytes;
+    let mut bytes = [0x0a, 0x85, (4 + len) as u8, 0, 0, 0, 0, 0, 0, 0, 0, 0];
+    wire::buffer::put_bytes(&mut bytes, 3, &encoded[..len]);
+    wire::buffer::put_number(&mut bytes, 3 + len, update);
+    Reply {
+        bytes,
+        len: 7 + len,
+    }
+}
+
+// The entry goes to a place, the update's ID is its table's last committed one, and the acknowledgement has the table's bound ID and this ID.
+pub fn commit_at(
+    connection: Connection,
+    id: u32,
+    entry: Entry,
+    place: usize,
+    how: Commit,
+) -> Settled
+    ensures { λ r. ⌜ SettlesAll (commitAtOn connection id entry place how) r ⌝ }
+{
+    let table = entry.table;
+    let committed = session::bound_ids::commit_update(connection, table, id);
+    let bindings = connection.bindings;
+    let b = binding_at(bindings, table);
+    let reply = acknowledge(b.id, id);
+    let change = crate::changes::entry_change(place, entry);
+    Settled {
+        answer: Answer::Update {
+            table,
+            id,
+            entry: place,
+            commit: how,
+        },
+        reply,
+        connection: committed,
+        change,
+    }
+}
+
+// The bytes that a key is looked up by: a key longer than the longest is no entry's, as any key of one byte more.
+fn looked_up(key_len: usize) -> usize
+    ensures { λ r. ⌜ r ≡ lookedUp «key_len» ⌝ }
+{
+    if KEY_MAX < key_len {
+        return KEY_MAX + 1;
+    }
+    key_len
+}
+
+// Where an entry goes, by its table and its key.
+pub fn place_of(entries: [Entry; ENTRIES], entry: Entry) -> Place
+    ensures { λ r. ⌜ r ≡ goesTo entries entry ⌝ }
+{
+    let held = entry.key;
+    let mut key = [0u8; KEY_MAX + 1];
+    lists::pad(&mut key, &held);
+    let n = looked_up(entry.key_len);
+    find_entry(entries, entry.table, &key[..n])
+}
+
+// The place that an entry is put at, and how; `full` says that there is none.
+struct Target {
+    full: bool,
+    place: usize,
+    how: Commit,
+}
+
+fn target_of(found: Place) -> Target
+    ensures { λ r. ⌜ r ≡ targetOf found ⌝ }
+{
+    match found {
+        Place::Held(place) => Target {
+            full: false,
+            place,
+            how: Commit::Replaced,
+        },
+        Place::Free(place) => Target {
+            full: false,
+            place,
+            how: Commit::New,
+        },
+        Place::Full => Target {
+            full: true,
+            place: 0,
+            how: Commit::New,
+        },
+    }
+}
+
+// What was asked is done, where a committed entry goes to the place.
+pub fn finish_at(connection: Connection, place: Place, asked: Asked) -> Settled
+    ensures { λ r. ⌜ FinishesAt connection place asked r ⌝ }
+{
+    if !asked.commits {
+        let settled = asked.settled;
+        return settled;
+    }
+    let target = target_of(place);
+    if target.full {
+        return refuse(connection, 29);
+    }
+    let entry = asked.entry;
+    let how = target.how;
+    commit_at(connection, asked.id, entry, target.place, how)
+}
+
+// What was asked is done: where an entry is committed, it goes to the place of its key, else to the lowest free place.
+pub fn finish(connection: Connection, entries: [Entry; ENTRIES], asked: Asked) -> Settled
+    ensures { λ r. ⌜ Finishes connection entries asked r ⌝ }
+{
+    let entry = asked.entry;
+    let place = place_of(entries, entry);
+    finish_at(connection, place, asked)
+}

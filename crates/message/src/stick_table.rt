@@ -1,0 +1,88 @@
+// What each stick table message does to session and store, by its type.
+use crate::Asked;
+use crate::Settled;
+use crate::changes::ask_nothing;
+use crate::changes::no_change;
+use crate::changes::refuse;
+use crate::control::skipped;
+use crate::definition::definition;
+use crate::update::incremental;
+use crate::update::update;
+use body::AcknowledgementBody;
+use lists::Found;
+use session::Answer;
+use session::Connection;
+use session::reply_bytes::no_reply;
+use store::TABLES;
+use store::Table;
+use wire::Field;
+ghost use Rattle.message.specs.OnStores.{switchToOn, switchOn, acknowledgementOn, stickTableOn};
+ghost use Rattle.message.specs.Settled.{SettlesAll, AsksWith};
+
+fn switch_to(connection: Connection, id: u32) -> Settled
+    ensures { λ r. ⌜ SettlesAll (switchToOn connection id) r ⌝ }
+{
+    match session::bound_ids::find_bound(connection, id) {
+        Found::At(place) => {
+            let switched = session::make_current(connection, place);
+            let reply = no_reply();
+            let change = no_change();
+            Settled {
+                answer: Answer::Switch(place),
+                reply,
+                connection: switched,
+                change,
+            }
+        }
+        Found::Nothing => refuse(connection, 27),
+    }
+}
+
+// A switch: the table bound to its ID becomes current.
+pub fn switch(connection: Connection, body: &[u8]) -> Settled
+    ensures { λ r. ⌜ SettlesAll (switchOn connection (now (body .entry))) r ⌝ }
+{
+    match body::read_switch(body) {
+        Field::Value { value, next: _ } => switch_to(connection, value as u32),
+        Field::Short => refuse(connection, 23),
+        Field::OutOfRange => refuse(connection, 24),
+    }
+}
+
+// An acknowledgement changes nothing.
+pub fn acknowledgement(connection: Connection, body: &[u8]) -> Settled
+    ensures { λ r. ⌜ SettlesAll (acknowledgementOn connection (now (body .entry))) r ⌝ }
+{
+    match body::read_acknowledgement(body) {
+        AcknowledgementBody::Fields {
+            id,
+            update,
+            next: _,
+        } => {
+            let reply = no_reply();
+            let change = no_change();
+            Settled {
+                answer: Answer::Acknowledgement { id, update },
+                reply,
+                connection,
+                change,
+            }
+        }
+        AcknowledgementBody::Short => refuse(connection, 23),
+        AcknowledgementBody::OutOfRange => refuse(connection, 24),
+    }
+}
+
+// A stick table message of this type, from 128 up, with its body.
+pub fn stick_table(connection: Connection, tables: [Table; TABLES], kind: u8, body: &[u8]) -> Asked
+    ensures { λ r. ⌜ AsksWith connection tables (stickTableOn connection kind (now (body .entry))) r ⌝ }
+{
+    match kind {
+        128 => update(connection, tables, body),
+        129 => incremental(connection, tables, body),
+        130 => ask_nothing(definition(connection, tables, body)),
+        131 => ask_nothing(switch(connection, body)),
+        133 => ask_nothing(acknowledgement(connection, body)),
+        _ => ask_nothing(skipped(connection, kind)),
+    }
+}

@@ -1,0 +1,63 @@
+// A session record with names, nothing bound and nothing unfinished.
+use handshake::PEER_NAME_MAX;
+use handshake::name_ok;
+use lists::pad;
+use session::Binding;
+use session::Connection;
+use session::Session;
+use session::UNFINISHED_MAX;
+use store::TABLES;
+ghost use mathlib.Core.Path.{_≡_};
+ghost use mathlib.Core.Bool.{_&&_};
+ghost use mathlib.Core.List.{[]};
+ghost use Rattle.lists.specs.Lists.{padTo};
+ghost use Rattle.handshake.specs.Handshake.{nameOk, peerNameMax};
+ghost use Rattle.session.specs.Session.{holding};
+ghost use Rattle.opening.specs.New.{newConnection};
+
+fn name_array(name: &[u8]) -> [u8; PEER_NAME_MAX]
+    ensures { λ r. ⌜ r ≡ padTo peerNameMax (now (name .entry)) ⌝ }
+{
+    let mut bytes = [0u8; PEER_NAME_MAX];
+    pad(&mut bytes, name);
+    bytes
+}
+
+// A session with these names, nothing bound and nothing unfinished.
+pub fn new_session(phase: u8, closed: u8, number: u8, local: &[u8], remote: &[u8]) -> Session
+    ensures { λ r. ⌜ r ≡ holding (newConnection phase closed number (now (local .entry)) (now (remote .entry))) [] ⌝ }
+{
+    let ours = name_array(local);
+    let theirs = name_array(remote);
+    let free = Binding {
+        bound: 0,
+        updated: 0,
+        id: 0,
+        previous: 0,
+    };
+    let connection = Connection {
+        phase,
+        closed,
+        number,
+        current: 0,
+        local_len: local.len(),
+        remote_len: remote.len(),
+        local: ours,
+        remote: theirs,
+        bindings: [free; TABLES],
+    };
+    Session {
+        connection,
+        len: 0,
+        buffer: [0u8; UNFINISHED_MAX],
+    }
+}
+
+pub fn names_given(local: &[u8], remote: &[u8]) -> bool
+    ensures { λ r. ⌜ r ≡ (nameOk (now (local .entry)) && nameOk (now (remote .entry))) ⌝ }
+{
+    if !name_ok(local) {
+        return false;
+    }
+    name_ok(remote)
+}

@@ -1,0 +1,35 @@
+-- An answer with its reply: what is put into the room, and what is returned.
+use Prim.Native.Nat.{ℕ, _≤_}
+use native.Mathlib.Omega.{arith}
+use mathlib.Core.Path.{_≡_, sym}
+use mathlib.Core.List.{List, []}
+use lib.ListN.{length, take}
+use lib.Seq.{length-take-le}
+use borrow.Author.Needs.{needs}
+use Rattle.session.specs.declared.Session.{Session}
+use Rattle.session.specs.Session.{holding}
+use Rattle.message.specs.declared.Settled.{Settled}
+use Rattle.reading.specs.declared.steps.StepChange.{StepChange}
+use Rattle.reading.specs.Steps.{gives}
+use Rattle.reading.proofs.steps.Making.{replied-long, replied-short}
+
+-- ---- the reply
+
+pub prefix-length : (xs : List ℕ) (n m : ℕ) → length xs ≡ m → n ≤ m → n ≡ length (take n xs)
+prefix-length xs n m e h = sym (length-take-le n xs (omega arith))
+
+pub prefix-within : (xs : List ℕ) (n m : ℕ) → length xs ≡ m → n ≤ m → n ≤ length xs
+prefix-within xs n m e h = omega arith
+
+pub ruleset replying = (needs, prefix-length, prefix-within, replied-long, replied-short)
+
+-- ---- the answer
+
+pub gave : (x : Settled) (s : Session) (count : ℕ) → s ≡ holding (x .connection) []
+    → _≡_ {A = StepChange}
+    (record { outcome = record { taken = count; «reply_len» = x .reply .len; answer = x .answer }; session = s; change = x .change })
+    (gives count x)
+unfolding gives
+gave x s count e = rw e
+
+pub ruleset giving = (needs, gave)

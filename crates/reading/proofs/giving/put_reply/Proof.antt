@@ -1,0 +1,32 @@
+use Rattle.reading.proofs.giving.Giving.{replying}
+use Rattle.reading.proofs.giving.put_reply.Statement.{statement}
+use Rattle.reading.proofs.giving.put_reply.Tie as tie
+
+returns : tie.Need-returns
+returns c = search replying
+
+array-share-prefix-text : tie.Need-array-share-prefix-text
+array-share-prefix-text c = search replying
+
+slice-aggregate-put-bytes : tie.Need-slice-aggregate-put-bytes
+slice-aggregate-put-bytes c = search replying
+
+put-bytes-requires : tie.Need-put-bytes-requires
+put-bytes-requires c κs = search replying
+
+same-length : tie.Need-same-length
+same-length c = search replying
+
+returns-2 : tie.Need-returns-2
+returns-2 c = search replying
+
+pub put-reply-spec : {M : Type 1} → statement M
+put-reply-spec =
+    tie.close
+    (tie.spec
+    returns
+    array-share-prefix-text
+    slice-aggregate-put-bytes
+    put-bytes-requires
+    same-length
+    returns-2)

@@ -1,0 +1,51 @@
+-- What the code returns by value, for each way that a call ends, and the reply in the room.
+use Prim.Native.Nat.{ℕ}
+use mathlib.Core.List.{List, []}
+use mathlib.Core.Bool.{cond}
+use lib.Dec.{ltb}
+use lib.ListN.{length, take}
+use Rattle.wire.specs.Room.{putRoom}
+use Rattle.store.specs.declared.Store.{Store}
+use Rattle.session.specs.declared.Connection.{Connection}
+use Rattle.session.specs.declared.Session.{Session}
+use Rattle.session.specs.declared.Answer.{Answer}
+use Rattle.session.specs.declared.Answer.the-variants as answer
+use Rattle.session.specs.declared.Reply.{Reply}
+use Rattle.session.specs.Session.{holding}
+use Rattle.message.specs.declared.Settled.{Settled}
+use Rattle.message.specs.Effects.{Effect}
+use Rattle.message.specs.Settled.{noChange, changed}
+use Rattle.reading.specs.declared.steps.Step.{Step}
+use Rattle.reading.specs.declared.steps.StepChange.{StepChange}
+
+-- nothing is taken
+unfoldable pub stays : Session → Answer → StepChange
+stays s a = record { outcome = record { taken = 0; «reply_len» = 0; answer = a }; session = s; change = noChange }
+
+-- the whole piece is taken, and more is wanted
+unfoldable pub waits : Connection → List ℕ → ℕ → StepChange
+waits c u count = record { outcome = record { taken = count; «reply_len» = 0; answer = answer.More }; session = holding c u; change = noChange }
+
+-- the step on a store
+unfoldable pub applied : Store → StepChange → Step
+applied t r = record { outcome = r .outcome; session = r .session; store = changed t (r .change) }
+
+-- a message's answer, after so many bytes
+unfoldable pub answers : ℕ → Effect → Step
+answers count e = record {
+  outcome = record { taken = count; «reply_len» = length (e .reply); answer = e .answer };
+  session = holding (e .connection) [];
+  store = e .store;
+}
+
+-- the same of a settled message, whose store is to be changed
+unfoldable pub gives : ℕ → Settled → StepChange
+gives count x = record {
+  outcome = record { taken = count; «reply_len» = x .reply .len; answer = x .answer };
+  session = holding (x .connection) [];
+  change = x .change;
+}
+
+-- the room with a reply at its front; a reply of more than the twelve bytes of its array, or than the room has, is not put
+unfoldable pub replied : Reply → List ℕ → List ℕ
+replied k room = cond (ltb 12 (k .len)) room (putRoom room 0 (take (k .len) (k .bytes)))

@@ -1,0 +1,124 @@
+// The end of a reading call whose record and store are lent: what was asked is done by what the entries said, and what is to be put into
+// the store is told.
+use crate::giving::give;
+use crate::raw::RawOutcome;
+use crate::raw::raw_outcome;
+use crate::receiving::REPLY_ROOM;
+use crate::start::Started;
+use crate::steps::StepChange;
+use crate::steps::stay;
+use crate::steps::wait;
+use lists::shorter;
+use message::PUTS_ENTRY;
+use message::PUTS_TABLE;
+use message::commit::finish_at;
+use reassembly::MESSAGE_MAX;
+use reassembly::Taken;
+use session::Answer;
+use session::Connection;
+use session::Session;
+use store::ENTRIES;
+use store::Entry;
+use store::TABLES;
+use store::Table;
+use store_scan::Scanned;
+ghost use mathlib.Core.Path.{_≡_};
+ghost use mathlib.Core.Bool.{_&&_};
+ghost use lib.Dec.{eqb, ltb};
+ghost use Rattle.reading.specs.Steps.{waits};
+ghost use Rattle.reading.specs.Start.{takenBytes};
+ghost use Rattle.reading.specs.Finish.{Ends, EndsRaw};
+
+// What the exported call is to do: its outcome, the new record, and an entry or a table that is put at the place.
+pub struct RawChange {
+    pub outcome: RawOutcome,
+    pub session: Session,
+    pub puts_entry: bool,
+    pub puts_table: bool,
+    pub place: usize,
+    pub entry: Entry,
+    pub table: Table,
+}
+
+// More is wanted: the bytes that were taken stay unfinished.
+fn wait_taken(connection: Connection, taken: Taken) -> StepChange
+    ensures { λ r. ⌜ r ≡ waits connection (takenBytes taken) (taken .count) ⌝ }
+{
+    let bytes = taken.bytes;
+    let n = shorter(taken.len, MESSAGE_MAX);
+    wait(connection, &bytes[..n], taken.count)
+}
+
+// A reading call's end, by what its start and the scan of the entries said. The refusals are answered in the order 1, 4, 2.
+fn finish_change(
+    session: Session,
+    started: Started,
+    scanned: Scanned,
+    reply: &mut [u8],
+) -> StepChange
+    ensures { λ r. ⌜ Ends session started scanned (now (reply .entry)) r (now (reply .exit)) ⌝ }
+{
+    if reply.len() < REPLY_ROOM {
+        return stay(session, Answer::Refused(1));
+    }
+    if !started.sound {
+        return stay(session, Answer::Refused(4));
+    }
+    if !scanned.sound {
+        return stay(session, Answer::Refused(4));
+    }
+    let connection = session.connection;
+    if connection.closed == 1 {
+        return stay(session, Answer::Refused(2));
+    }
+    let taken = started.taken;
+    let count = taken.count;
+    if count == 0 {
+        return stay(session, Answer::More);
+    }
+    if taken.ended {
+        let place = scanned.place;
+        let asked = started.asked;
+        return give(finish_at(connection, place, asked), count, reply);
+    }
+    wait_taken(connection, taken)
+}
+
+// Whether a change is of the wanted kind, and its place is one of so many.
+fn puts(kind: u8, wanted: u8, place: usize, places: usize) -> bool
+    ensures { λ r. ⌜ r ≡ (eqb kind wanted && ltb place places) ⌝ }
+{
+    if kind != wanted {
+        return false;
+    }
+    place < places
+}
+
+// The end of the call with numbers for the answer, and what is put at its place.
+pub fn finish_read(
+    session: Session,
+    started: Started,
+    scanned: Scanned,
+    reply: &mut [u8],
+) -> RawChange
+    ensures { λ r. ⌜ EndsRaw session started scanned (now (reply .entry)) r (now (reply .exit)) ⌝ }
+{
+    let step = finish_change(session, started, scanned, reply);
+    let told = step.outcome;
+    let outcome = raw_outcome(told);
+    let next = step.session;
+    let change = step.change;
+    let entry = change.entry;
+    let table = change.table;
+    let puts_entry = puts(change.kind, PUTS_ENTRY, change.place, ENTRIES);
+    let puts_table = puts(change.kind, PUTS_TABLE, change.place, TABLES);
+    RawChange {
+        outcome,
+        session: next,
+        puts_entry,
+        puts_table,
+        place: change.place,
+        entry,
+        table,
+    }
+}

@@ -1,0 +1,278 @@
+-- What each change of a connection, and a table put into the store, keeps of soundness.
+use Prim.Native.Nat.{ℕ, _+_, _≤_, _<_}
+use native.Mathlib.Omega.{arith}
+use mathlib.Core.Path.{_≡_, refl, sym, ap, _∙_, subst}
+use mathlib.Core.Logic.{⊎-elim}
+use mathlib.Core.Bool.{true}
+use mathlib.Core.List.{List}
+use lib.ListN.{length, set}
+use lib.Seq.{set-out, getD-set-same, getD-set-other}
+use Rattle.lists.proofs.Cases.{never, lt-or-le, eq-or-ne}
+use Rattle.store.specs.declared.Table.{Table}
+use Rattle.store.specs.Store.{tableHeld, noTable}
+use Rattle.session.specs.declared.Binding.{Binding}
+use Rattle.session.specs.declared.Connection.{Connection}
+use Rattle.session.specs.Session.{isClosed, localName, remoteName, isBound, isUpdated, boundTo, bindingAt, closedWith, establish, makeCurrent, withTables, unbind, bindTo, bind, commitTo, committed}
+use Rattle.session_soundness.specs.Sound.{isClosing}
+use Rattle.session.proofs.Changing.{mark-of}
+use Rattle.session.proofs.Shapes.{mark-limit}
+use Rattle.session.proofs.Bindings.{bound-here, bound-only, bind-cases, commit-cases}
+use Rattle.session_soundness.proofs.Facts.{heldAt, SoundConnection, bound-to-id}
+
+-- ---- the store
+
+-- held tables stay held
+pub held-keeps : {ts us : List Table} {c : Connection} → ((i : ℕ) → heldAt ts i ≡ true → heldAt us i ≡ true) → SoundConnection ts c
+    → SoundConnection us c
+held-keeps f s =
+    record {
+      phase = s .phase;
+      closed = s .closed;
+      closedNumber = s .closedNumber;
+      openNumber = s .openNumber;
+      localLength = s .localLength;
+      remoteLength = s .remoteLength;
+      local = s .local;
+      remote = s .remote;
+      boundMark = s .boundMark;
+      updatedMark = s .updatedMark;
+      boundHeld = λ i t. f i (s .boundHeld i t);
+      updatedHeld = λ i t. f i (s .updatedHeld i t);
+      once = s .once;
+      currentLimit = s .currentLimit;
+      currentHeld = λ p e. f p (s .currentHeld p e);
+      currentBound = s .currentBound;
+    }
+
+pub put-held : (ts : List Table) (place : ℕ) (t : Table) → tableHeld t ≡ true → (i : ℕ) → heldAt ts i ≡ true → heldAt (set ts place t) i ≡ true
+put-held ts place t h i k =
+    ⊎-elim
+    (λ e.
+    ⊎-elim
+    (λ l. subst (λ (n : ℕ). heldAt (set ts place t) n ≡ true) (sym e) (ap tableHeld (getD-set-same ts place t noTable l) ∙ h))
+    (λ l. ap (λ (us : List Table). heldAt us i) (set-out ts place t l) ∙ k)
+    (lt-or-le place (length ts)))
+    (λ g. ap tableHeld (getD-set-other ts place i t noTable g) ∙ k)
+    (eq-or-ne i place)
+
+-- a table put at a place
+pub put-keeps : {ts : List Table} {c : Connection} (place : ℕ) (t : Table) → tableHeld t ≡ true → SoundConnection ts c
+    → SoundConnection (set ts place t) c
+put-keeps {ts} place t h s = held-keeps (put-held ts place t h) s
+
+-- ---- the connection
+
+module _ {tables : List Table} {c : Connection} (s : SoundConnection tables c) where
+  pub close-keeps : (n : ℕ) → isClosing n ≡ true → SoundConnection tables (closedWith c n)
+  unfolding closedWith bindingAt localName remoteName isClosed
+  close-keeps n h =
+      record {
+        phase = s .phase;
+        closed = omega arith;
+        closedNumber = λ t. h;
+        openNumber = λ t. never refl t;
+        localLength = s .localLength;
+        remoteLength = s .remoteLength;
+        local = s .local;
+        remote = s .remote;
+        boundMark = s .boundMark;
+        updatedMark = s .updatedMark;
+        boundHeld = s .boundHeld;
+        updatedHeld = s .updatedHeld;
+        once = s .once;
+        currentLimit = s .currentLimit;
+        currentHeld = s .currentHeld;
+        currentBound = s .currentBound;
+      }
+
+  pub establish-keeps : SoundConnection tables (establish c)
+  unfolding establish bindingAt localName remoteName isClosed
+  establish-keeps =
+      record {
+        phase = omega arith;
+        closed = s .closed;
+        closedNumber = s .closedNumber;
+        openNumber = s .openNumber;
+        localLength = s .localLength;
+        remoteLength = s .remoteLength;
+        local = s .local;
+        remote = s .remote;
+        boundMark = s .boundMark;
+        updatedMark = s .updatedMark;
+        boundHeld = s .boundHeld;
+        updatedHeld = s .updatedHeld;
+        once = s .once;
+        currentLimit = s .currentLimit;
+        currentHeld = s .currentHeld;
+        currentBound = s .currentBound;
+      }
+
+  -- another current table
+  pub current-keeps : (place : ℕ) → place < 8 → isBound (bindingAt c place) ≡ true → SoundConnection tables (makeCurrent c place)
+  unfolding makeCurrent withTables bindingAt localName remoteName isClosed
+  current-keeps place l b =
+      let m = mark-of place l in
+      record {
+        phase = s .phase;
+        closed = s .closed;
+        closedNumber = s .closedNumber;
+        openNumber = s .openNumber;
+        localLength = s .localLength;
+        remoteLength = s .remoteLength;
+        local = s .local;
+        remote = s .remote;
+        boundMark = s .boundMark;
+        updatedMark = s .updatedMark;
+        boundHeld = s .boundHeld;
+        updatedHeld = s .updatedHeld;
+        once = s .once;
+        currentLimit = mark-limit place;
+        currentHeld = λ p e. let q : place ≡ p = omega arith in subst (λ (n : ℕ). heldAt tables n ≡ true) q (s .boundHeld place b);
+        currentBound = λ p e. let q : place ≡ p = omega arith in subst (λ (n : ℕ). isBound (bindingAt c n) ≡ true) q b;
+      }
+
+  -- an ID bound to a held table
+  module _ (place id : ℕ) (l : place < 8) (long : length (c .bindings) ≡ 8) (held : heldAt tables place ≡ true) where
+    at : (P : Binding → Type 0) (i : ℕ)
+        → (i ≡ place → P (bindTo id (bindingAt c place)))
+        → ((i ≡ place → ⊥) → P (unbind (bindingAt c i)))
+        → ((i ≡ place → ⊥) → P (bindingAt c i))
+        → P (bindingAt (bind c place id) i)
+    at P i = bind-cases c place id P i (λ e. omega arith)
+
+    here-held : (i : ℕ) → i ≡ place → heldAt tables i ≡ true
+    here-held i e = ap (heldAt tables) e ∙ held
+
+    bind-bound-mark : (i : ℕ) → bindingAt (bind c place id) i .bound ≤ 1
+    unfolding bindTo unbind
+    bind-bound-mark i = at (λ (b : Binding). b .bound ≤ 1) i (λ e. omega arith) (λ g. omega arith) (λ g. s .boundMark i)
+
+    bind-updated-mark : (i : ℕ) → bindingAt (bind c place id) i .updated ≤ 1
+    unfolding bindTo unbind
+    bind-updated-mark i = at (λ (b : Binding). b .updated ≤ 1) i (λ e. s .updatedMark place) (λ g. s .updatedMark i) (λ g. s .updatedMark i)
+
+    bind-bound-held : (i : ℕ) → isBound (bindingAt (bind c place id) i) ≡ true → heldAt tables i ≡ true
+    unfolding isBound unbind
+    bind-bound-held i =
+        at (λ (b : Binding). isBound b ≡ true → heldAt tables i ≡ true) i (λ e t. here-held i e) (λ g t. never t refl) (λ g. s .boundHeld i)
+
+    bind-updated-held : (i : ℕ) → isUpdated (bindingAt (bind c place id) i) ≡ true → heldAt tables i ≡ true
+    unfolding isUpdated unbind
+    bind-updated-held i =
+        at (λ (b : Binding). isUpdated b ≡ true → heldAt tables i ≡ true) i (λ e t. here-held i e) (λ g. s .updatedHeld i) (λ g. s .updatedHeld i)
+
+    -- an ID of another table is one that it had
+    others-had : (n i : ℕ) → (i ≡ place → ⊥) → boundTo n (bindingAt (bind c place id) i) ≡ true → boundTo n (bindingAt c i) ≡ true
+    unfolding boundTo isBound unbind
+    others-had n i g =
+        at (λ (b : Binding). boundTo n b ≡ true → boundTo n (bindingAt c i) ≡ true) i (λ e. absurd (g e)) (λ g t. never t refl) (λ g t. t)
+
+    -- and this table has only the one bound
+    here-only : (n : ℕ) → boundTo n (bindingAt (bind c place id) place) ≡ true → id ≡ n
+    unfolding bindTo
+    here-only n t =
+        bound-to-id n (bindTo id (bindingAt c place)) (ap (boundTo n) (sym (bound-here c place id (omega arith))) ∙ t)
+
+    one-place : (n i : ℕ) → (i ≡ place → ⊥) → boundTo n (bindingAt (bind c place id) i) ≡ true
+        → boundTo n (bindingAt (bind c place id) place) ≡ true → ⊥
+    one-place n i g t u =
+        never t (ap (λ (m : ℕ). boundTo m (bindingAt (bind c place id) i)) (sym (here-only n u)) ∙ bound-only c place id i g)
+
+    bind-once : (i j n : ℕ) → boundTo n (bindingAt (bind c place id) i) ≡ true → boundTo n (bindingAt (bind c place id) j) ≡ true → i ≡ j
+    bind-once i j n t u =
+        ⊎-elim
+        (λ e.
+        ⊎-elim
+        (λ f. e ∙ sym f)
+        (λ f. absurd (one-place n j f u (subst (λ (k : ℕ). boundTo n (bindingAt (bind c place id) k) ≡ true) e t)))
+        (eq-or-ne j place))
+        (λ e.
+        ⊎-elim
+        (λ f. absurd (one-place n i e t (subst (λ (k : ℕ). boundTo n (bindingAt (bind c place id) k) ≡ true) f u)))
+        (λ f. s .once i j n (others-had n i e t) (others-had n j f u))
+        (eq-or-ne j place))
+        (eq-or-ne i place)
+
+    bind-current : bind c place id .current ≡ place + 1
+    unfolding bind withTables
+    bind-current = sym (mark-of place l)
+
+    bind-current-bound : isBound (bindingAt (bind c place id) place) ≡ true
+    unfolding isBound bindTo
+    bind-current-bound = ap isBound (bound-here c place id (omega arith))
+
+    pub bind-keeps : SoundConnection tables (bind c place id)
+    unfolding bind withTables localName remoteName isClosed
+    bind-keeps =
+        record {
+          phase = s .phase;
+          closed = s .closed;
+          closedNumber = s .closedNumber;
+          openNumber = s .openNumber;
+          localLength = s .localLength;
+          remoteLength = s .remoteLength;
+          local = s .local;
+          remote = s .remote;
+          boundMark = bind-bound-mark;
+          updatedMark = bind-updated-mark;
+          boundHeld = bind-bound-held;
+          updatedHeld = bind-updated-held;
+          once = bind-once;
+          currentLimit = mark-limit place;
+          currentHeld = λ p e. let q : place ≡ p = omega (arith, bind-current) in subst (λ (n : ℕ). heldAt tables n ≡ true) q held;
+          currentBound =
+              λ p e.
+              let q : place ≡ p = omega (arith, bind-current) in
+              subst (λ (n : ℕ). isBound (bindingAt (bind c place id) n) ≡ true) q bind-current-bound;
+        }
+
+  -- an update committed to a held table
+  module _ (place update : ℕ) (l : place < length (c .bindings)) (held : heldAt tables place ≡ true) where
+    there : (P : Binding → Type 0) (i : ℕ) → (i ≡ place → P (commitTo update (bindingAt c place))) → ((i ≡ place → ⊥) → P (bindingAt c i))
+        → P (bindingAt (committed c place update) i)
+    there P i = commit-cases c place update P i (λ e. l)
+
+    commit-bound-mark : (i : ℕ) → bindingAt (committed c place update) i .bound ≤ 1
+    unfolding commitTo
+    commit-bound-mark i = there (λ (b : Binding). b .bound ≤ 1) i (λ e. s .boundMark place) (λ g. s .boundMark i)
+
+    commit-updated-mark : (i : ℕ) → bindingAt (committed c place update) i .updated ≤ 1
+    unfolding commitTo
+    commit-updated-mark i = there (λ (b : Binding). b .updated ≤ 1) i (λ e. omega arith) (λ g. s .updatedMark i)
+
+    -- a bound ID stays where it was
+    commit-had : (n i : ℕ) → boundTo n (bindingAt (committed c place update) i) ≡ boundTo n (bindingAt c i)
+    unfolding boundTo isBound commitTo
+    commit-had n i =
+        there (λ (b : Binding). boundTo n b ≡ boundTo n (bindingAt c i)) i (λ e. ap (λ (k : ℕ). boundTo n (bindingAt c k)) (sym e)) (λ g. refl)
+
+    commit-bound : (i : ℕ) → isBound (bindingAt (committed c place update) i) ≡ isBound (bindingAt c i)
+    unfolding isBound commitTo
+    commit-bound i =
+        there (λ (b : Binding). isBound b ≡ isBound (bindingAt c i)) i (λ e. ap (λ (k : ℕ). isBound (bindingAt c k)) (sym e)) (λ g. refl)
+
+    commit-updated-held : (i : ℕ) → isUpdated (bindingAt (committed c place update) i) ≡ true → heldAt tables i ≡ true
+    commit-updated-held i =
+        there (λ (b : Binding). isUpdated b ≡ true → heldAt tables i ≡ true) i (λ e t. ap (heldAt tables) e ∙ held) (λ g. s .updatedHeld i)
+
+    pub commit-keeps : SoundConnection tables (committed c place update)
+    unfolding committed withTables localName remoteName isClosed
+    commit-keeps =
+        record {
+          phase = s .phase;
+          closed = s .closed;
+          closedNumber = s .closedNumber;
+          openNumber = s .openNumber;
+          localLength = s .localLength;
+          remoteLength = s .remoteLength;
+          local = s .local;
+          remote = s .remote;
+          boundMark = commit-bound-mark;
+          updatedMark = commit-updated-mark;
+          boundHeld = λ i t. s .boundHeld i (sym (commit-bound i) ∙ t);
+          updatedHeld = commit-updated-held;
+          once = λ i j n t u. s .once i j n (sym (commit-had n i) ∙ t) (sym (commit-had n j) ∙ u);
+          currentLimit = s .currentLimit;
+          currentHeld = s .currentHeld;
+          currentBound = λ p e. commit-bound p ∙ s .currentBound p e;
+        }

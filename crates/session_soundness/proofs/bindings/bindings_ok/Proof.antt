@@ -1,0 +1,40 @@
+use Rattle.session_soundness.proofs.Testing.{four}
+use Rattle.session_soundness.proofs.bindings.bindings_ok.Statement.{statement}
+use Rattle.session_soundness.proofs.bindings.bindings_ok.Tie as tie
+
+all-marks-ok-requires : tie.Need-all-marks-ok-requires
+all-marks-ok-requires c κs = search four
+
+returns : tie.Need-returns
+returns c = search four
+
+places-ok-requires : tie.Need-places-ok-requires
+places-ok-requires c κs = search four
+
+returns-2 : tie.Need-returns-2
+returns-2 c = search four
+
+ids-apart-requires : tie.Need-ids-apart-requires
+ids-apart-requires c κs = search four
+
+returns-3 : tie.Need-returns-3
+returns-3 c = search four
+
+current-ok-requires : tie.Need-current-ok-requires
+current-ok-requires c κs = search four
+
+returns-4 : tie.Need-returns-4
+returns-4 c = search four
+
+pub bindings-ok-spec : {M : Type 1} → statement M
+bindings-ok-spec =
+    tie.close
+    (tie.spec
+    all-marks-ok-requires
+    returns
+    places-ok-requires
+    returns-2
+    ids-apart-requires
+    returns-3
+    current-ok-requires
+    returns-4)

@@ -1,0 +1,40 @@
+use Rattle.session_soundness.proofs.Testing.{four}
+use Rattle.session_soundness.proofs.fields.fields_ok.Statement.{statement}
+use Rattle.session_soundness.proofs.fields.fields_ok.Tie as tie
+
+phase-ok-requires : tie.Need-phase-ok-requires
+phase-ok-requires c κs = search four
+
+returns : tie.Need-returns
+returns c = search four
+
+closed-ok-requires : tie.Need-closed-ok-requires
+closed-ok-requires c κs = search four
+
+returns-2 : tie.Need-returns-2
+returns-2 c = search four
+
+number-ok-requires : tie.Need-number-ok-requires
+number-ok-requires c κs = search four
+
+returns-3 : tie.Need-returns-3
+returns-3 c = search four
+
+names-ok-requires : tie.Need-names-ok-requires
+names-ok-requires c κs = search four
+
+returns-4 : tie.Need-returns-4
+returns-4 c = search four
+
+pub fields-ok-spec : {M : Type 1} → statement M
+fields-ok-spec =
+    tie.close
+    (tie.spec
+    phase-ok-requires
+    returns
+    closed-ok-requires
+    returns-2
+    number-ok-requires
+    returns-3
+    names-ok-requires
+    returns-4)

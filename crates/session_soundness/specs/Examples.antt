@@ -1,0 +1,61 @@
+-- The tests of a record at worked examples.
+use Prim.Native.Nat.{ℕ}
+use mathlib.Core.Path.{_≡_, refl}
+use mathlib.Core.Bool.{Bool, true, false}
+use mathlib.Core.List.{List, [], _∷_, map}
+use Rattle.lists.specs.Lists.{every, distinct}
+use Rattle.store.specs.declared.Table.{Table}
+use Rattle.store.specs.Store.{tableHeld, noTable}
+use Rattle.session.specs.declared.Binding.{Binding}
+use Rattle.session.specs.Session.{isBound, isUpdated, boundTo, noBinding}
+use Rattle.session_soundness.specs.Sound.{refusesOpening, isClosing, marksOk, unmarked, placesOk, sameId, firstParts}
+
+-- which numbers close a session
+closing : map isClosing (0 ∷ 1 ∷ 2 ∷ 3 ∷ 4 ∷ 9 ∷ 10 ∷ 15 ∷ 16 ∷ 19 ∷ 20 ∷ 29 ∷ 30 ∷ [])
+    ≡ true ∷ true ∷ false ∷ true ∷ false ∷ false ∷ true ∷ true ∷ false ∷ false ∷ true ∷ true ∷ false ∷ []
+unfolding isClosing refusesOpening
+closing = refl
+
+-- a table with ID 7, and one with a previous ID alone
+abbrev withId : Binding
+withId = record { bound = 1; updated = 0; id = 7; previous = 0 }
+
+abbrev withPrevious : Binding
+withPrevious = record { bound = 0; updated = 1; id = 0; previous = 4 }
+
+abbrev held : Table
+held = record {
+  held = 1;
+  «key_type» = 0;
+  timed = 0;
+  «data_types» = 4;
+  «name_len» = 2;
+  «key_len» = 4;
+  expiry = 0;
+  periods = [];
+  name = 116 ∷ 49 ∷ [];
+}
+
+-- at a held table, at a free place and past the last place
+places : placesOk (held ∷ []) (withId ∷ [])
+    ∷ placesOk (noTable ∷ []) (withId ∷ [])
+    ∷ placesOk (noTable ∷ []) (withPrevious ∷ [])
+    ∷ placesOk [] (withPrevious ∷ [])
+    ∷ placesOk (noTable ∷ []) (noBinding ∷ [])
+    ∷ []
+    ≡ true ∷ false ∷ false ∷ false ∷ true ∷ []
+unfolding placesOk unmarked tableHeld noTable isBound isUpdated noBinding
+places = refl
+
+-- one ID at two tables; places without ID don't count
+ids : distinct sameId (withId ∷ noBinding ∷ withId ∷ []) ∷ distinct sameId (withId ∷ noBinding ∷ noBinding ∷ []) ∷ [] ≡ false ∷ true ∷ []
+unfolding distinct every sameId boundTo isBound noBinding
+ids = refl
+
+mark-values : every marksOk (record { bound = 2; updated = 0; id = 0; previous = 0 } ∷ []) ≡ false
+unfolding every marksOk
+mark-values = refl
+
+parts : firstParts (1 ∷ 2 ∷ []) ≡ [] ∷ (1 ∷ []) ∷ (1 ∷ 2 ∷ []) ∷ []
+unfolding firstParts
+parts = refl

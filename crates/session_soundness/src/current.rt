@@ -1,0 +1,26 @@
+// Soundness tested: the current table.
+use session::Connection;
+use store::TABLES;
+use store::Table;
+ghost use mathlib.Core.Path.{_≡_};
+ghost use Rattle.session_soundness.specs.Sound.{currentOk};
+
+pub fn current_ok(tables: [Table; TABLES], c: Connection) -> bool
+    ensures { λ r. ⌜ r ≡ currentOk tables c ⌝ }
+{
+    let mark = c.current;
+    if mark == 0 {
+        return true;
+    }
+    if TABLES < mark {
+        return false;
+    }
+    let place = mark - 1;
+    let t = tables[place];
+    if t.held != 1 {
+        return false;
+    }
+    let bindings = c.bindings;
+    let b = bindings[place];
+    b.bound == 1
+}

@@ -1,0 +1,22 @@
+// Soundness tested: the marks of a binding.
+use session::Binding;
+ghost use mathlib.Core.Path.{_≡_};
+ghost use Rattle.session_soundness.specs.Sound.{marksOk, unmarked};
+
+pub fn marks_ok(b: Binding) -> bool
+    ensures { λ r. ⌜ r ≡ marksOk b ⌝ }
+{
+    if 1 < b.bound {
+        return false;
+    }
+    b.updated <= 1
+}
+
+pub fn is_unmarked(b: Binding) -> bool
+    ensures { λ r. ⌜ r ≡ unmarked b ⌝ }
+{
+    if b.bound == 1 {
+        return false;
+    }
+    b.updated != 1
+}

@@ -1,0 +1,20 @@
+use Rattle.store.proofs.Tested.{lengths}
+use borrow.Author.Needs.{needs}
+use Rattle.store_soundness.proofs.entry.entry_key_length_ok.Statement.{statement}
+use Rattle.store_soundness.proofs.entry.entry_key_length_ok.Tie as tie
+
+key-kind-requires : tie.Need-key-kind-requires
+key-kind-requires c κs = search lengths
+
+is-string-requires : tie.Need-is-string-requires
+is-string-requires c κs = search lengths
+
+returns : tie.Need-returns
+returns c = search lengths
+
+returns-2 : tie.Need-returns-2
+returns-2 c = search lengths
+
+pub entry-key-length-ok-spec : {M : Type 1} → statement M
+entry-key-length-ok-spec =
+    tie.close (tie.spec key-kind-requires is-string-requires returns returns-2)

@@ -1,0 +1,109 @@
+use Rattle.store.proofs.TwinLoops.{keys, KeyOuter, KeyInner, keys-start, array-keys, key-passed, key-free}
+use Rattle.store.proofs.Typed.{entries-shape}
+use Prim.Native.Nat.{_-_}
+use mathlib.Core.Logic.{⊎-elim}
+use Rattle.store_soundness.proofs.keys.keys_distinct.Statement.{statement}
+use Rattle.store_soundness.proofs.keys.keys_distinct.Tie as tie
+
+abbrev Inv-loop2 : tie.InvT-loop2
+Inv-loop2 entries i key table n j₀ j = KeyInner entries i key table n j
+
+abbrev μ-loop2 : tie.MeasureT-loop2
+μ-loop2 entries i key table n j₀ j = 128 - j
+
+abbrev Inv-loop : tie.InvT-loop
+Inv-loop entries i₀ i = KeyOuter entries i
+
+abbrev μ-loop : tie.MeasureT-loop
+μ-loop entries i₀ i = 128 - i
+
+loop-holds : tie.Need-loop-holds Inv-loop2 μ-loop2 Inv-loop μ-loop
+loop-holds c = keys-start (array-keys (entries-shape (c .args .t1) _ (c .good .0)))
+
+mul-e : tie.Need-mul-e Inv-loop2 μ-loop2 Inv-loop μ-loop
+mul-e c = search keys
+
+array-copy-out-e : tie.Need-array-copy-out-e Inv-loop2 μ-loop2 Inv-loop μ-loop
+array-copy-out-e c = search keys
+
+shorter-requires : tie.Need-shorter-requires Inv-loop2 μ-loop2 Inv-loop μ-loop
+shorter-requires c κs = search keys
+
+add-j : tie.Need-add-j Inv-loop2 μ-loop2 Inv-loop μ-loop
+add-j c = search keys
+
+loop2-holds : tie.Need-loop2-holds Inv-loop2 μ-loop2 Inv-loop μ-loop
+loop2-holds c = search keys
+
+mul-f : tie.Need-mul-f Inv-loop2 μ-loop2 Inv-loop μ-loop
+mul-f c = search keys
+
+array-copy-out-f : tie.Need-array-copy-out-f Inv-loop2 μ-loop2 Inv-loop μ-loop
+array-copy-out-f c = search keys
+
+array-share-prefix-key : tie.Need-array-share-prefix-key Inv-loop2 μ-loop2 Inv-loop μ-loop
+array-share-prefix-key c = search keys
+
+slice-aggregate-entry-keyed :
+    tie.Need-slice-aggregate-entry-keyed Inv-loop2 μ-loop2 Inv-loop μ-loop
+slice-aggregate-entry-keyed c = search keys
+
+entry-keyed-requires : tie.Need-entry-keyed-requires Inv-loop2 μ-loop2 Inv-loop μ-loop
+entry-keyed-requires c κs = search keys
+
+returns : tie.Need-returns Inv-loop2 μ-loop2 Inv-loop μ-loop
+returns c = search keys
+
+add-j-2 : tie.Need-add-j-2 Inv-loop2 μ-loop2 Inv-loop μ-loop
+add-j-2 c = search keys
+
+loop2-less : tie.Need-loop2-less Inv-loop2 μ-loop2 Inv-loop μ-loop
+loop2-less c = search keys
+
+loop2-again : tie.Need-loop2-again Inv-loop2 μ-loop2 Inv-loop μ-loop
+loop2-again c = search keys
+
+add-i : tie.Need-add-i Inv-loop2 μ-loop2 Inv-loop μ-loop
+add-i c = search keys
+
+loop-less : tie.Need-loop-less Inv-loop2 μ-loop2 Inv-loop μ-loop
+loop-less c = search keys
+
+loop-again : tie.Need-loop-again Inv-loop2 μ-loop2 Inv-loop μ-loop
+loop-again c =
+    let a = c .before .before .before in
+    ⊎-elim
+    (λ w. key-passed (w .3 .inv) (w .4 .left))
+    (λ w. key-free (a .before .loop .inv) (a .loop-test .taken) (w .left))
+    (c .if1 .came)
+
+returns-2 : tie.Need-returns-2 Inv-loop2 μ-loop2 Inv-loop μ-loop
+returns-2 c = search keys
+
+pub keys-distinct-spec : {M : Type 1} → statement M
+keys-distinct-spec =
+    tie.close
+    (tie.spec
+    Inv-loop2
+    μ-loop2
+    Inv-loop
+    μ-loop
+    loop-holds
+    mul-e
+    array-copy-out-e
+    shorter-requires
+    add-j
+    loop2-holds
+    mul-f
+    array-copy-out-f
+    array-share-prefix-key
+    slice-aggregate-entry-keyed
+    entry-keyed-requires
+    returns
+    add-j-2
+    loop2-less
+    loop2-again
+    add-i
+    loop-less
+    loop-again
+    returns-2)

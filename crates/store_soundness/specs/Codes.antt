@@ -1,0 +1,25 @@
+-- A number for each entry of a store, by which its entries are tested and looked up. No rule of document 01 speaks of it.
+use Prim.Native.Nat.{ℕ, _^_}
+use mathlib.Core.List.{List}
+use mathlib.Core.Bool.{Bool, cond}
+use lib.Dec.{eqb, ltb}
+use Rattle.store.specs.declared.Table.{Table}
+use Rattle.store.specs.declared.Entry.{Entry}
+use Rattle.store.specs.Sound.{soundEntry}
+use Rattle.store_soundness.specs.Marks.{entryMark}
+
+-- the code of an entry that isn't sound; every mark is less
+abbrev pub unsoundCode : ℕ
+unsoundCode = 2 ^ 31
+
+-- the mark of an entry that is sound with these tables, else the code of one that isn't
+unfoldable pub entryCode : List Table → Entry → ℕ
+entryCode tables e = cond (soundEntry tables e) (entryMark e) unsoundCode
+
+-- the code of a sound entry
+abbrev pub soundCode : ℕ → Bool
+soundCode c = ltb c unsoundCode
+
+-- c is this code
+abbrev pub isCode : ℕ → ℕ → Bool
+isCode code c = eqb c code

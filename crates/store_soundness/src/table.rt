@@ -1,0 +1,59 @@
+// Soundness of one table, and of all.
+ghost use mathlib.Core.Path.{_≡_};
+ghost use Rattle.lists.specs.Lists.{allOf, every};
+ghost use Rattle.store.specs.Sound.{tableTests, soundTable};
+use store::NAME_MAX;
+use store::TABLES;
+use store::Table;
+use store::types::is_known;
+use store::types::key_kind;
+use store::types::key_length_ok;
+use store::types::within;
+
+// Data types are bits 0 to 18.
+const DATA_TYPES_END: u32 = 524288;
+
+// The tests of a held table.
+fn held_table_ok(t: Table) -> bool
+    ensures { λ r. ⌜ r ≡ allOf (tableTests t) ⌝ }
+{
+    if !within(1, t.name_len, NAME_MAX) {
+        return false;
+    }
+    if !is_known(key_kind(t.key_type)) {
+        return false;
+    }
+    if !key_length_ok(t.key_type, t.key_len) {
+        return false;
+    }
+    if DATA_TYPES_END <= t.data_types {
+        return false;
+    }
+    t.timed <= 1
+}
+
+fn sound_table(t: Table) -> bool
+    ensures { λ r. ⌜ r ≡ soundTable t ⌝ }
+{
+    if t.held == 0 {
+        return true;
+    }
+    if t.held != 1 {
+        return false;
+    }
+    held_table_ok(t)
+}
+
+pub fn sound_tables(tables: [Table; TABLES]) -> bool
+    ensures { λ r. ⌜ r ≡ every soundTable tables ⌝ }
+{
+    let mut i = 0;
+    while i < TABLES {
+        let t = tables[i];
+        if !sound_table(t) {
+            return false;
+        }
+        i += 1;
+    }
+    true
+}

@@ -1,0 +1,22 @@
+use Rattle.text.proofs.Words.{putting-word}
+use Rattle.text.proofs.spaced.put_number.Statement.{statement}
+use Rattle.text.proofs.spaced.put_number.Tie as tie
+
+slice-aggregate-put : tie.Need-slice-aggregate-put
+slice-aggregate-put c = search putting-word
+
+put-requires : tie.Need-put-requires
+put-requires c κs = search putting-word
+
+put-decimal-requires : tie.Need-put-decimal-requires
+put-decimal-requires c κs = search putting-word
+
+same-length : tie.Need-same-length
+same-length c = search putting-word
+
+returns : tie.Need-returns
+returns c = search putting-word
+
+pub put-number-spec : {M : Type 1} → statement M
+put-number-spec =
+    tie.close (tie.spec slice-aggregate-put put-requires put-decimal-requires same-length returns)

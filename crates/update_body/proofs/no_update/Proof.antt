@@ -1,9 +1,0 @@
-use Rattle.body.proofs.UpdateLaws.{blank-laws}
-use Rattle.update_body.proofs.no_update.Statement.{statement}
-use Rattle.update_body.proofs.no_update.Tie as tie
-
-returns : tie.Need-returns
-returns c = search blank-laws
-
-pub no-update-spec : {M : Type 1} → statement M
-no-update-spec = tie.close (tie.spec returns)
