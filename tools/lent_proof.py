@@ -1,7 +1,7 @@
 #!/usr/bin/env python3
-"""Writes the proof that `peers_read` of crates/peers/src/lib.rt meets its contract:
+"""Writes the proof that `read_lent` of crates/reading/src/lib.rt meets its contract:
 
-    python3 tools/lent_proof.py > crates/peers/proofs/peers_read/Proof.antt && rt fmt
+    python3 tools/lent_proof.py > crates/reading/proofs/read_lent/Proof.antt && rt fmt
 
 The proof is a walk of the function's MIR, for these statements in this order:
 
@@ -16,18 +16,18 @@ The proof is a walk of the function's MIR, for these statements in this order:
     step.outcome
 
 The parameters are (session: &mut Session, store: &mut Store, piece: &[u8], reply: &mut [u8]), all structs are plain data,
-and `peers_read` and its callees have one `ensures` each and no `requires`. A step of a walk names what it uses by its
+and `read_lent` and its callees have one `ensures` each and no `requires`. A step of a walk names what it uses by its
 position among all that is held there. Each step changes the positions, so the class Walk computes them from names.
 
-What to change here when something else changes (`rt mir peers` shows the MIR):
+What to change here when something else changes (`rt mir reading` shows the MIR):
 
     fields, lengths, sizes or offsets of a struct   TABLES, ENTRIES, QUERY_FIELD, STEP_FIELDS; LOCALS, for a local's type
     an `ensures`, or a name that it cites           BEGAN, LOOKED, SAID (as the callee's contract says it), PROMISED; USES
     parameters of a callee                          BEGIN, LOOK, CORE, PARAMETERS_BEFORE_REPLY; CALLS and contracts() (what it
                                                     is given); its call in start(), scan() or end()
-    parameters of `peers_read`                      LOCALS, VALUES, BORROWED, EXIT_HELD; SIGNATURE, CALLS, EXIT, EXIT_ITEMS,
+    parameters of `read_lent`                       LOCALS, VALUES, BORROWED, EXIT_HELD; SIGNATURE, CALLS, EXIT, EXIT_ITEMS,
                                                     PARTS, CLOSING; entry(), exits(), claim()
-    what is put into the store                      PUTS, WRITTEN, and what they name in read_finish's Finishing.antt
+    what is put into the store                      PUTS, WRITTEN, and what they name in finish/Finishing.antt
     a statement                                     LOCALS in the MIR's order, the function of the part that it stands in,
                                                     what is live in AT_SCAN, AT_END and AT_PUTS, and the numbers there and
                                                     in PUTS: N of `body.t-N` counts the MIR's statements from 1, an `if`
@@ -38,14 +38,14 @@ BEGAN, LOOKED, SAID and CALLS with the callee's contract; at `look`, `init`, `st
 """
 from collections import namedtuple
 
-CRATE, FUNCTION = 'peers', 'peers_read'
+CRATE, FUNCTION = 'reading', 'read_lent'
 
-Struct = namedtuple('Struct', 'crate name module value')  # module: its proofs, as the proof calls them; value: its machine value
-OUTCOME = Struct('raw', 'RawOutcome', 'O', 'outV')
+Struct = namedtuple('Struct', 'path name module value')  # path: of its crate and module; module: its proofs, as the proof calls them; value: its machine value
+OUTCOME = Struct('session', 'Outcome', 'O', 'outV')
 SESSION = Struct('session', 'Session', 'S', 'sesV')
 STORE = Struct('store', 'Store', 'T', 'stoV')
-STEP = Struct('read_finish', 'RawChange', 'P', 'stepV')
-STARTED = Struct('read_start', 'Started', 'Wa', 'wantV')
+STEP = Struct('reading::finish', 'Finished', 'P', 'stepV')
+STARTED = Struct('reading::start', 'Started', 'Wa', 'wantV')
 QUERY = Struct('store_scan', 'Query', 'Qy', 'qryV')
 SCANNED = Struct('store_scan', 'Scanned', 'B', 'accV')
 ENTRY = Struct('store', 'Entry', 'N₀', 'elV₀')
@@ -54,12 +54,12 @@ STRUCTS = (OUTCOME, SESSION, STORE, STEP, STARTED, QUERY, SCANNED, ENTRY, TABLE)
 
 # A callee: its struct, the names of its result, of the result's machine value and of their relation, the token and the
 # lifetimes of the call, what its triple binds outside, and its arguments.
-Callee = namedtuple('Callee', 'crate name contract module struct result word relation token lifetimes outside arguments')
-BEGIN = Callee('read_start', 'start_read', 'Begin', 'begin', STARTED, 'v', 'w₁', 'js₁',
+Callee = namedtuple('Callee', 'path name contract module struct result word relation token lifetimes outside arguments')
+BEGIN = Callee('reading::start', 'start_read', 'Begin', 'begin', STARTED, 'v', 'w₁', 'js₁',
                'κ₂ q₂', '(κ₂, tt)', 'to-begin', '(h₀, (h₁ .tables, (x, tt)))')
 LOOK = Callee('store_scan', 'scan', 'Look', 'looking', SCANNED, 's', 'w₂', 'js₂',
               '(α ∷ []) fullShare', '(α ∷ [], tt)', '(to-look α δ v)', '(lent-store δ, (v .query, tt))')
-CORE = Callee('read_finish', 'finish_read', 'Core', 'core', STEP, 'r', 'w', 'is', 'κ₃ q₃', '(κ₃, tt)', '(to-core v s)', '(args v s)')
+CORE = Callee('reading::finish', 'finish_read', 'Core', 'core', STEP, 'r', 'w', 'is', 'κ₃ q₃', '(κ₃, tt)', '(to-core v s)', '(args v s)')
 CALLEES = (BEGIN, LOOK, CORE)
 PARAMETERS_BEFORE_REPLY = 3  # of finish_read
 
@@ -69,9 +69,9 @@ ENTRIES = Array('entries', 1, ENTRY, 128, 360, 768)
 Field = namedtuple('Field', 'name index type offset')
 QUERY_FIELD = Field('query', 0, 'Qy′.mir', 0)
 STEP_FIELDS = {field.name: field for field in (
-    Field('outcome', 0, 'O′.mir', 0), Field('session', 1, 'S′.mir', 64), Field('«puts_entry»', 2, 'tyBool', 1296),
-    Field('«puts_table»', 3, 'tyBool', 1297), Field('place', 4, 'tyInt w64', 1304), Field('entry', 5, 'N₀′.mir', 1312),
-    Field('table', 6, 'N₁′.mir', 1672))}
+    Field('outcome', 0, 'O′.mir', 0), Field('session', 1, 'S′.mir', 56), Field('«puts_entry»', 2, 'tyBool', 1288),
+    Field('«puts_table»', 3, 'tyBool', 1289), Field('place', 4, 'tyInt w64', 1296), Field('entry', 5, 'N₀′.mir', 1304),
+    Field('table', 6, 'N₁′.mir', 1664))}
 
 # A put `if step.FLAG { store.ARRAY[step.place] = step.VALUE; }`: the store with the element, the store after the statement,
 # the law by which SAID bounds the place, and the statement's successor.
@@ -81,15 +81,15 @@ PUTS = (Put('₀', ENTRIES, '«puts_entry»', 'entry', 'withEntry', 'entryWritte
 
 USES = '''use Rattle.store.proofs.Typed.{store-shape}
 use Rattle.store_scan.specs.Scan.{Scans}
-use Rattle.read_start.specs.Start.{Starts}
-use Rattle.read_finish.specs.Finish.{EndsRaw}
-use Rattle.read_finish.proofs.Finishing.{promised, in-entries, in-tables, withEntry, withTable, entryWritten, tableWritten, storeWritten}'''
+use Rattle.reading.specs.Start.{Starts}
+use Rattle.reading.specs.Finish.{EndsRead}
+use Rattle.reading.proofs.finish.Finishing.{promised, in-entries, in-tables, withEntry, withTable, entryWritten, tableWritten, storeWritten}'''
 
-# What the callees ensure, and the proof of what `peers_read` ensures, over h₀ (the record), h₁ (the store), x .now (the
+# What the callees ensure, and the proof of what `read_lent` ensures, over h₀ (the record), h₁ (the store), x .now (the
 # piece), ys (the room at entry), v (started), s (scanned), r (the step), h (the new store), zs (the room at exit).
 BEGAN = 'Starts h₀ (h₁ .tables) (x .now) v'
 LOOKED = 'Scans (v .query) (h₁ .entries) s'
-SAID = 'EndsRaw h₀ v s ys r zs'
+SAID = 'EndsRead h₀ v s ys r zs'
 PROMISED = 'promised h₀ h₁ (x .now) v s ys r h zs he (store-shape h₁ _ g₁) bv lv e'
 WRITTEN = 'storeWritten h₁ r'
 
@@ -556,15 +556,22 @@ class Walk:
         self.step(text)
 
 
+def module_of(path, library):
+    """What the generator calls a crate's module, as CRATE::MODULE, in its library `specs.declared` or `proofs`."""
+    crate, *modules = path.split('::')
+    own = '·' + library.split('.')[0] if crate == CRATE else ''  # the crate's own libraries are named in full
+    return '.'.join([f'Rattle.{crate}{own}.{library}', *modules])
+
+
 def header():
     lines = [fill(HEADER) + USES]
-    lines += [f'use Rattle.{struct.crate}.specs.declared.{struct.name}.{{{struct.name}}}' for struct in STRUCTS]
+    lines += [f'use {module_of(struct.path, "specs.declared")}.{struct.name}.{{{struct.name}}}' for struct in STRUCTS]
     lines += ['use Rattle.store_scan.proofs.Items.{elem, unraw, vals-len, vals-put, items-put, rows-is, lends-plain, plain-back}']
     for struct in STRUCTS:
-        path = f'use Rattle.{struct.crate}.proofs.{struct.name}'
+        path = f'use {module_of(struct.path, "proofs")}.{struct.name}'
         lines += [f'{path} as {struct.module}', f'{path}.Laws as {struct.module}′']
     for callee in CALLEES:
-        path, module = f'use Rattle.{callee.crate}.proofs.{callee.name}', callee.module
+        path, module = f'use {module_of(callee.path, "proofs")}.{callee.name}', callee.module
         lines += [f'{path} as {module}', f'{path}.Symbol as {module}-def', f'{path}.Symbol.{{name as #{module}}}']
         lines += [f'{path}.Met as {module}-thm']
     path = f'use Rattle.{CRATE}.proofs.{FUNCTION}'
@@ -578,7 +585,7 @@ def data():
     text = "-- a record's one machine value\n"
     for struct in STRUCTS:
         text += f'abbrev {struct.value} : {struct.name} → Val\n{struct.value} = LL.val {laws(struct)}\n\n'
-    path = ' ∷ '.join(str(ord(character)) for character in f'{STORE.crate}::{STORE.name}')
+    path = ' ∷ '.join(str(ord(character)) for character in f'{STORE.path}::{STORE.name}')
     text += fill(STORE_TYPE, path=path)
     for array in TABLES, ENTRIES:
         kind = f'tyArray {array.element.module}′.mir {array.length}'
@@ -815,7 +822,7 @@ def closing():
     triples = ' → '.join(f'Triple 𝓤 (%s #{callee.module}) ({callee.contract} 𝓤 H A mem run)' for callee in CALLEES)
     citations = []
     for callee in CALLEES:
-        contract, module, called = callee.contract, callee.module, f'{callee.crate}·{callee.name}'.replace('_', '-')
+        contract, module, called = callee.contract, callee.module, f'{callee.path}::{callee.name}'.replace('::', '·').replace('_', '-')
         citations.append(f'(cited 𝓤 H ({contract} 𝓤 H (𝓖 .A) (𝓜 .mem) (𝓡 .run)) 𝓜 𝓡 code.env #{module} {module}-def.routine '
                          f'code.calls-{called} ({module}-thm.met 𝓤 H 𝓜 𝓖 𝓡))')
     return fill(CLOSING, triples=triples.replace('%s', 'C'), table_triples=triples.replace('%s', '𝓣 .C'),

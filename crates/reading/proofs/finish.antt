@@ -1,1 +1,4 @@
+pub mod Answering
+pub mod Receiving
+pub mod Promising
 pub mod Finishing

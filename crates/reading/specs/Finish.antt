@@ -1,4 +1,4 @@
--- How a reading call whose record and store are lent ends, by what its start and the scan of the entries said.
+-- How a reading call ends, by what its start and the scan of the entries said.
 use Prim.Native.Nat.{ℕ, _≤_, _<_}
 use mathlib.Core.Path.{_≡_}
 use mathlib.Core.List.{List}
@@ -12,14 +12,13 @@ use Rattle.session.specs.Session.{isClosed}
 use Rattle.message.specs.declared.Settled.{Settled}
 use Rattle.message.specs.Settled.{putsTable, putsEntry}
 use Rattle.message.specs.Targets.{FinishesAt}
-use Rattle.reading.specs.declared.steps.StepChange.{StepChange}
-use Rattle.reading.specs.Steps.{stays, waits, gives, replied}
+use Rattle.reading.specs.declared.results.StepChange.{StepChange}
+use Rattle.reading.specs.Results.{stays, waits, gives, replied}
 use Rattle.receiver.specs.Model.{replyRoom}
-use Rattle.reading.specs.Raw.{rawOutcome}
 use Rattle.store_scan.specs.declared.Scanned.{Scanned}
 use Rattle.reading.specs.declared.start.Started.{Started}
 use Rattle.reading.specs.Start.{takenBytes}
-use Rattle.reading.specs.declared.finish.RawChange.{RawChange}
+use Rattle.reading.specs.declared.finish.Finished.{Finished}
 
 -- what the tests of a call come to once the room is large enough: tables, record and entries are sound, and the session is open
 pub record Reads (s : Session) (x : Started) (y : Scanned) (room : List ℕ) : Type 0 where
@@ -43,10 +42,10 @@ pub data Ends (s : Session) (x : Started) (y : Scanned) (room : List ℕ) (r : S
       → (m : Settled) → FinishesAt (s .connection) (y .place) (x .asked) m → r ≡ gives (x .taken .count) m → final ≡ replied (m .reply) room
       → Ends s x y room r final
 
--- what was returned, with numbers for the answer, and with a table or an entry that is put at a place of the store
-unfoldable pub rawChange : StepChange → RawChange
-rawChange m = record {
-  outcome = rawOutcome (m .outcome);
+-- what is returned, and a table or an entry that is put at a place of the store
+unfoldable pub finished : StepChange → Finished
+finished m = record {
+  outcome = m .outcome;
   session = m .session;
   «puts_entry» = eqb (m .change .kind) putsEntry && ltb (m .change .place) entryPlaces;
   «puts_table» = eqb (m .change .kind) putsTable && ltb (m .change .place) tablePlaces;
@@ -55,7 +54,7 @@ rawChange m = record {
   table = m .change .table;
 }
 
-pub record EndsRaw (s : Session) (x : Started) (y : Scanned) (room : List ℕ) (r : RawChange) (final : List ℕ) : Type 0 where
+pub record EndsRead (s : Session) (x : Started) (y : Scanned) (room : List ℕ) (r : Finished) (final : List ℕ) : Type 0 where
   pub step : StepChange
   pub ends : Ends s x y room step final
-  pub numbers : r ≡ rawChange step
+  pub same : r ≡ finished step

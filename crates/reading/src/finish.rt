@@ -1,13 +1,9 @@
-// The end of a reading call whose record and store are lent: what was asked is done by what the entries said, and what is to be put into
-// the store is told.
-use crate::giving::give;
-use crate::raw::RawOutcome;
-use crate::raw::raw_outcome;
-use crate::receiving::REPLY_ROOM;
+// The end of a reading call: what was asked is done by what the entries said, and what is to be put into the store is told.
+use crate::results::StepChange;
+use crate::results::give;
+use crate::results::stay;
+use crate::results::wait;
 use crate::start::Started;
-use crate::steps::StepChange;
-use crate::steps::stay;
-use crate::steps::wait;
 use lists::shorter;
 use message::PUTS_ENTRY;
 use message::PUTS_TABLE;
@@ -16,6 +12,7 @@ use reassembly::MESSAGE_MAX;
 use reassembly::Taken;
 use session::Answer;
 use session::Connection;
+use session::Outcome;
 use session::Session;
 use store::ENTRIES;
 use store::Entry;
@@ -25,13 +22,16 @@ use store_scan::Scanned;
 ghost use mathlib.Core.Path.{_≡_};
 ghost use mathlib.Core.Bool.{_&&_};
 ghost use lib.Dec.{eqb, ltb};
-ghost use Rattle.reading.specs.Steps.{waits};
+ghost use Rattle.reading.specs.Results.{waits};
 ghost use Rattle.reading.specs.Start.{takenBytes};
-ghost use Rattle.reading.specs.Finish.{Ends, EndsRaw};
+ghost use Rattle.reading.specs.Finish.{Ends, EndsRead};
 
-// What the exported call is to do: its outcome, the new record, and an entry or a table that is put at the place.
-pub struct RawChange {
-    pub outcome: RawOutcome,
+// The least room for a reply.
+pub const REPLY_ROOM: usize = 12;
+
+// What is left to do: the outcome to return, the new record, and an entry or a table that is put at the place.
+pub struct Finished {
+    pub outcome: Outcome,
     pub session: Session,
     pub puts_entry: bool,
     pub puts_table: bool,
@@ -94,25 +94,24 @@ fn puts(kind: u8, wanted: u8, place: usize, places: usize) -> bool
     place < places
 }
 
-// The end of the call with numbers for the answer, and what is put at its place.
+// The end of the call, and what is put at its place.
 pub fn finish_read(
     session: Session,
     started: Started,
     scanned: Scanned,
     reply: &mut [u8],
-) -> RawChange
-    ensures { λ r. ⌜ EndsRaw session started scanned (now (reply .entry)) r (now (reply .exit)) ⌝ }
+) -> Finished
+    ensures { λ r. ⌜ EndsRead session started scanned (now (reply .entry)) r (now (reply .exit)) ⌝ }
 {
     let step = finish_change(session, started, scanned, reply);
-    let told = step.outcome;
-    let outcome = raw_outcome(told);
+    let outcome = step.outcome;
     let next = step.session;
     let change = step.change;
     let entry = change.entry;
     let table = change.table;
     let puts_entry = puts(change.kind, PUTS_ENTRY, change.place, ENTRIES);
     let puts_table = puts(change.kind, PUTS_TABLE, change.place, TABLES);
-    RawChange {
+    Finished {
         outcome,
         session: next,
         puts_entry,

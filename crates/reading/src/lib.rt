@@ -1,21 +1,20 @@
-// The reading call: one session record, one store, a piece of the stream and room for a reply. By value it is `read`.
-pub mod answering;
+// The reading call: one session record, one store, a piece of the stream and room for a reply.
 pub mod finish;
-pub mod giving;
-pub mod raw;
-pub mod receiving;
+pub mod results;
 pub mod start;
-pub mod steps;
 
-pub use crate::receiving::REPLY_ROOM;
-pub use crate::receiving::read;
-pub use crate::steps::Step;
+pub use crate::finish::REPLY_ROOM;
+use crate::finish::finish_read;
+pub use crate::results::Step;
+use crate::start::start_read;
 use session::Outcome;
 use session::Session;
 use store::Store;
+use store_scan::scan;
 ghost use Rattle.receiver.specs.Promise.{ReadPromise};
 
-// The same on a record and a store that are lent: they hold the new state afterwards.
+// Reads bytes of a piece up to and with the first that ends a message or shows a refusal, else all of it. Record and store are lent, and
+// hold the new state afterwards. The tables are copied; the entries are tested and looked up where they lie.
 pub fn read_lent(
     session: &mut Session,
     store: &mut Store,
@@ -24,8 +23,17 @@ pub fn read_lent(
 ) -> Outcome
     ensures { λ r. ⌜ ReadPromise (now (session .entry)) (now (store .entry)) (record { piece = now (piece .entry); room = now (reply .entry); outcome = r; session = now (session .exit); store = now (store .exit); final = now (reply .exit) }) ⌝ }
 {
-    let step = read(*session, *store, piece, reply);
+    let tables = store.tables;
+    let started = start_read(*session, tables, piece);
+    let query = started.query;
+    let scanned = scan(store, query);
+    let step = finish_read(*session, started, scanned, reply);
     *session = step.session;
-    *store = step.store;
+    if step.puts_entry {
+        store.entries[step.place] = step.entry;
+    }
+    if step.puts_table {
+        store.tables[step.place] = step.table;
+    }
     step.outcome
 }

@@ -30,23 +30,20 @@ use Rattle.message.specs.Settled.{changed, Finishes}
 use Rattle.reassembly.specs.declared.Taken.{Taken}
 use Rattle.message.specs.Targets.{goesTo, FinishesAt}
 use Rattle.message.proofs.commit.Targets.{finishes-there}
-use Rattle.reading.specs.declared.steps.StepChange.{StepChange}
-use Rattle.reading.specs.Steps.{stays, waits, gives, replied}
-use Rattle.reading.proofs.answering.Answering.{commit-made, commit-replied}
+use Rattle.reading.specs.declared.results.StepChange.{StepChange}
+use Rattle.reading.specs.Results.{stays, waits, gives, replied}
+use Rattle.reading.proofs.finish.Answering.{commit-made, commit-replied}
 use Rattle.receiver.specs.Promise.{Made, Shaped, ReadPromise}
-use Rattle.reading.proofs.receiving.Promising.{short-promise, unsound-promise, closed-promise, open-promise, is-closed, is-open}
-use Rattle.reading.proofs.receiving.Receiving.{stays-step, stays-room, waits-step, waits-room, answers-step, answers-room}
+use Rattle.reading.proofs.finish.Promising.{short-promise, unsound-promise, closed-promise, open-promise, is-closed, is-open}
+use Rattle.reading.proofs.finish.Receiving.{stays-step, stays-room, waits-step, waits-room, answers-step, answers-room}
 use Rattle.store_scan.specs.declared.Scanned.{Scanned}
 use Rattle.store_scan.specs.declared.Query.{Query}
 use Rattle.store_scan.specs.Scan.{Scans}
 use Rattle.reading.specs.declared.start.Started.{Started}
 use Rattle.reading.specs.Start.{takenBytes, Starts}
 use Rattle.reading.proofs.start.Starting.{taken-fits, taken-size, taken-are}
-use Rattle.reading.specs.declared.raw.RawOutcome.{RawOutcome}
-use Rattle.reading.specs.Raw.{rawOutcome}
-use Rattle.reading.specs.declared.finish.RawChange.{RawChange}
-use Rattle.reading.specs.Reading.{RawPromise}
-use Rattle.reading.specs.Finish.{Reads, Ends, short, unsound, closed, empty, waiting, answered, EndsRaw, rawChange}
+use Rattle.reading.specs.declared.finish.Finished.{Finished}
+use Rattle.reading.specs.Finish.{Reads, Ends, short, unsound, closed, empty, waiting, answered, EndsRead, finished}
 
 -- every key has the longest key's places
 shaped-keys : (t : Store) → StoreShape t → Keys (t .entries)
@@ -171,20 +168,20 @@ module _ (kind wanted i n : ℕ) where
   pub put-wanted : kind ≡ wanted → ltb i n ≡ (eqb kind wanted && ltb i n)
   put-wanted e = sym (and-true (eqb kind wanted) (ltb i n) (eq-eqb kind wanted e))
 
--- one element of an array written, as the exported call does
+-- one element of an array written, as the call does in place
 abbrev pub withEntry : Store → ℕ → Entry → Store
 withEntry t i e = record { tables = t .tables; entries = set (t .entries) i e }
 
 abbrev pub withTable : Store → ℕ → Table → Store
 withTable t i u = record { tables = set (t .tables) i u; entries = t .entries }
 
-abbrev pub entryWritten : Store → RawChange → Store
+abbrev pub entryWritten : Store → Finished → Store
 entryWritten t r = cond (r .«puts_entry») (withEntry t (r .place) (r .entry)) t
 
-abbrev pub tableWritten : Store → RawChange → Store
+abbrev pub tableWritten : Store → Finished → Store
 tableWritten t r = cond (r .«puts_table») (withTable t (r .place) (r .table)) t
 
-abbrev pub storeWritten : Store → RawChange → Store
+abbrev pub storeWritten : Store → Finished → Store
 storeWritten t r = tableWritten (entryWritten t r) r
 
 module _ (t : Store) (shape : StoreShape t) (c : Change) where
@@ -232,14 +229,14 @@ module _ (t : Store) (shape : StoreShape t) (c : Change) where
     put-changed : put a b ≡ changed t c
     put-changed = by-test (eqb (c .kind) 1) put-table put-entry
 
--- ---- the whole end, with numbers for the answer
+-- ---- the whole end
 
-pub ends-raw : (s : Session) (x : Started) (y : Scanned) (room : List ℕ) (m : StepChange) (final : List ℕ) (o : RawOutcome) (a b : Bool)
-    → Ends s x y room m final → o ≡ rawOutcome (m .outcome) → a ≡ (eqb (m .change .kind) 2 && ltb (m .change .place) 128)
+pub ends-read : (s : Session) (x : Started) (y : Scanned) (room : List ℕ) (m : StepChange) (final : List ℕ) (a b : Bool)
+    → Ends s x y room m final → a ≡ (eqb (m .change .kind) 2 && ltb (m .change .place) 128)
     → b ≡ (eqb (m .change .kind) 1 && ltb (m .change .place) 8)
-    → EndsRaw s x y room
+    → EndsRead s x y room
     (record {
-      outcome = o;
+      outcome = m .outcome;
       session = m .session;
       «puts_entry» = a;
       «puts_table» = b;
@@ -248,53 +245,48 @@ pub ends-raw : (s : Session) (x : Started) (y : Scanned) (room : List ℕ) (m : 
       table = m .change .table;
     })
     final
-ends-raw s x y room m final o a b f oe ae be = record { step = m; ends = f; numbers = same }
+ends-read s x y room m final a b f ae be = record { step = m; ends = f; same = same }
   where
-    same : _≡_ {A = RawChange} (record { outcome = o; session = m .session; «puts_entry» = a; «puts_table» = b; place = m .change .place; entry = m .change .entry; table = m .change .table }) (rawChange m)
-    same = unfold rawChange in rw (oe, ae, be) refl
+    same : _≡_ {A = Finished} (record { outcome = m .outcome; session = m .session; «puts_entry» = a; «puts_table» = b; place = m .change .place; entry = m .change .entry; table = m .change .table }) (finished m)
+    same = unfold finished in rw (ae, be) refl
 
--- ---- the exported call: what its three parts ensure gives its promise
+-- ---- what the three parts of the reading call ensure gives its promise
 
 within : (b : Bool) (kind wanted i n : ℕ) → b ≡ (eqb kind wanted && ltb i n) → b ≡ true → i < n
 within b kind wanted i n e h = ltb-true i n (and-second (eqb kind wanted) (ltb i n) (sym e ∙ h))
 
-module _ {s : Session} {x : Started} {y : Scanned} {room : List ℕ} {r : RawChange} {final : List ℕ} (f : EndsRaw s x y room r final) where
+module _ {s : Session} {x : Started} {y : Scanned} {room : List ℕ} {r : Finished} {final : List ℕ} (f : EndsRead s x y room r final) where
   abbrev c : Change
   c = f .step .change
 
   place-is : r .place ≡ c .place
-  unfolding rawChange
-  place-is = ap (λ (k : RawChange). k .place) (f .numbers)
+  unfolding finished
+  place-is = ap (λ (k : Finished). k .place) (f .same)
 
   pub in-entries : r .«puts_entry» ≡ true → r .place < 128
-  unfolding rawChange
+  unfolding finished
   in-entries h =
       subst (λ (i : ℕ). i < 128) (sym place-is)
-      (within (r .«puts_entry») (c .kind) 2 (c .place) 128 (ap (λ (k : RawChange). k .«puts_entry») (f .numbers)) h)
+      (within (r .«puts_entry») (c .kind) 2 (c .place) 128 (ap (λ (k : Finished). k .«puts_entry») (f .same)) h)
 
   pub in-tables : r .«puts_table» ≡ true → r .place < 8
-  unfolding rawChange
+  unfolding finished
   in-tables h =
       subst (λ (i : ℕ). i < 8) (sym place-is)
-      (within (r .«puts_table») (c .kind) 1 (c .place) 8 (ap (λ (k : RawChange). k .«puts_table») (f .numbers)) h)
+      (within (r .«puts_table») (c .kind) 1 (c .place) 8 (ap (λ (k : Finished). k .«puts_table») (f .same)) h)
 
-written-change : (t : Store) → StoreShape t → (m : StepChange) → storeWritten t (rawChange m) ≡ changed t (m .change)
-unfolding rawChange
+written-change : (t : Store) → StoreShape t → (m : StepChange) → storeWritten t (finished m) ≡ changed t (m .change)
+unfolding finished
 written-change t shape m = put-changed t shape (m .change) _ _ refl refl
 
-pub promised : (s : Session) (t : Store) (piece : List ℕ) (x : Started) (y : Scanned) (room : List ℕ) (r : RawChange) (h : Store) (final : List ℕ)
-    → h ≡ storeWritten t r → StoreShape t → Starts s (t .tables) piece x → Scans (x .query) (t .entries) y → EndsRaw s x y room r final
-    → RawPromise s t (record { piece = piece; room = room; outcome = r .outcome; session = r .session; store = h; final = final })
-unfolding rawChange
+pub promised : (s : Session) (t : Store) (piece : List ℕ) (x : Started) (y : Scanned) (room : List ℕ) (r : Finished) (h : Store) (final : List ℕ)
+    → h ≡ storeWritten t r → StoreShape t → Starts s (t .tables) piece x → Scans (x .query) (t .entries) y → EndsRead s x y room r final
+    → ReadPromise s t (record { piece = piece; room = room; outcome = r .outcome; session = r .session; store = h; final = final })
+unfolding finished
 promised s t piece x y room r h final he shape st sc f =
     let m = f .step in
-    record {
-      told = m .outcome;
-      numbers = ap (λ (k : RawChange). k .outcome) (f .numbers);
-      promise =
-          subst (λ (z : Session). ReadPromise s t (record { piece = piece; room = room; outcome = m .outcome; session = z; store = h; final = final }))
-          (sym (ap (λ (k : RawChange). k .session) (f .numbers)))
-          (subst (λ (u : Store). ReadPromise s t (record { piece = piece; room = room; outcome = m .outcome; session = m .session; store = u; final = final }))
-          (sym (he ∙ (ap (storeWritten t) (f .numbers) ∙ written-change t shape m)))
-          (kept s x y room t piece shape st sc m final (f .ends)));
-    }
+    subst (λ (k : Finished). ReadPromise s t (record { piece = piece; room = room; outcome = k .outcome; session = k .session; store = h; final = final }))
+    (sym (f .same))
+    (subst (λ (u : Store). ReadPromise s t (record { piece = piece; room = room; outcome = m .outcome; session = m .session; store = u; final = final }))
+    (sym (he ∙ (ap (storeWritten t) (f .same) ∙ written-change t shape m)))
+    (kept s x y room t piece shape st sc m final (f .ends)))

@@ -1,13 +1,10 @@
 use borrow.Author.Needs.{needs}
-use Rattle.reading.proofs.finish.Finishing.{ends-raw}
+use Rattle.reading.proofs.finish.Finishing.{ends-read}
 use Rattle.reading.proofs.finish.finish_read.Statement.{statement}
 use Rattle.reading.proofs.finish.finish_read.Tie as tie
 
 finish-change-requires : tie.Need-finish-change-requires
 finish-change-requires c κs = search needs
-
-raw-outcome-requires : tie.Need-raw-outcome-requires
-raw-outcome-requires c κs = search needs
 
 puts-requires : tie.Need-puts-requires
 puts-requires c κs = search needs
@@ -19,18 +16,13 @@ same-length : tie.Need-same-length
 same-length c = search needs
 
 returns : tie.Need-returns
-returns c =
-    let p = c .before in
-    let o = p .before .before .before .before .before in
-    let f = o .before .before .before .before in
-    ends-raw _ _ _ _ _ _ _ _ _ (f .finish-change .ensures) (o .raw-outcome .ensures) (p .puts .ensures) (c .puts2 .ensures)
+returns c = search (needs, ends-read)
 
 pub finish-read-spec : {M : Type 1} → statement M
 finish-read-spec =
     tie.close
     (tie.spec
     finish-change-requires
-    raw-outcome-requires
     puts-requires
     puts-requires-2
     same-length

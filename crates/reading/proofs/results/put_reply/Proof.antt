@@ -1,6 +1,6 @@
-use Rattle.reading.proofs.giving.Giving.{replying}
-use Rattle.reading.proofs.giving.put_reply.Statement.{statement}
-use Rattle.reading.proofs.giving.put_reply.Tie as tie
+use Rattle.reading.proofs.results.Giving.{replying}
+use Rattle.reading.proofs.results.put_reply.Statement.{statement}
+use Rattle.reading.proofs.results.put_reply.Tie as tie
 
 returns : tie.Need-returns
 returns c = search replying

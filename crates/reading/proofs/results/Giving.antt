@@ -9,9 +9,9 @@ use borrow.Author.Needs.{needs}
 use Rattle.session.specs.declared.Session.{Session}
 use Rattle.session.specs.Session.{holding}
 use Rattle.message.specs.declared.Settled.{Settled}
-use Rattle.reading.specs.declared.steps.StepChange.{StepChange}
-use Rattle.reading.specs.Steps.{gives}
-use Rattle.reading.proofs.steps.Making.{replied-long, replied-short}
+use Rattle.reading.specs.declared.results.StepChange.{StepChange}
+use Rattle.reading.specs.Results.{gives}
+use Rattle.reading.proofs.results.Making.{replied-long, replied-short}
 
 -- ---- the reply
 

@@ -3,8 +3,6 @@ use Prim.Native.Nat.{ℕ}
 use mathlib.Core.Path.{_≡_, refl, ap, _∙_}
 use mathlib.Core.List.{List}
 use lib.ListN.{length}
-use mathlib.Core.Bool.{false}
-use borrow.Author.Needs.{needs}
 use Rattle.store.specs.declared.Store.{Store}
 use Rattle.session.specs.declared.Connection.{Connection}
 use Rattle.session.specs.declared.Reply.{Reply}
@@ -15,8 +13,8 @@ use Rattle.message.specs.Effects.{Effect}
 use Rattle.message.specs.Settled.{Settles, Asks, AsksWith, Finishes}
 use Rattle.reassembly.specs.Judge.{judge, effectOf}
 use Rattle.reassembly.specs.SettleOnStores.{judgeOn}
-use Rattle.reading.specs.declared.steps.StepChange.{StepChange}
-use Rattle.reading.specs.Steps.{gives, applied, answers, replied}
+use Rattle.reading.specs.declared.results.StepChange.{StepChange}
+use Rattle.reading.specs.Results.{gives, applied, answers, replied}
 
 module _ (t : Store) (e : Effect) (x : Settled) (h : Settles t e x) where
   len-is : x .reply .len ≡ length (e .reply)
@@ -42,13 +40,3 @@ module _ (c : Connection) (t : Store) (u : List ℕ) (a : Asked) (p : AsksWith c
 
     pub commit-replied : (room final : List ℕ) → final ≡ replied (x .reply) room → final ≡ replied (replyOf (effectOf c t (judge c t u) .reply)) room
     commit-replied room final e = e ∙ ap (λ (k : Reply). replied k room) (q .on t effect refl asks .reply)
-
-  module _ (z : a .commits ≡ false) where
-    pub answer-made : r ≡ gives count (a .settled) → applied t r ≡ answers count (effectOf c t (judge c t u))
-    answer-made e = ap (applied t) e ∙ settled-made t effect (a .settled) (asks .settles z) count
-
-    pub answer-replied : (room final : List ℕ) → final ≡ replied (a .settled .reply) room
-        → final ≡ replied (replyOf (effectOf c t (judge c t u) .reply)) room
-    answer-replied room final e = e ∙ ap (λ (k : Reply). replied k room) (asks .settles z .reply)
-
-pub ruleset answering = (needs, commit-made, commit-replied, answer-made, answer-replied)

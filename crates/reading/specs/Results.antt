@@ -1,4 +1,4 @@
--- What the code returns by value, for each way that a call ends, and the reply in the room.
+-- What a reading call gives back, for each way that it ends, and the reply in the room.
 use Prim.Native.Nat.{ℕ}
 use mathlib.Core.List.{List, []}
 use mathlib.Core.Bool.{cond}
@@ -15,8 +15,11 @@ use Rattle.session.specs.Session.{holding}
 use Rattle.message.specs.declared.Settled.{Settled}
 use Rattle.message.specs.Effects.{Effect}
 use Rattle.message.specs.Settled.{noChange, changed}
-use Rattle.reading.specs.declared.steps.Step.{Step}
-use Rattle.reading.specs.declared.steps.StepChange.{StepChange}
+use Rattle.streams.specs.Calls.{Call}
+use Rattle.receiver.specs.Model.{State}
+use Rattle.receiver.specs.Promise.{outcomeOf, sessionOf}
+use Rattle.reading.specs.declared.results.Step.{Step}
+use Rattle.reading.specs.declared.results.StepChange.{StepChange}
 
 -- nothing is taken
 unfoldable pub stays : Session → Answer → StepChange
@@ -49,3 +52,7 @@ gives count x = record {
 -- the room with a reply at its front; a reply of more than the twelve bytes of its array, or than the room has, is not put
 unfoldable pub replied : Reply → List ℕ → List ℕ
 replied k room = cond (ltb 12 (k .len)) room (putRoom room 0 (take (k .len) (k .bytes)))
+
+-- outcome, record and store of the model's call
+unfoldable pub stepOf : Session → Call State Answer → Step
+stepOf s c = record { outcome = outcomeOf c; session = sessionOf s c; store = c .state .store }

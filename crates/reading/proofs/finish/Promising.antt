@@ -16,13 +16,12 @@ use Rattle.session.specs.Session.{isClosed}
 use Rattle.session_soundness.specs.Sound.{sound}
 use Rattle.message.specs.Settled.{noChange, changed}
 use Rattle.streams.specs.Calls.{Call, stay, scan}
-use Rattle.reading.specs.declared.steps.Step.{Step}
-use Rattle.reading.specs.declared.steps.StepChange.{StepChange}
+use Rattle.reading.specs.declared.results.Step.{Step}
+use Rattle.reading.specs.declared.results.StepChange.{StepChange}
 use Rattle.receiver.specs.Model.{State, heldBy, isByte, peers}
 use Rattle.receiver.specs.Promise.{Made, Shaped, ReadPromise, callOf, outcomeOf, sessionOf}
 use Rattle.receiver.proofs.CallCases.{call-short, call-unsound, call-closed, call-open}
-use Rattle.reading.specs.Steps.{stays, applied}
-use Rattle.reading.specs.ReceivingSteps.{stepOf}
+use Rattle.reading.specs.Results.{stays, applied, stepOf}
 
 module _ (s : Session) (t : Store) (piece room : List ℕ) where
   abbrev made : StepChange → List ℕ → Made
@@ -68,12 +67,6 @@ module _ (s : Session) (t : Store) (piece room : List ℕ) where
         pub open-promise : (r : StepChange) (final : List ℕ) → isClosed (s .connection) ≡ false → applied t r ≡ stepOf s (scan peers (heldBy s t) piece)
             → final ≡ front (scan peers (heldBy s t) piece .reply) room → ReadPromise s t (made r final)
         open-promise r final o p q = promised (scan peers (heldBy s t) piece) r final (call-open s t piece room l (sym f) o) p q
-
--- the change is made
-pub made-promise : (s : Session) (t : Store) (piece room final : List ℕ) (r : StepChange) (u : Store) → u ≡ changed t (r .change)
-    → ReadPromise s t (record { piece = piece; room = room; outcome = r .outcome; session = r .session; store = changed t (r .change); final = final })
-    → ReadPromise s t (record { piece = piece; room = room; outcome = r .outcome; session = r .session; store = u; final = final })
-made-promise s t piece room final r u e h = rw e h
 
 pub is-closed : (s : Session) → s .connection .closed ≡ 1 → isClosed (s .connection) ≡ true
 unfolding isClosed

@@ -1,6 +1,6 @@
-use Rattle.reading.proofs.steps.Making.{making}
-use Rattle.reading.proofs.steps.wait.Statement.{statement}
-use Rattle.reading.proofs.steps.wait.Tie as tie
+use Rattle.reading.proofs.results.Making.{making}
+use Rattle.reading.proofs.results.wait.Statement.{statement}
+use Rattle.reading.proofs.results.wait.Tie as tie
 
 record-with-requires : tie.Need-record-with-requires
 record-with-requires c κs = search making

@@ -1,6 +1,6 @@
-use Rattle.reading.proofs.giving.Giving.{giving}
-use Rattle.reading.proofs.giving.give.Statement.{statement}
-use Rattle.reading.proofs.giving.give.Tie as tie
+use Rattle.reading.proofs.results.Giving.{giving}
+use Rattle.reading.proofs.results.give.Statement.{statement}
+use Rattle.reading.proofs.results.give.Tie as tie
 
 put-reply-requires : tie.Need-put-reply-requires
 put-reply-requires c κs = search giving

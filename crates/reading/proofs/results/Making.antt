@@ -18,8 +18,8 @@ use Rattle.session.specs.Answers.{replyOf}
 use Rattle.session.specs.Session.{holding}
 use Rattle.message.specs.declared.Change.{Change}
 use Rattle.message.specs.Settled.{noChange}
-use Rattle.reading.specs.declared.steps.StepChange.{StepChange}
-use Rattle.reading.specs.Steps.{stays, waits, replied}
+use Rattle.reading.specs.declared.results.StepChange.{StepChange}
+use Rattle.reading.specs.Results.{stays, waits, replied}
 
 -- ---- a record with unfinished bytes
 

@@ -33,15 +33,14 @@ use Rattle.streams.specs.Model.{Fed, quiet, answered, stateOf}
 use Rattle.streams.specs.Calls.{Call, scan}
 use Rattle.streams.proofs.Basics.{by-fed}
 use Rattle.streams.proofs.OneCall.{scan-nil, scan-quiet, scan-answered}
-use Rattle.reading.specs.declared.steps.Step.{Step}
-use Rattle.reading.specs.declared.steps.StepChange.{StepChange}
+use Rattle.reading.specs.declared.results.Step.{Step}
+use Rattle.reading.specs.declared.results.StepChange.{StepChange}
 use Rattle.receiver.specs.Model.{State, heldBy, feed, isByte, peers}
 use Rattle.receiver.specs.Good.{Good}
 use Rattle.receiver.specs.Promise.{Shaped, outcomeOf, sessionOf}
 use Rattle.receiver.specs.Parts.{judgedCall, partCall}
-use Rattle.reading.proofs.steps.Making.{replied-front}
-use Rattle.reading.specs.Steps.{stays, waits, applied, answers, replied}
-use Rattle.reading.specs.ReceivingSteps.{stepOf}
+use Rattle.reading.proofs.results.Making.{replied-front}
+use Rattle.reading.specs.Results.{stays, waits, applied, answers, replied, stepOf}
 use Rattle.receiver.proofs.Piece.{judged-as, judged-settled, scan-takes, waited-call, settled-call}
 use Rattle.receiver.proofs.Chained.{good-held}
 use Rattle.receiver.proofs.Held.{session-fits, state-fits}

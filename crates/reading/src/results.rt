@@ -1,16 +1,18 @@
-// What a reading call by value gives back, where nothing is taken and where more is wanted.
+// What a reading call gives back, for each way that it ends.
 use lists::pad;
 use message::Change;
+use message::Settled;
 use message::changes::no_change;
 use session::Answer;
 use session::Connection;
 use session::Outcome;
+use session::Reply;
 use session::Session;
 use session::UNFINISHED_MAX;
 use store::Store;
 ghost use mathlib.Core.Path.{_≡_};
 ghost use Rattle.session.specs.Session.{holding};
-ghost use Rattle.reading.specs.Steps.{stays, waits};
+ghost use Rattle.reading.specs.Results.{stays, waits, gives, replied};
 
 // What a reading call by value gives back: what the lent one returns, and the record and the store that it leaves.
 pub struct Step {
@@ -69,6 +71,41 @@ pub fn wait(connection: Connection, bytes: &[u8], count: usize) -> StepChange
         answer,
     };
     let change = no_change();
+    StepChange {
+        outcome,
+        session,
+        change,
+    }
+}
+
+// The reply goes to the front of the room, if both have room for it.
+fn put_reply(room: &mut [u8], reply: Reply)
+    ensures { λ _. ⌜ now (room .exit) ≡ replied reply (now (room .entry)) ⌝ }
+{
+    let n = reply.len;
+    let text = reply.bytes;
+    if 12 < n {
+        return;
+    }
+    wire::buffer::put_bytes(room, 0, &text[..n]);
+}
+
+// A settled message is answered; its reply stands at the front of the room.
+pub fn give(settled: Settled, count: usize, reply: &mut [u8]) -> StepChange
+    ensures result { λ r. ⌜ r ≡ gives count settled ⌝ }
+    ensures content { λ _. ⌜ now (reply .exit) ≡ replied (settled .reply) (now (reply .entry)) ⌝ }
+{
+    let written = settled.reply;
+    put_reply(reply, written);
+    let next = settled.connection;
+    let session = record_with(next, b"");
+    let given = settled.answer;
+    let outcome = Outcome {
+        taken: count,
+        reply_len: written.len,
+        answer: given,
+    };
+    let change = settled.change;
     StepChange {
         outcome,
         session,
