@@ -16,7 +16,7 @@ ghost use mathlib.Core.Path.{_≡_};
 ghost use Rattle.session.specs.Answers.{replyOf};
 ghost use Rattle.message.specs.Effects.{acknowledge};
 ghost use Rattle.message.specs.OnStores.{commitAtOn};
-ghost use Rattle.message.specs.Settled.{SettlesAll, Finishes};
+ghost use Rattle.message.specs.Settled.{SettlesAll};
 ghost use Rattle.message.specs.Targets.{lookedUp, goesTo, targetOf, FinishesAt};
 
 // The acknowledgement of an update: class 10, type 133, the length of its body, the table's bound ID and the update's ID.
@@ -129,13 +129,4 @@ pub fn finish_at(connection: Connection, place: Place, asked: Asked) -> Settled
     let entry = asked.entry;
     let how = target.how;
     commit_at(connection, asked.id, entry, target.place, how)
-}
-
-// What was asked is done: where an entry is committed, it goes to the place of its key, else to the lowest free place.
-pub fn finish(connection: Connection, entries: [Entry; ENTRIES], asked: Asked) -> Settled
-    ensures { λ r. ⌜ Finishes connection entries asked r ⌝ }
-{
-    let entry = asked.entry;
-    let place = place_of(entries, entry);
-    finish_at(connection, place, asked)
 }

@@ -5,4 +5,3 @@ pub mod keys;
 pub mod marks;
 pub mod names;
 pub mod table;
-pub mod whole;

@@ -1,7 +1,9 @@
-// Soundness of one table, and of all.
+// Soundness of one table, and of all tables together.
 ghost use mathlib.Core.Path.{_≡_};
-ghost use Rattle.lists.specs.Lists.{allOf, every};
-ghost use Rattle.store.specs.Sound.{tableTests, soundTable};
+ghost use mathlib.Core.Bool.{_&&_};
+ghost use Rattle.lists.specs.Lists.{allOf, every, distinct};
+ghost use Rattle.store.specs.Sound.{tableTests, soundTable, sameName};
+use crate::names::names_distinct;
 use store::NAME_MAX;
 use store::TABLES;
 use store::Table;
@@ -56,4 +58,14 @@ pub fn sound_tables(tables: [Table; TABLES]) -> bool
         i += 1;
     }
     true
+}
+
+// Whether each table is sound, and no two have one name.
+pub fn tables_ok(tables: [Table; TABLES]) -> bool
+    ensures { λ r. ⌜ r ≡ (every soundTable tables && distinct sameName tables) ⌝ }
+{
+    if !sound_tables(tables) {
+        return false;
+    }
+    names_distinct(tables)
 }

@@ -1,6 +1,6 @@
 use Rattle.session_soundness.proofs.Testing.{sounding}
-use Rattle.session_soundness.proofs.whole.session_ok.Statement.{statement}
-use Rattle.session_soundness.proofs.whole.session_ok.Tie as tie
+use Rattle.session_soundness.proofs.session_ok.Statement.{statement}
+use Rattle.session_soundness.proofs.session_ok.Tie as tie
 
 is-refused-opening-requires : tie.Need-is-refused-opening-requires
 is-refused-opening-requires c κs = search sounding
