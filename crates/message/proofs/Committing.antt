@@ -6,10 +6,8 @@ use mathlib.Core.List.{List}
 use lib.ListN.{length, take, drop, getD, List·getD-eq-default}
 use lib.IntN.{ℤ}
 use borrow.Author.Needs.{needs}
-use Rattle.lists.proofs.Cases.{never}
 use Rattle.store.specs.declared.Entry.{Entry}
-use Rattle.store.specs.declared.Store.{Store}
-use Rattle.store.specs.Store.{findEntry, makeEntry}
+use Rattle.store.specs.Store.{makeEntry}
 use Rattle.session.specs.declared.Binding.{Binding}
 use Rattle.session.specs.declared.Connection.{Connection}
 use Rattle.session.specs.declared.Reply.{Reply}
@@ -26,10 +24,10 @@ use Rattle.body.specs.Bodies.{Update}
 use Rattle.body.specs.Results.{readAs}
 use Rattle.message.specs.declared.Change.{Change}
 use Rattle.message.specs.declared.Asked.{Asked}
-use Rattle.message.specs.Effects.{fieldsThen, acknowledge, commitAt, commitUpdate, updatedEntry, withFields}
-use Rattle.message.specs.OnStores.{refuseOn, commitAtOn, withFieldsOn}
-use Rattle.message.specs.Settled.{entryChange, SettlesAll, AsksAll, asksCommit, updateRead}
-use Rattle.message.proofs.Settling.{settled, entry-changed, asks-as}
+use Rattle.message.specs.Changes.{entryChange}
+use Rattle.message.specs.Effects.{Asks, fieldsThen, refusal, acknowledge, commitAt, updatedEntry, withFields}
+use Rattle.message.specs.Structs.{effectStruct, asksCommit, asked, updateRead}
+use Rattle.message.proofs.Settling.{struct}
 
 -- ---- the binding at a place
 module _ (bs : List Binding) (place : ℕ) where
@@ -46,18 +44,9 @@ pub ruleset knowing = (needs, length-mapped, past-bindings, binding-there)
 -- ---- the entry put at a place
 pub commits : (c : Connection) (id : ℕ) (e : Entry) (place : ℕ) (how : Commit) (k : Connection) (d : Change) (b : Binding) (r : Reply)
     → k ≡ committed c (e .table) id → d ≡ entryChange place e → b ≡ getD (c .bindings) (e .table) noBinding → r ≡ replyOf (acknowledge (b .id) id)
-    → SettlesAll (commitAtOn c id e place how) (settled (answer.Update (e .table) id place how) r k d)
-unfolding commitAtOn commitAt bindingAt
-commits c id e place how k d b r p q h z =
-    record {
-      on = λ s.
-          record {
-            answer = refl;
-            reply = z ∙ ap (λ (w : Binding). replyOf (acknowledge (w .id) id)) h;
-            connection = p;
-            store = entry-changed s d place e q;
-          };
-    }
+    → struct (answer.Update (e .table) id place how) r k d ≡ effectStruct (commitAt c id e place how)
+unfolding effectStruct commitAt bindingAt
+commits c id e place how k d b r p q h z = rw (p, q, z, h)
 
 pub ruleset committing = (needs, commits)
 
@@ -69,47 +58,29 @@ module _ (c : Connection) (body : List ℕ) (table : ℕ) (r : UpdateBody) where
       how
       (record { id = r .id; key = record { start = r .«key_at»; len = r .«key_len» }; server = r .«server_id»; values = r .values })
 
-  by-reading : (s : Store) (how : Reading) → r .reading ≡ how → withFields c s body table (updateRead r) ≡ withFields c s body table (read how)
+  by-reading : (how : Reading) → r .reading ≡ how → withFields c body table (updateRead r) ≡ withFields c body table (read how)
   unfolding updateRead
-  by-reading s how e = ap (λ (h : Reading). withFields c s body table (read h)) e
+  by-reading how e = ap (λ (h : Reading). withFields c body table (read h)) e
 
   module _ (a : Asked) where
-    pub fields-short : r .reading ≡ reading.Short → AsksAll c (refuseOn c 23) a → AsksAll c (withFieldsOn c body table (updateRead r)) a
-    unfolding refuseOn withFieldsOn withFields fieldsThen readAs
-    fields-short e q = asks-as q (λ s. sym (by-reading s reading.Short e))
+    pub fields-short : r .reading ≡ reading.Short → a ≡ asked c (refusal c 23) → a ≡ asked c (withFields c body table (updateRead r))
+    unfolding withFields fieldsThen readAs
+    fields-short e q = q ∙ ap (asked c) (sym (by-reading reading.Short e))
 
-    pub fields-out : r .reading ≡ reading.OutOfRange → AsksAll c (refuseOn c 24) a → AsksAll c (withFieldsOn c body table (updateRead r)) a
-    unfolding refuseOn withFieldsOn withFields fieldsThen readAs
-    fields-out e q = asks-as q (λ s. sym (by-reading s reading.OutOfRange e))
+    pub fields-out : r .reading ≡ reading.OutOfRange → a ≡ asked c (refusal c 24) → a ≡ asked c (withFields c body table (updateRead r))
+    unfolding withFields fieldsThen readAs
+    fields-out e q = q ∙ ap (asked c) (sym (by-reading reading.OutOfRange e))
 
   -- the key's bytes, as the code lends them
   abbrev key : List ℕ
   key = take (r .«key_at» + r .«key_len» - r .«key_at») (drop (r .«key_at») body)
 
   -- a signed number is passed on as a word, and read from it
-  module _ (next : ℕ) (w : r .reading ≡ reading.Whole next) (server : ℤ) (z : server ≡ r .«server_id») where
-    abbrev made : Entry
-    made = makeEntry table key server (r .values)
-
-    by-entry : (s : Store) → withFields c s body table (updateRead r) ≡ commitUpdate c s table (r .id) made (findEntry s table key)
-    unfolding withFields fieldsThen readAs updatedEntry spanIn
-    by-entry s =
-        let n : r .«key_at» + r .«key_len» - r .«key_at» ≡ r .«key_len» = omega arith in
-        by-reading s (reading.Whole next) w ∙ sym (rw (z, n))
-
-    asks-made : AsksAll c (withFieldsOn c body table (updateRead r)) (asksCommit c (r .id) made)
-    unfolding withFieldsOn asksCommit makeEntry
-    asks-made =
-        record {
-          on = λ s.
-              record {
-                settles = λ f. never refl f;
-                commits = λ f. record { key = key; size = refl; bytes = refl; effect = by-entry s };
-              };
-        }
-
-    pub fields-whole : (e : Entry) (a : Asked) → e ≡ makeEntry table key server (r .values) → a ≡ asksCommit c (r .id) e
-        → AsksAll c (withFieldsOn c body table (updateRead r)) a
-    fields-whole e a p q = rw (q, p) asks-made
+  pub fields-whole : (next : ℕ) → r .reading ≡ reading.Whole next → (server : ℤ) → server ≡ r .«server_id» → (e : Entry) (a : Asked)
+      → e ≡ makeEntry table key server (r .values) → a ≡ asksCommit c (r .id) e → a ≡ asked c (withFields c body table (updateRead r))
+  unfolding withFields fieldsThen readAs updatedEntry spanIn asked
+  fields-whole next w server z e a p q =
+      let n : r .«key_at» + r .«key_len» - r .«key_at» ≡ r .«key_len» = omega arith in
+      q ∙ (rw (p, z, n) refl ∙ ap (asked c) (sym (by-reading (reading.Whole next) w)))
 
 pub ruleset reading-fields = (needs, fields-short, fields-out, fields-whole)

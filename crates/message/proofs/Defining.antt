@@ -16,8 +16,7 @@ use Rattle.lists.specs.Lists.{firstPlace}
 use Rattle.lists.proofs.Cases.{cond-true, cond-false, and-true, and-false}
 use Rattle.lists.proofs.Every.{getD-any}
 use Rattle.store.specs.declared.Table.{Table}
-use Rattle.store.specs.declared.Store.{Store}
-use Rattle.store.specs.Store.{tableFree, tableNamed, findTable, freeTable, makeTable, noTable}
+use Rattle.store.specs.Store.{tableFree, tableNamed, makeTable, noTable}
 use Rattle.store.proofs.Typed.{length-mapped}
 use Rattle.session.specs.declared.Connection.{Connection}
 use Rattle.session.specs.declared.Reply.{Reply}
@@ -32,11 +31,11 @@ use Rattle.body.specs.Results.{definitionBody}
 use Rattle.body.proofs.Within.{definition-within}
 use Rattle.body.proofs.Given.{definitionIn, definition-whole, definition-short, definition-out}
 use Rattle.message.specs.declared.Change.{Change}
-use Rattle.message.specs.declared.Settled.{Settled}
-use Rattle.message.specs.Effects.{fieldsThen, definedTable, defineAt, defineNew, agrees, defineNamed, definition}
-use Rattle.message.specs.OnStores.{refuseOn, defineAtOn, defineNewOn, defineNamedOn, definitionOn}
-use Rattle.message.specs.Settled.{tableChange, SettlesAll, SettlesWith}
-use Rattle.message.proofs.Settling.{settled, table-changed, all-with, with-as}
+use Rattle.message.specs.declared.Effect.{Effect as EffectStruct}
+use Rattle.message.specs.Effects.{refuse, fieldsThen, definedTable, defineAt, defineNew, agrees, defineNamed, definition}
+use Rattle.message.specs.Changes.{tableChange}
+use Rattle.message.specs.Structs.{effectStruct}
+use Rattle.message.proofs.Settling.{struct}
 
 -- ---- the table at a place
 -- what a read past the end gives
@@ -73,47 +72,41 @@ pub ruleset agreeing = (needs, type-differs, length-differs, types-decide)
 -- ---- the table put, at a place or at the lowest free one
 module _ (c : Connection) (id : ℕ) (t : Table) where
   pub defines : (place : ℕ) (r : Reply) (k : Connection) (d : Change) → k ≡ bind c place id → r ≡ replyOf [] → d ≡ tableChange place t
-      → SettlesAll (defineAtOn c id t place) (settled (answer.Table place) r k d)
-  unfolding defineAtOn defineAt
-  defines place r k d p q z = record { on = λ s. record { answer = refl; reply = q; connection = p; store = table-changed s d place t z } }
+      → struct (answer.Table place) r k d ≡ effectStruct (defineAt c id t place)
+  unfolding effectStruct defineAt
+  defines place r k d p q z = rw (p, q, z)
 
-  module _ (tables : List Table) (f : Found) (x : Settled) where
+  module _ (tables : List Table) (f : Found) (x : EffectStruct) where
     module _ (p : f ≡ firstPlace tableFree tables) where
-      free-is : (s : Store) → s .tables ≡ tables → freeTable s ≡ f
-      unfolding freeTable
-      free-is s h = ap (firstPlace tableFree) h ∙ sym p
+      pub free-place : (place : ℕ) → f ≡ found.At place → x ≡ effectStruct (defineAt c id t place)
+          → x ≡ effectStruct (defineNew c id t (firstPlace tableFree tables))
+      unfolding defineNew
+      free-place place e q = rw (← p, e) q
 
-      pub free-place : (place : ℕ) → f ≡ found.At place → SettlesAll (defineAtOn c id t place) x
-          → SettlesWith tables (defineNewOn c id t) x
-      unfolding defineAtOn defineNewOn defineNew
-      free-place place e q = all-with q (λ s h. rw (free-is s h, e))
-
-      pub all-held : f ≡ found.Nothing → SettlesAll (refuseOn c 26) x → SettlesWith tables (defineNewOn c id t) x
-      unfolding refuseOn defineNewOn defineNew
-      all-held e q = all-with q (λ s h. rw (free-is s h, e))
+      pub all-held : f ≡ found.Nothing → x ≡ effectStruct (refuse c 26) → x ≡ effectStruct (defineNew c id t (firstPlace tableFree tables))
+      unfolding defineNew
+      all-held e q = rw (← p, e) q
 
     -- ---- where f is the place of the table held under the name, and a says whether it agrees
     module _ (name : List ℕ) (p : f ≡ firstPlace (tableNamed name) tables) where
-      found-is : (s : Store) → s .tables ≡ tables → findTable s name ≡ f
-      unfolding findTable
-      found-is s h = ap (firstPlace (tableNamed name)) h ∙ sym p
-
       module _ (place : ℕ) (e : f ≡ found.At place) (u : Table) (v : u ≡ getD tables place noTable) (a : Bool) (g : a ≡ agrees u t) where
-        agreed : (s : Store) → s .tables ≡ tables → agrees (getD (s .tables) place noTable) t ≡ a
-        agreed s h = ap (λ (ts : List Table). agrees (getD ts place noTable) t) h ∙ (sym (ap (λ (w : Table). agrees w t) v) ∙ sym g)
+        agreed : agrees (getD tables place noTable) t ≡ a
+        agreed = sym (ap (λ (w : Table). agrees w t) v) ∙ sym g
 
-        pub held-agrees : a ≡ true → SettlesAll (defineAtOn c id t place) x → SettlesWith tables (defineNamedOn c id t name) x
-        unfolding defineAtOn defineNamedOn defineNamed
-        held-agrees y q = all-with q (λ s h. sym (rw (found-is s h, e) (cond-true _ _ _ (agreed s h ∙ y))))
+        pub held-agrees : a ≡ true → x ≡ effectStruct (defineAt c id t place)
+            → x ≡ effectStruct (defineNamed c tables id t (firstPlace (tableNamed name) tables))
+        unfolding defineNamed
+        held-agrees y q = rw (← p, e) (q ∙ ap effectStruct (sym (cond-true _ _ _ (agreed ∙ y))))
 
-        pub held-disagrees : a ≡ false → SettlesAll (refuseOn c 25) x → SettlesWith tables (defineNamedOn c id t name) x
-        unfolding refuseOn defineNamedOn defineNamed
-        held-disagrees y q = all-with q (λ s h. sym (rw (found-is s h, e) (cond-false _ _ _ (agreed s h ∙ y))))
+        pub held-disagrees : a ≡ false → x ≡ effectStruct (refuse c 25)
+            → x ≡ effectStruct (defineNamed c tables id t (firstPlace (tableNamed name) tables))
+        unfolding defineNamed
+        held-disagrees y q = rw (← p, e) (q ∙ ap effectStruct (sym (cond-false _ _ _ (agreed ∙ y))))
 
-      pub not-held : f ≡ found.Nothing → SettlesWith tables (defineNewOn c id t) x
-          → SettlesWith tables (defineNamedOn c id t name) x
-      unfolding defineNewOn defineNamedOn defineNamed
-      not-held e q = with-as q (λ s h. rw (found-is s h, e))
+      pub not-held : f ≡ found.Nothing → x ≡ effectStruct (defineNew c id t (firstPlace tableFree tables))
+          → x ≡ effectStruct (defineNamed c tables id t (firstPlace (tableNamed name) tables))
+      unfolding defineNamed
+      not-held e q = rw (← p, e) q
 
 pub ruleset defining = (needs, defines, free-place, all-held, held-agrees, held-disagrees, not-held)
 
@@ -125,14 +118,14 @@ module _ (body : List ℕ) (d : DefinitionBody) (p : d ≡ definitionBody (defin
   pub name-fits : (next : ℕ) → d .reading ≡ reading.Whole next → length body < 2 ^ 64 → Fits w64 (d .«name_at» + d .«name_len»)
   name-fits next w h = record { fits = omega (arith, name-inside next w) }
 
-  module _ (c : Connection) (tables : List Table) (x : Settled) where
-    pub fields-short : d .reading ≡ reading.Short → SettlesAll (refuseOn c 23) x → SettlesWith tables (definitionOn c body) x
-    unfolding refuseOn definitionOn definition fieldsThen
-    fields-short w q = all-with q (λ s h. rw (definition-short (definitionFields body) d p w))
+  module _ (c : Connection) (tables : List Table) (x : EffectStruct) where
+    pub fields-short : d .reading ≡ reading.Short → x ≡ effectStruct (refuse c 23) → x ≡ effectStruct (definition c tables body)
+    unfolding definition fieldsThen
+    fields-short w q = rw (definition-short (definitionFields body) d p w) q
 
-    pub fields-out : d .reading ≡ reading.OutOfRange → SettlesAll (refuseOn c 24) x → SettlesWith tables (definitionOn c body) x
-    unfolding refuseOn definitionOn definition fieldsThen
-    fields-out w q = all-with q (λ s h. rw (definition-out (definitionFields body) d p w))
+    pub fields-out : d .reading ≡ reading.OutOfRange → x ≡ effectStruct (refuse c 24) → x ≡ effectStruct (definition c tables body)
+    unfolding definition fieldsThen
+    fields-out w q = rw (definition-out (definitionFields body) d p w) q
 
     -- the name's bytes, as the code lends them
     abbrev name : List ℕ
@@ -148,11 +141,11 @@ module _ (body : List ℕ) (d : DefinitionBody) (p : d ≡ definitionBody (defin
           expiry = d .expiry;
           periods = d .periods;
         })
-        → SettlesWith tables (defineNamedOn c (d .id) t name) x
-        → SettlesWith tables (definitionOn c body) x
-    unfolding defineNamedOn definitionOn definition fieldsThen definedTable spanIn
+        → x ≡ effectStruct (defineNamed c tables (d .id) t (firstPlace (tableNamed name) tables))
+        → x ≡ effectStruct (definition c tables body)
+    unfolding definition fieldsThen definedTable spanIn
     fields-whole next t w e q =
         let n : d .«name_at» + d .«name_len» - d .«name_at» ≡ d .«name_len» = omega arith in
-        with-as q (λ s h. rw (definition-whole (definitionFields body) d p next w, e, n))
+        q ∙ sym (rw (definition-whole (definitionFields body) d p next w, e, n) refl)
 
 pub ruleset reading-definition = (needs, name-inside, name-fits, fields-short, fields-out, fields-whole)

@@ -7,21 +7,19 @@ use mathlib.Core.Bool.{Bool, true, false, cond, true≢false}
 use lib.ListN.{getD}
 use lib.Dec.{eqb}
 use borrow.Author.Tests.{eqb-true}
-use Rattle.lists.specs.declared.Found.{Found}
 use Rattle.lists.proofs.Cases.{by-test}
 use Rattle.store.specs.declared.Table.{Table}
-use Rattle.store.specs.declared.Store.{Store}
-use Rattle.store.specs.Store.{findTable, findEntry, noTable}
+use Rattle.store.specs.Store.{noTable}
 use Rattle.session.specs.declared.Connection.{Connection}
 use Rattle.session.specs.declared.Answer.{Answer}
 use Rattle.session.specs.declared.Answer.the-variants as answer
-use Rattle.session.specs.Session.{findBound, bindingAt, isUpdated}
+use Rattle.session.specs.Session.{bindingAt, isUpdated}
 use Rattle.body.specs.Fields.{Read, got, short, outside, spanIn}
 use Rattle.body.specs.Bodies.{Definition, definitionFields, switchFields, Acknowledged, acknowledgementFields, Update, updateFields, incrementalFields}
 use Rattle.body.proofs.Behind.{definition-behind, update-behind, incremental-behind, switch-behind, acknowledgement-behind}
 use Rattle.body.proofs.Spans.{span-behind}
 use Rattle.body.proofs.Within.{definition-within, update-within, incremental-within}
-use Rattle.message.specs.Effects.{Effect, refuse, fieldsThen, definedTable, defineNamed, definition, switchTo, switch, acknowledgement, updatedEntry, commitUpdate, withFields, followingId, incrementalOf, update, incremental, stickTable}
+use Rattle.message.specs.Effects.{Effect, Asks, does, commits, refuse, refusal, fieldsThen, definedTable, definition, switch, acknowledgement, updatedEntry, withFields, followingId, incrementalOf, update, incremental, stickTable}
 
 -- an answer that is no refusal
 abbrev pub isAccepted : Answer → Bool
@@ -44,51 +42,62 @@ isAccepted (answer.Refused n) = false
 abbrev pub Accepted : Effect → Type 0
 Accepted e = isAccepted (e .answer) ≡ true
 
-module _ (c : Connection) (s : Store) where
-  refused-not : (n : ℕ) → Accepted (refuse c s n) → ⊥
+-- of an update, that its fields were read
+abbrev pub AcceptedAsk : Asks → Type 0
+AcceptedAsk (does e) = Accepted e
+AcceptedAsk (commits id e) = Unit {0}
+
+module _ (c : Connection) (tables : List Table) where
+  refused-not : (n : ℕ) → Accepted (refuse c n) → ⊥
   unfolding refuse
   refused-not n a = true≢false (sym a)
 
   -- the same fields, and what they do
-  fields-same : {A : Type 0} (x y : Read A) (f g : A → Effect) → Accepted (fieldsThen c s x f)
-      → ((a : A) (n : ℕ) → x ≡ got a n → (y ≡ got a n) × (g a ≡ f a)) → fieldsThen c s y g ≡ fieldsThen c s x f
-  unfolding fieldsThen
-  fields-same {A} (got a n) y f g k h = let w = h a n refl in ap (λ (r : Read A). fieldsThen c s r g) (w .0) ∙ w .1
-  fields-same short y f g k h = absurd (refused-not 23 k)
-  fields-same outside y f g k h = absurd (refused-not 24 k)
+  module _ {A X : Type 0} (P : X → Type 0) (refused : ℕ → X) (no : (n : ℕ) → P (refused n) → ⊥) where
+    fields-same : (x y : Read A) (f g : A → X) → P (fieldsThen refused x f) → ((a : A) (n : ℕ) → x ≡ got a n → (y ≡ got a n) × (g a ≡ f a))
+        → fieldsThen refused y g ≡ fieldsThen refused x f
+    unfolding fieldsThen
+    fields-same (got a n) y f g k h = let w = h a n refl in ap (λ (r : Read A). fieldsThen refused r g) (w .0) ∙ w .1
+    fields-same short y f g k h = absurd (no 23 k)
+    fields-same outside y f g k h = absurd (no 24 k)
+
+  refusal-not : (n : ℕ) → AcceptedAsk (refusal c n) → ⊥
+  unfolding refusal
+  refusal-not = refused-not
 
   module _ (body more : List ℕ) where
-    switch-same : Accepted (switch c s body) → switch c s (body ++ more) ≡ switch c s body
+    switch-same : Accepted (switch c body) → switch c (body ++ more) ≡ switch c body
     unfolding switch
     switch-same k =
-        fields-same (switchFields body) (switchFields (body ++ more)) _ _ k (λ id n e. (switch-behind body more id n e, refl))
+        fields-same Accepted (refuse c) refused-not (switchFields body) (switchFields (body ++ more)) _ _ k (λ id n e. (switch-behind body more id n e, refl))
 
-    acknowledgement-same : Accepted (acknowledgement c s body) → acknowledgement c s (body ++ more) ≡ acknowledgement c s body
+    acknowledgement-same : Accepted (acknowledgement c body) → acknowledgement c (body ++ more) ≡ acknowledgement c body
     unfolding acknowledgement
     acknowledgement-same k =
-        fields-same (acknowledgementFields body) (acknowledgementFields (body ++ more)) _ _ k (λ a n e. (acknowledgement-behind body more a n e, refl))
+        fields-same Accepted (refuse c) refused-not (acknowledgementFields body) (acknowledgementFields (body ++ more)) _ _ k
+        (λ a n e. (acknowledgement-behind body more a n e, refl))
 
     -- a definition that has its expiry
-    definition-same : Accepted (definition c s body) → ((d : Definition) (n : ℕ) → definitionFields body ≡ got d n → d .times .timed ≡ 1)
-        → definition c s (body ++ more) ≡ definition c s body
+    definition-same : Accepted (definition c tables body) → ((d : Definition) (n : ℕ) → definitionFields body ≡ got d n → d .times .timed ≡ 1)
+        → definition c tables (body ++ more) ≡ definition c tables body
     unfolding definition definedTable
     definition-same k timed =
-        fields-same (definitionFields body) (definitionFields (body ++ more)) _ _ k
+        fields-same Accepted (refuse c) refused-not (definitionFields body) (definitionFields (body ++ more)) _ _ k
         (λ d n e.
         let w = span-behind body (d .name) (definition-within body d n e .0 .nameEnd) more in
         (definition-behind body more d n (timed d n e) e, rw w refl))
 
     -- an update of the current table
-    with-same : (table : ℕ) (x y : Read Update) → Accepted (withFields c s body table x)
+    with-same : (table : ℕ) (x y : Read Update) → AcceptedAsk (withFields c body table x)
         → ((u : Update) (n : ℕ) → x ≡ got u n → (y ≡ got u n) × (spanIn (body ++ more) (u .key) ≡ spanIn body (u .key)))
-        → withFields c s (body ++ more) table y ≡ withFields c s body table x
+        → withFields c (body ++ more) table y ≡ withFields c body table x
     unfolding withFields updatedEntry
-    with-same table x y k h = fields-same x y _ _ k (λ u n e. let w = h u n e in (w .0, rw (w .1) refl))
+    with-same table x y k h = fields-same AcceptedAsk (refusal c) refusal-not x y _ _ k (λ u n e. let w = h u n e in (w .0, rw (w .1) refl))
 
-    update-same : Accepted (update c s body) → update c s (body ++ more) ≡ update c s body
+    update-same : AcceptedAsk (update c tables body) → update c tables (body ++ more) ≡ update c tables body
     unfolding update
     update-same k =
-        let t = getD (s .tables) (c .current - 1) noTable in
+        let t = getD tables (c .current - 1) noTable in
         by-test (eqb (c .current) 0)
         (λ z. rw z refl)
         (λ z.
@@ -97,11 +106,11 @@ module _ (c : Connection) (s : Store) where
         (with-same (c .current - 1) (updateFields t body) (updateFields t (body ++ more)) q
         (λ u n e. (update-behind t body more u n e, span-behind body (u .key) (update-within t body u n e .0 .keyEnd) more))))
 
-    incremental-same : Accepted (incremental c s body) → incremental c s (body ++ more) ≡ incremental c s body
+    incremental-same : AcceptedAsk (incremental c tables body) → incremental c tables (body ++ more) ≡ incremental c tables body
     unfolding incremental incrementalOf
     incremental-same k =
         let table = c .current - 1 in
-        let t = getD (s .tables) table noTable in
+        let t = getD tables table noTable in
         let id = followingId (bindingAt c table .previous) in
         by-test (eqb (c .current) 0)
         (λ z. rw z refl)
@@ -117,9 +126,9 @@ module _ (c : Connection) (s : Store) where
         (λ y. rw y refl)))
 
     -- every accepted message; a definition where it has its expiry
-    pub ignored-behind : (kind : ℕ) → Accepted (stickTable c s kind body)
+    pub ignored-behind : (kind : ℕ) → AcceptedAsk (stickTable c tables kind body)
         → (kind ≡ 130 → (d : Definition) (n : ℕ) → definitionFields body ≡ got d n → d .times .timed ≡ 1)
-        → stickTable c s kind (body ++ more) ≡ stickTable c s kind body
+        → stickTable c tables kind (body ++ more) ≡ stickTable c tables kind body
     unfolding stickTable
     ignored-behind kind k timed =
         by-test (eqb kind 128)
@@ -133,13 +142,13 @@ module _ (c : Connection) (s : Store) where
         let q = rw b at p in
         rw b
         (by-test (eqb kind 130)
-        (λ d. let r = rw d at q in rw d (definition-same r (timed (eqb-true kind 130 d))))
+        (λ d. let r = rw d at q in rw d (ap does (definition-same r (timed (eqb-true kind 130 d)))))
         (λ d.
         let r = rw d at q in
         rw d
         (by-test (eqb kind 131)
-        (λ e. let u = rw e at r in rw e (switch-same u))
+        (λ e. let u = rw e at r in rw e (ap does (switch-same u)))
         (λ e.
         let u = rw e at r in
         rw e
-        (by-test (eqb kind 133) (λ f. let v = rw f at u in rw f (acknowledgement-same v)) (λ f. rw f refl)))))))))
+        (by-test (eqb kind 133) (λ f. let v = rw f at u in rw f (ap does (acknowledgement-same v))) (λ f. rw f refl)))))))))

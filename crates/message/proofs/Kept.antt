@@ -12,6 +12,7 @@ use lib.Dec.{ltb, leb, eqb, lit<}
 use borrow.Author.Tests.{eqb-true, eq-eqb, ne-eqb, leb-true}
 use Rattle.lists.specs.declared.Found.{Found}
 use Rattle.lists.specs.declared.Found.the-variants as found
+use Rattle.lists.specs.Lists.{firstPlace}
 use Rattle.lists.proofs.Cases.{by-test, and-first, and-second, and-true, cond-true, cond-false, never, not-passed, eq-or-ne, lt-or-le}
 use Rattle.store.specs.declared.Definition.{Definition as Rules}
 use Rattle.store.specs.declared.Table.{Table}
@@ -19,6 +20,8 @@ use Rattle.store.specs.declared.Entry.{Entry}
 use Rattle.store.specs.declared.Store.{Store}
 use Rattle.store.specs.Limits.{keyKind, isKnown, isString, keyLengthOk, dataTypesOk, slotTypes}
 use Rattle.store.specs.Store.{tableHeld, entryHeld, tableFree, entryFree, nameOf, keyOf, tableNamed, entryKeyed, findTable, findEntry, freeTable, freeEntry, putTable, putEntry, makeTable, makeEntry, noTable, noEntry}
+use Rattle.store.specs.declared.entries.Place.{Place}
+use Rattle.store.specs.Places.{freeOf, placeOf}
 use Rattle.store.specs.Sound.{entryKeyLengthOk, slotsOk, valuesOk}
 use Rattle.store.specs.Shape.{Cells, TableShape, EntryShape, StoreShape}
 use Rattle.store.proofs.Rules.{key-length-most}
@@ -42,7 +45,10 @@ use Rattle.body.specs.Bodies.{Definition, definitionFields, Update}
 use Rattle.body.proofs.Spans.{span-length, span-bytes}
 use Rattle.body.proofs.Within.{definition-within, UpdateWithin}
 use Rattle.wire.specs.Value.{Bytes}
+use Rattle.message.specs.Changes.{noChange, tableChange, entryChange, changed}
+use Rattle.message.specs.Targets.{goesTo}
 use Rattle.message.specs.Effects
+use Rattle.message.proofs.commit.Targets.{goes-by-key}
 
 -- a known key type is below 256
 key-type-small : (n : ℕ) → isKnown (keyKind n) ≡ true → n < 2 ^ 8
@@ -82,6 +88,10 @@ module _ (table : ℕ) (key : List ℕ) (server : ℤ) (values : List ℕ) where
   made-entry-mark : makeEntry table key server values .held ≡ 1
   unfolding makeEntry
   made-entry-mark = refl
+
+  made-size : length key ≤ 64 → makeEntry table key server values .«key_len» ≤ 64
+  unfolding makeEntry
+  made-size l = l
 
   made-entry-table : makeEntry table key server values .table ≡ table
   unfolding makeEntry
@@ -125,8 +135,9 @@ pub record Held (c : Connection) (s : Store) : Type 0 where
   pub connection : SoundConnection (s .tables) c
   pub connectionShape : ConnectionShape c
 
-abbrev pub Kept : Effects.Effect → Type 0
-Kept e = Held (e .connection) (e .store)
+-- of what a message does on a store
+abbrev pub Kept : Store → Effects.Effect → Type 0
+Kept s e = Held (e .connection) (changed s (e .change))
 
 module _ (c : Connection) (s : Store) (h : Held c s) where
   pub close-kept : (n : ℕ) → isClosing n ≡ true → n < 2 ^ 8 → Held (closedWith c n) s
@@ -137,17 +148,21 @@ module _ (c : Connection) (s : Store) (h : Held c s) where
     connectionShape = closed-shape (h .connectionShape) l;
   }
 
-  pub refuse-kept : (n : ℕ) → isClosing n ≡ true → n < 2 ^ 8 → Kept (Effects.refuse c s n)
+  stays-kept : {d : Connection} → Held d s → Held d (changed s noChange)
+  unfolding changed noChange
+  stays-kept g = g
+
+  pub refuse-kept : (n : ℕ) → isClosing n ≡ true → n < 2 ^ 8 → Kept s (Effects.refuse c n)
   unfolding Effects.refuse
-  refuse-kept = close-kept
+  refuse-kept n k l = stays-kept (close-kept n k l)
 
-  pub error-kept : (type : ℕ) → Kept (Effects.peerError c s type)
-  unfolding Effects.peerError
-  error-kept type = close-kept 0 closing-0 (lit< tt)
+  pub error-kept : (type : ℕ) → Kept s (Effects.peerError c type)
+  unfolding Effects.peerError Effects.note
+  error-kept type = stays-kept (close-kept 0 closing-0 (lit< tt))
 
-  pub note-kept : (a : Answer) (reply : List ℕ) → Kept (Effects.note c s a reply)
+  pub note-kept : (a : Answer) (reply : List ℕ) → Kept s (Effects.note c a reply)
   unfolding Effects.note
-  note-kept a reply = h
+  note-kept a reply = stays-kept h
 
   -- ---- a switch
 
@@ -161,9 +176,9 @@ module _ (c : Connection) (s : Store) (h : Held c s) where
         connectionShape = current-shape (h .connectionShape) p;
       }
 
-  pub switch-kept : (id : ℕ) (f : Found) → findBound c id ≡ f → Kept (Effects.switchTo c s f)
+  pub switch-kept : (id : ℕ) (f : Found) → findBound c id ≡ f → Kept s (Effects.switchTo c f)
   unfolding Effects.switchTo Effects.note
-  switch-kept id (found.At p) e = switch-at id p e
+  switch-kept id (found.At p) e = stays-kept (switch-at id p e)
   switch-kept id found.Nothing e = refuse-kept 27 closing-27 (lit< tt)
 
   -- ---- a definition
@@ -199,8 +214,8 @@ module _ (c : Connection) (s : Store) (h : Held c s) where
     define-at : (place : ℕ) → place < 8
         → ((q : ℕ) → q < length (s .tables) → (q ≡ place → ⊥) → tableNamed name (getD (s .tables) q noTable) ≡ false)
         → (tableHeld (getD (s .tables) place noTable) ≡ false) ⊎ Agrees (getD (s .tables) place noTable) t
-        → Kept (Effects.defineAt c s id t place)
-    unfolding Effects.defineAt
+        → Kept s (Effects.defineAt c id t place)
+    unfolding Effects.defineAt changed tableChange
     define-at place l other keeps = record {
       store =
           put-table-facts s (h .storeShape) (h .store) place t l
@@ -216,27 +231,27 @@ module _ (c : Connection) (s : Store) (h : Held c s) where
       connectionShape = bind-shape (h .connectionShape) place idFits;
     }
 
-    define-new : (f : Found) → freeTable s ≡ f → findTable s name ≡ found.Nothing → Kept (Effects.defineNew c s id t f)
-    unfolding Effects.defineNew
+    define-new : (f : Found) → firstPlace tableFree (s .tables) ≡ f → findTable s name ≡ found.Nothing → Kept s (Effects.defineNew c id t f)
+    unfolding Effects.defineNew freeTable
     define-new (found.At p) e n =
         let k = table-place s p e in
         define-at p (omega (arith, k .inside, h .storeShape .tables)) (λ q m z. table-missing s name n q noTable m)
         (inl (free-not-held (getD (s .tables) p noTable) (k .passes noTable)))
     define-new found.Nothing e n = refuse-kept 26 closing-26 (lit< tt)
 
-    pub define-kept : (f : Found) → findTable s name ≡ f → Kept (Effects.defineNamed c s id t f)
+    pub define-kept : (f : Found) → findTable s name ≡ f → Kept s (Effects.defineNamed c (s .tables) id t f)
     unfolding Effects.defineNamed
     define-kept (found.At p) e =
         let k = table-found s name p e in
         by-test (Effects.agrees (getD (s .tables) p noTable) t)
         (λ a. rw a (define-at p (omega (arith, k .inside, h .storeShape .tables)) (only-table s name p (h .store) e) (inr (agreed (getD (s .tables) p noTable) a))))
         (λ a. rw a (refuse-kept 25 closing-25 (lit< tt)))
-    define-kept found.Nothing e = define-new (freeTable s) refl e
+    define-kept found.Nothing e = define-new (firstPlace tableFree (s .tables)) refl e
 
   -- the table that a definition describes
   pub definition-kept : (body : List ℕ) (d : Definition) (next : ℕ) → Bytes body → definitionFields body ≡ got d next
-      → Kept (Effects.defineNamed c s (d .id) (Effects.definedTable body d) (findTable s (spanIn body (d .name))))
-  unfolding Effects.definedTable
+      → Kept s (Effects.defineNamed c (s .tables) (d .id) (Effects.definedTable body d) (firstPlace (tableNamed (spanIn body (d .name))) (s .tables)))
+  unfolding Effects.definedTable findTable
   definition-kept body d next bytes e =
       let w = definition-within body d next e .0 in
       let name = spanIn body (d .name) in
@@ -268,16 +283,16 @@ module _ (c : Connection) (s : Store) (h : Held c s) where
   -- an entry by the rules, under an update ID
   module _ (table id : ℕ) (key : List ℕ) (e : Entry) (idFits : id < 2 ^ 32) (now : c .current ≡ table + 1) (mark : e .held ≡ 1)
       (facts : EntryFacts (s .tables) e) (shape : EntryShape e) (e-table : e .table ≡ table) (e-key : keyOf e ≡ key) where
-    commit-connection : (place : ℕ) → SoundConnection (putEntry s place e .tables) (committed c table id)
-    unfolding putEntry
-    commit-connection place =
+    commit-connection : SoundConnection (s .tables) (committed c table id)
+    commit-connection =
         let l = h .connection .currentLimit in
         commit-keeps (h .connection) table id (omega (arith, h .connectionShape .places)) (h .connection .currentHeld table now)
 
+    -- no entry at another place has the key
     commit-at : (place : ℕ) (how : Commit)
         → ((q : ℕ) → q < length (s .entries) → (q ≡ place → ⊥) → entryKeyed table key (getD (s .entries) q noEntry) ≡ false)
-        → Kept (Effects.commitAt c s table id e place how)
-    unfolding Effects.commitAt
+        → Kept s (Effects.commitAt c id e place how)
+    unfolding Effects.commitAt changed entryChange putEntry
     commit-at place how other = record {
       store =
           put-entry-facts s (h .storeShape) (h .store) place e
@@ -290,25 +305,24 @@ module _ (c : Connection) (s : Store) (h : Held c s) where
                 ∙ (ap (λ (x : ℕ). entryKeyed x key (getD (s .entries) q noEntry)) e-table ∙ other q m n);
           });
       storeShape = put-entry-shape s place e (h .storeShape) shape;
-      connection = commit-connection place;
-      connectionShape = commit-shape (h .connectionShape) table idFits;
+      connection = subst (λ (n : ℕ). SoundConnection (s .tables) (committed c n id)) (sym e-table) commit-connection;
+      connectionShape = subst (λ (n : ℕ). ConnectionShape (committed c n id)) (sym e-table) (commit-shape (h .connectionShape) table idFits);
     }
 
-    commit-new : (f : Found) → findEntry s table key ≡ found.Nothing → Kept (Effects.commitNew c s table id e f)
-    unfolding Effects.commitNew
-    commit-new (found.At p) n = commit-at p commit.New (λ q m z. entry-missing s table key n q noEntry m)
-    commit-new found.Nothing n = refuse-kept 29 closing-29 (lit< tt)
-
-    pub commit-kept : (f : Found) → findEntry s table key ≡ f → Kept (Effects.commitUpdate c s table id e f)
-    unfolding Effects.commitUpdate
+    pub commit-kept : (f : Found) → findEntry s table key ≡ f → Kept s (Effects.commitTo c id e (placeOf f (firstPlace entryFree (s .entries))))
+    unfolding Effects.commitTo placeOf freeOf
     commit-kept (found.At p) q = commit-at p commit.Replaced (only-entry s table key p (h .store) q)
-    commit-kept found.Nothing q = commit-new (freeEntry s) q
+    commit-kept found.Nothing q = commit-free (firstPlace entryFree (s .entries))
+      where
+        commit-free : (f : Found) → Kept s (Effects.commitTo c id e (placeOf found.Nothing f))
+        commit-free (found.At p) = commit-at p commit.New (λ r m z. entry-missing s table key q r noEntry m)
+        commit-free found.Nothing = refuse-kept 29 closing-29 (lit< tt)
 
   -- the entry that an update makes
   pub update-kept : (body : List ℕ) (table : ℕ) (u : Update) → Bytes body → c .current ≡ table + 1 → u .id < 2 ^ 32
       → UpdateWithin (getD (s .tables) table noTable) body u
-      → Kept (Effects.commitUpdate c s table (u .id) (Effects.updatedEntry body table u) (findEntry s table (spanIn body (u .key))))
-  unfolding Effects.updatedEntry
+      → Kept s (Effects.commitTo c (u .id) (Effects.updatedEntry body table u) (goesTo (s .entries) (Effects.updatedEntry body table u)))
+  unfolding Effects.updatedEntry findEntry
   update-kept body table u bytes now idFits w =
       let t = getD (s .tables) table noTable in
       let key = spanIn body (u .key) in
@@ -318,7 +332,12 @@ module _ (c : Connection) (s : Store) (h : Held c s) where
       let tf = h .store .table table (omega (arith, small, h .storeShape .tables)) held in
       let most = key-length-most (t .«key_type») (t .«key_len») (tf .keyLength) in
       let short : length key ≤ 64 = omega (arith, key-at-most t (u .key .len) (w .keyLength)) in
-      commit-kept table (u .id) key (makeEntry table key (u .server) (u .values)) idFits now (made-entry-mark table key (u .server) (u .values))
+      let made = makeEntry table key (u .server) (u .values) in
+      let size : made .«key_len» ≤ 64 = made-size table key (u .server) (u .values) short in
+      let table-is = made-entry-table table key (u .server) (u .values) in
+      let key-is = made-key table key (u .server) (u .values) short in
+      subst (λ (f : Place). Kept s (Effects.commitTo c (u .id) made f)) (sym (goes-by-key (s .entries) made table key size table-is key-is))
+      (commit-kept table (u .id) key made idFits now (made-entry-mark table key (u .server) (u .values))
       (made-entry-facts table key (u .server) (u .values) (s .tables) small held short (rw n (w .keyLength)) (w .slots))
       (made-entry-shape table key (u .server) (u .values) (omega arith) (omega arith) (span-bytes body (u .key) (w .keyEnd) bytes .byte) (w .server) (w .values))
-      (made-entry-table table key (u .server) (u .values)) (made-key table key (u .server) (u .values) short) (findEntry s table key) refl
+      table-is key-is (findEntry s table key) refl)

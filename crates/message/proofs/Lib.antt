@@ -6,4 +6,3 @@ pub mod Committing
 pub mod Updating
 pub mod Kept
 pub mod Ignored
-pub mod Refused

@@ -1,15 +1,15 @@
 -- What a message does, as the struct that the functions return: a law for each way to a result.
 use Prim.Native.Nat.{ℕ}
-use mathlib.Core.Path.{_≡_, refl, sym, subst, _∙_}
-use mathlib.Core.Bool.{true, false}
+use mathlib.Core.Path.{_≡_, refl, sym, ap, _∙_}
 use mathlib.Core.List.{List, []}
+use mathlib.Core.Bool.{true, false}
 use mir.Val.{Fits}
 use mir.Syntax.{w32}
 use borrow.Author.Needs.{needs}
 use borrow.Author.Tests.{eq-eqb, ne-eqb}
 use Rattle.lists.specs.declared.Found.{Found}
 use Rattle.lists.specs.declared.Found.the-variants as found
-use Rattle.lists.proofs.Cases.{never, cond-true, cond-false}
+use Rattle.lists.proofs.Cases.{cond-true, cond-false}
 use Rattle.wire.specs.declared.Field.{Field}
 use Rattle.wire.specs.declared.Field.the-variants as field
 use Rattle.store.specs.declared.Table.{Table}
@@ -29,14 +29,14 @@ use Rattle.body.specs.Results.{switchBody, acknowledgementBody}
 use Rattle.body.proofs.Within.{switch-within}
 use Rattle.body.proofs.Given.{switch-id, switch-short, switch-out, acknowledgement-fields, acknowledgement-short, acknowledgement-out}
 use Rattle.message.specs.declared.Change.{Change}
-use Rattle.message.specs.declared.Settled.{Settled}
+use Rattle.message.specs.declared.Effect.{Effect as EffectStruct}
 use Rattle.message.specs.declared.Asked.{Asked}
-use Rattle.message.specs.Effects.{Effect, note, refuse, fieldsThen, controlAnswer, controlReply, control, peerError, switchTo, switch, acknowledgement, skipped}
-use Rattle.message.specs.OnStores.{refuseOn, controlOn, peerErrorOn, switchToOn, switchOn, acknowledgementOn, skippedOn}
-use Rattle.message.specs.Settled.{noChange, tableChange, entryChange, changed, Settles, SettlesAll, SettlesWith, Asks, AsksAll, AsksWith, asksNothing, asksCommit}
+use Rattle.message.specs.Changes.{noChange, tableChange, entryChange, changed}
+use Rattle.message.specs.Effects.{Effect, note, refuse, refusal, fieldsThen, controlAnswer, controlReply, control, peerError, switchTo, switch, acknowledgement, skipped}
+use Rattle.message.specs.Structs.{effectStruct, asksNothing, asksCommit, asked}
 
-abbrev pub settled : Answer → Reply → Connection → Change → Settled
-settled a r c d = record { answer = a; reply = r; connection = c; change = d }
+abbrev pub struct : Answer → Reply → Connection → Change → EffectStruct
+struct a r c d = record { answer = a; reply = r; connection = c; change = d }
 
 -- ---- changes
 
@@ -81,131 +81,90 @@ module _ (s : Store) (d : Change) where
 
 pub ruleset changing = (needs, nothing-put, table-put, entry-put, puts-table, puts-entry, puts-nothing)
 
--- ---- an equal effect
+-- ---- what is asked before the entries are looked at
 
-module _ {f g : Store → Effect} {x : Settled} where
-  pub all-as : SettlesAll f x → ((s : Store) → f s ≡ g s) → SettlesAll g x
-  all-as h p = record { on = λ s. subst (λ (e : Effect). Settles s e x) (p s) (h .on s) }
-
-  module _ {tables : List Table} where
-    pub all-with : SettlesAll f x → ((s : Store) → s .tables ≡ tables → f s ≡ g s) → SettlesWith tables g x
-    all-with h p = record { on = λ s q. subst (λ (e : Effect). Settles s e x) (p s q) (h .on s) }
-
-    pub with-as : SettlesWith tables f x → ((s : Store) → s .tables ≡ tables → f s ≡ g s) → SettlesWith tables g x
-    with-as h p = record { on = λ s q. subst (λ (e : Effect). Settles s e x) (p s q) (h .on s q) }
-
-module _ {c : Connection} {f g : Store → Effect} {a : Asked} where
-  pub asks-as : AsksAll c f a → ((s : Store) → f s ≡ g s) → AsksAll c g a
-  asks-as h p = record { on = λ s. subst (λ (e : Effect). Asks c s e a) (p s) (h .on s) }
-
-  module _ {tables : List Table} where
-    pub asks-all-with : AsksAll c f a → ((s : Store) → s .tables ≡ tables → f s ≡ g s) → AsksWith c tables g a
-    asks-all-with h p = record { on = λ s q. subst (λ (e : Effect). Asks c s e a) (p s q) (h .on s) }
-
-    pub asks-with-as : AsksWith c tables f a → ((s : Store) → s .tables ≡ tables → f s ≡ g s) → AsksWith c tables g a
-    asks-with-as h p = record { on = λ s q. subst (λ (e : Effect). Asks c s e a) (p s q) (h .on s q) }
-
--- ---- what is settled before the entries are looked at
-
-nothing-asked : (c : Connection) (s : Store) (e : Effect) (x : Settled) → Settles s e x → Asks c s e (asksNothing x)
-unfolding asksNothing
-nothing-asked c s e x h = record { settles = λ z. h; commits = λ z. never z refl }
-
-module _ (c : Connection) {x : Settled} {a : Asked} (q : a ≡ asksNothing x) where
-  as-asked : (s : Store) (e : Effect) → Settles s e x → Asks c s e a
-  as-asked s e h = subst (λ (b : Asked). Asks c s e b) (sym q) (nothing-asked c s e x h)
-
-  pub asks-settled : {f : Store → Effect} → SettlesAll f x → AsksAll c f a
-  asks-settled {f} h = record { on = λ s. as-asked s (f s) (h .on s) }
-
-  pub asks-settled-with : {f : Store → Effect} {tables : List Table} → SettlesWith tables f x → AsksWith c tables f a
-  asks-settled-with {f} h = record { on = λ s e. as-asked s (f s) (h .on s e) }
-
-module _ (x : Settled) (e : Entry) where
-  pub asked-nothing : e ≡ noEntry → _≡_ {A = Asked} (record { settled = x; commits = false; id = 0; entry = e }) (asksNothing x)
+module _ (x : EffectStruct) (e : Entry) where
+  pub asked-nothing : e ≡ noEntry → _≡_ {A = Asked} (record { effect = x; commits = false; id = 0; entry = e }) (asksNothing x)
   unfolding asksNothing
   asked-nothing q = rw q
 
 pub asked-commit : (c : Connection) (id : ℕ) (e : Entry) (r : Reply) (d : Change) → r ≡ replyOf [] → d ≡ noChange
-    → _≡_ {A = Asked} (record { settled = settled answer.More r c d; commits = true; id = id; entry = e }) (asksCommit c id e)
-unfolding asksCommit
+    → _≡_ {A = Asked} (record { effect = struct answer.More r c d; commits = true; id = id; entry = e }) (asksCommit c id e)
+unfolding asksCommit effectStruct note
 asked-commit c id e r d p q = rw (p, q)
 
-pub ruleset asking = (needs, asked-nothing, asked-commit, asks-settled)
+pub asked-refusal : (c : Connection) (n : ℕ) (x : EffectStruct) (a : Asked) → x ≡ effectStruct (refuse c n) → a ≡ asksNothing x → a ≡ asked c (refusal c n)
+unfolding asked refusal
+asked-refusal c n x a p q = q ∙ ap asksNothing p
+
+pub ruleset asking = (needs, asked-nothing, asked-commit, asked-refusal)
 
 -- ---- messages that leave the store as it is
 
 module _ (c : Connection) (r : Reply) (d : Change) (z : d ≡ noChange) where
   pub refuses : (n : ℕ) (k : Connection) → k ≡ closedWith c n → r ≡ replyOf (refusalReply n)
-      → SettlesAll (refuseOn c n) (settled (answer.Refused n) r k d)
-  unfolding refuseOn refuse
-  refuses n k p q = record { on = λ s. record { answer = refl; reply = q; connection = p; store = nothing-changed s d z } }
+      → struct (answer.Refused n) r k d ≡ effectStruct (refuse c n)
+  unfolding effectStruct refuse
+  refuses n k p q = rw (p, q, z)
 
-  pub controls : (type : ℕ) (a : Answer) → a ≡ controlAnswer type → r ≡ replyOf (controlReply type)
-      → SettlesAll (controlOn c type) (settled a r c d)
-  unfolding controlOn control note
-  controls type a p q = record { on = λ s. record { answer = p; reply = q; connection = refl; store = nothing-changed s d z } }
+  pub controls : (type : ℕ) (a : Answer) → a ≡ controlAnswer type → r ≡ replyOf (controlReply type) → struct a r c d ≡ effectStruct (control c type)
+  unfolding effectStruct control note
+  controls type a p q = rw (p, q, z)
 
-  pub errs : (type : ℕ) (k : Connection) → k ≡ closedWith c 0 → r ≡ replyOf [] → SettlesAll (peerErrorOn c type) (settled (answer.Error type) r k d)
-  unfolding peerErrorOn peerError
-  errs type k p q = record { on = λ s. record { answer = refl; reply = q; connection = p; store = nothing-changed s d z } }
+  pub errs : (type : ℕ) (k : Connection) → k ≡ closedWith c 0 → r ≡ replyOf [] → struct (answer.Error type) r k d ≡ effectStruct (peerError c type)
+  unfolding effectStruct peerError note
+  errs type k p q = rw (p, q, z)
 
-  pub skips : (kind : ℕ) → r ≡ replyOf [] → SettlesAll (skippedOn c kind) (settled (answer.Skipped kind) r c d)
-  unfolding skippedOn skipped note
-  skips kind q = record { on = λ s. record { answer = refl; reply = q; connection = refl; store = nothing-changed s d z } }
+  pub skips : (kind : ℕ) → r ≡ replyOf [] → struct (answer.Skipped kind) r c d ≡ effectStruct (skipped c kind)
+  unfolding effectStruct skipped note
+  skips kind q = rw (q, z)
 
 pub ruleset settling = (needs, refuses, controls, errs, skips)
 
 -- ---- switch, where f is the place that was found
 module _ (c : Connection) (id : ℕ) (f : Found) (p : f ≡ findBound c id) where
   pub switches : (place : ℕ) (k : Connection) (r : Reply) (d : Change) → f ≡ found.At place → k ≡ makeCurrent c place → r ≡ replyOf [] → d ≡ noChange
-      → SettlesAll (switchToOn c id) (settled (answer.Switch place) r k d)
-  unfolding switchToOn switchTo note
-  switches place k r d e q h z =
-      record { on = λ s. rw (← p, e) (record { answer = refl; reply = h; connection = q; store = nothing-changed s d z }) }
+      → struct (answer.Switch place) r k d ≡ effectStruct (switchTo c (findBound c id))
+  unfolding effectStruct switchTo note
+  switches place k r d e q h z = rw (← p, e, q, h, z)
 
-  pub not-bound : (x : Settled) → f ≡ found.Nothing → SettlesAll (refuseOn c 27) x → SettlesAll (switchToOn c id) x
-  unfolding refuseOn switchToOn switchTo
-  not-bound x e q = all-as q (λ s. rw (← p, e))
+  pub not-bound : (x : EffectStruct) → f ≡ found.Nothing → x ≡ effectStruct (refuse c 27) → x ≡ effectStruct (switchTo c (findBound c id))
+  unfolding switchTo
+  not-bound x e q = rw (← p, e) q
 
 -- and where r is what was read of the body
 module _ (body : List ℕ) (r : Field) (p : r ≡ switchBody (switchFields body)) where
   pub id-fits : (id next : ℕ) → r ≡ field.Value id next → Fits w32 id
   id-fits id next e = record { fits = switch-within body id next (switch-id (switchFields body) r p id next e) .0 }
 
-  module _ (c : Connection) (x : Settled) where
-    pub id-read : (id next : ℕ) → r ≡ field.Value id next → SettlesAll (switchToOn c id) x → SettlesAll (switchOn c body) x
-    unfolding switchToOn switchOn switch fieldsThen
-    id-read id next e q = all-as q (λ s. rw (switch-id (switchFields body) r p id next e))
+  module _ (c : Connection) (x : EffectStruct) where
+    pub id-read : (id next : ℕ) → r ≡ field.Value id next → x ≡ effectStruct (switchTo c (findBound c id)) → x ≡ effectStruct (switch c body)
+    unfolding switch fieldsThen
+    id-read id next e q = rw (switch-id (switchFields body) r p id next e) q
 
-    pub id-short : r ≡ field.Short → SettlesAll (refuseOn c 23) x → SettlesAll (switchOn c body) x
-    unfolding refuseOn switchOn switch fieldsThen
-    id-short e q = all-as q (λ s. rw (switch-short (switchFields body) r p e))
+    pub id-short : r ≡ field.Short → x ≡ effectStruct (refuse c 23) → x ≡ effectStruct (switch c body)
+    unfolding switch fieldsThen
+    id-short e q = rw (switch-short (switchFields body) r p e) q
 
-    pub id-out : r ≡ field.OutOfRange → SettlesAll (refuseOn c 24) x → SettlesAll (switchOn c body) x
-    unfolding refuseOn switchOn switch fieldsThen
-    id-out e q = all-as q (λ s. rw (switch-out (switchFields body) r p e))
+    pub id-out : r ≡ field.OutOfRange → x ≡ effectStruct (refuse c 24) → x ≡ effectStruct (switch c body)
+    unfolding switch fieldsThen
+    id-out e q = rw (switch-out (switchFields body) r p e) q
 
 pub ruleset switching = (needs, switches, not-bound, id-fits, id-read, id-short, id-out)
 
 -- ---- acknowledgement, where r is what was read of the body
 module _ (body : List ℕ) (r : AcknowledgementBody) (p : r ≡ acknowledgementBody (acknowledgementFields body)) (c : Connection) where
   pub ids-read : (id update next : ℕ) (k : Reply) (d : Change) → r ≡ acked.Fields id update next → k ≡ replyOf [] → d ≡ noChange
-      → SettlesAll (acknowledgementOn c body) (settled (answer.Acknowledgement id update) k c d)
-  unfolding acknowledgementOn acknowledgement fieldsThen note
-  ids-read id update next k d e q z =
-      record {
-        on = λ s.
-            rw (acknowledgement-fields (acknowledgementFields body) r p id update next e)
-            (record { answer = refl; reply = q; connection = refl; store = nothing-changed s d z });
-      }
+      → struct (answer.Acknowledgement id update) k c d ≡ effectStruct (acknowledgement c body)
+  unfolding effectStruct acknowledgement fieldsThen note
+  ids-read id update next k d e q z = rw (acknowledgement-fields (acknowledgementFields body) r p id update next e, q, z)
 
-  pub ids-short : (x : Settled) → r ≡ acked.Short → SettlesAll (refuseOn c 23) x → SettlesAll (acknowledgementOn c body) x
-  unfolding refuseOn acknowledgementOn acknowledgement fieldsThen
-  ids-short x e q = all-as q (λ s. rw (acknowledgement-short (acknowledgementFields body) r p e))
+  pub ids-short : (x : EffectStruct) → r ≡ acked.Short → x ≡ effectStruct (refuse c 23) → x ≡ effectStruct (acknowledgement c body)
+  unfolding acknowledgement fieldsThen
+  ids-short x e q = rw (acknowledgement-short (acknowledgementFields body) r p e) q
 
-  pub ids-out : (x : Settled) → r ≡ acked.OutOfRange → SettlesAll (refuseOn c 24) x → SettlesAll (acknowledgementOn c body) x
-  unfolding refuseOn acknowledgementOn acknowledgement fieldsThen
-  ids-out x e q = all-as q (λ s. rw (acknowledgement-out (acknowledgementFields body) r p e))
+  pub ids-out : (x : EffectStruct) → r ≡ acked.OutOfRange → x ≡ effectStruct (refuse c 24) → x ≡ effectStruct (acknowledgement c body)
+  unfolding acknowledgement fieldsThen
+  ids-out x e q = rw (acknowledgement-out (acknowledgementFields body) r p e) q
 
 pub ruleset noting = (needs, ids-read, ids-short, ids-out)

@@ -1,4 +1,4 @@
--- What a whole message does: answer, reply, and the new session and store.
+-- What a whole message does: answer, reply, the new session, and what it puts into the store.
 use Prim.Native.Nat.{ℕ, _+_, _-_, _%_, _^_}
 use mathlib.Core.List.{List, [], _∷_, _++_}
 use mathlib.Core.Bool.{Bool, cond, _&&_}
@@ -6,12 +6,14 @@ use lib.ListN.{length, getD}
 use lib.Dec.{leb, eqb}
 use Rattle.lists.specs.declared.Found.{Found}
 use Rattle.lists.specs.declared.Found.the-variants as found
+use Rattle.lists.specs.Lists.{firstPlace}
 use Rattle.wire.specs.Integer.{encodeInt}
 use Rattle.wire.specs.Number.{encodeNumber}
 use Rattle.store.specs.declared.Table.{Table}
 use Rattle.store.specs.declared.Entry.{Entry}
-use Rattle.store.specs.declared.Store.{Store}
-use Rattle.store.specs.Store.{findTable, findEntry, freeTable, freeEntry, makeTable, makeEntry, putTable, putEntry, noTable}
+use Rattle.store.specs.Store.{tableFree, tableNamed, makeTable, makeEntry, noTable}
+use Rattle.store.specs.declared.entries.Place.{Place}
+use Rattle.store.specs.declared.entries.Place.the-variants as place
 use Rattle.session.specs.declared.Connection.{Connection}
 use Rattle.session.specs.declared.Commit.{Commit}
 use Rattle.session.specs.declared.Commit.the-variants as commit
@@ -21,28 +23,38 @@ use Rattle.session.specs.Answers.{refusalReply}
 use Rattle.session.specs.Session.{closedWith, makeCurrent, bind, committed, findBound, bindingAt, isUpdated}
 use Rattle.body.specs.Fields.{Read, got, short, outside, spanIn}
 use Rattle.body.specs.Bodies.{Definition, definitionFields, switchFields, acknowledgementFields, Update, updateFields, incrementalFields}
+use Rattle.message.specs.declared.Change.{Change}
+use Rattle.message.specs.Changes.{noChange, tableChange, entryChange}
+use Rattle.message.specs.Targets.{goesTo}
 
+-- what a message does: its answer, its reply, the new connection, and what it puts into the store
 pub record Effect : Type 0 where
   pub answer : Answer
   pub reply : List ℕ
   pub connection : Connection
-  pub store : Store
+  pub change : Change
+
+-- what a message comes to before the entries are looked at: what it does, or, of an update, that this entry is to be committed with this
+-- update ID
+pub data Asks : Type 0 where
+  does : Effect → Asks
+  commits : ℕ → Entry → Asks
 
 -- "From 10 up the record is closed with that number", with the reply of the table of refusals; tables and entries stay
-unfoldable pub refuse : Connection → Store → ℕ → Effect
-refuse c s n = record { answer = answer.Refused n; reply = refusalReply n; connection = closedWith c n; store = s }
+unfoldable pub refuse : Connection → ℕ → Effect
+refuse c n = record { answer = answer.Refused n; reply = refusalReply n; connection = closedWith c n; change = noChange }
 
 -- an accepted message that leaves the store as it is
-unfoldable pub note : Connection → Store → Answer → List ℕ → Effect
-note c s a reply = record { answer = a; reply = reply; connection = c; store = s }
+unfoldable pub note : Connection → Answer → List ℕ → Effect
+note c a reply = record { answer = a; reply = reply; connection = c; change = noChange }
 
 -- fields, then what the message does; "Bytes after the known fields are ignored.", "23 | body ends before a field is whole", "24 | field
 -- overflows or is out of range"
-module _ {A : Type 0} where
-  unfoldable pub fieldsThen : Connection → Store → Read A → (A → Effect) → Effect
-  fieldsThen c s (got a at) f = f a
-  fieldsThen c s short f = refuse c s 23
-  fieldsThen c s outside f = refuse c s 24
+module _ {A X : Type 0} where
+  unfoldable pub fieldsThen : (ℕ → X) → Read A → (A → X) → X
+  fieldsThen refused (got a at) f = f a
+  fieldsThen refused short f = refused 23
+  fieldsThen refused outside f = refused 24
 
 -- ---- control and error messages
 
@@ -58,12 +70,12 @@ controlAnswer type =
 unfoldable pub controlReply : ℕ → List ℕ
 controlReply type = cond (leb 1 type && leb type 2) (0x00 ∷ 0x03 ∷ []) []
 
-unfoldable pub control : Connection → Store → ℕ → Effect
-control c s type = note c s (controlAnswer type) (controlReply type)
+unfoldable pub control : Connection → ℕ → Effect
+control c type = note c (controlAnswer type) (controlReply type)
 
 -- "A peer's error message is an accepted message, and it closes the session with number 0."
-unfoldable pub peerError : Connection → Store → ℕ → Effect
-peerError c s type = record { answer = answer.Error type; reply = []; connection = closedWith c 0; store = s }
+unfoldable pub peerError : Connection → ℕ → Effect
+peerError c type = note (closedWith c 0) (answer.Error type) []
 
 -- ---- definition
 
@@ -81,13 +93,13 @@ definedTable body d =
     })
 
 -- this table at a place: "The ID is then this table's only one, another table that had it loses it, and this table becomes current."
-unfoldable pub defineAt : Connection → Store → ℕ → Table → ℕ → Effect
-defineAt c s id t place = record { answer = answer.Table place; reply = []; connection = bind c place id; store = putTable s place t }
+unfoldable pub defineAt : Connection → ℕ → Table → ℕ → Effect
+defineAt c id t place = record { answer = answer.Table place; reply = []; connection = bind c place id; change = tableChange place t }
 
 -- "A name not held takes the lowest free of 8 table places", "26 | new name, 8 tables held"
-unfoldable pub defineNew : Connection → Store → ℕ → Table → Found → Effect
-defineNew c s id t (found.At place) = defineAt c s id t place
-defineNew c s id t found.Nothing = refuse c s 26
+unfoldable pub defineNew : Connection → ℕ → Table → Found → Effect
+defineNew c id t (found.At place) = defineAt c id t place
+defineNew c id t found.Nothing = refuse c 26
 
 -- "A held name must agree in key type, key length and data types"
 unfoldable pub agrees : Table → Table → Bool
@@ -96,39 +108,81 @@ agrees held t =
     && (eqb (held .«key_len») (t .«key_len») && eqb (held .«data_types») (t .«data_types»))
 
 -- "its expiry and periods are replaced, by none where the body has none", "25 | held name disagrees"
-unfoldable pub defineNamed : Connection → Store → ℕ → Table → Found → Effect
-defineNamed c s id t (found.At place) =
-    cond (agrees (getD (s .tables) place noTable) t) (defineAt c s id t place) (refuse c s 25)
-defineNamed c s id t found.Nothing = defineNew c s id t (freeTable s)
+unfoldable pub defineNamed : Connection → List Table → ℕ → Table → Found → Effect
+defineNamed c tables id t (found.At place) = cond (agrees (getD tables place noTable) t) (defineAt c id t place) (refuse c 25)
+defineNamed c tables id t found.Nothing = defineNew c id t (firstPlace tableFree tables)
 
 -- "In a definition fields come first, then 25, then 26"
-unfoldable pub definition : Connection → Store → List ℕ → Effect
-definition c s body =
-    fieldsThen c s (definitionFields body) λ d.
-    defineNamed c s (d .id) (definedTable body d) (findTable s (spanIn body (d .name)))
+unfoldable pub definition : Connection → List Table → List ℕ → Effect
+definition c tables body =
+    fieldsThen (refuse c) (definitionFields body) λ d.
+    defineNamed c tables (d .id) (definedTable body d) (firstPlace (tableNamed (spanIn body (d .name))) tables)
 
 -- ---- switch
 
 -- "the table bound to it becomes current", "27 | no current table; switch to an unbound ID"
-unfoldable pub switchTo : Connection → Store → Found → Effect
-switchTo c s (found.At place) = note (makeCurrent c place) s (answer.Switch place) []
-switchTo c s found.Nothing = refuse c s 27
+unfoldable pub switchTo : Connection → Found → Effect
+switchTo c (found.At place) = note (makeCurrent c place) (answer.Switch place) []
+switchTo c found.Nothing = refuse c 27
 
 -- "in a switch fields, then 27"
-unfoldable pub switch : Connection → Store → List ℕ → Effect
-switch c s body = fieldsThen c s (switchFields body) λ id. switchTo c s (findBound c id)
+unfoldable pub switch : Connection → List ℕ → Effect
+switch c body = fieldsThen (refuse c) (switchFields body) λ id. switchTo c (findBound c id)
 
 -- ---- acknowledgement and other types
 
-unfoldable pub acknowledgement : Connection → Store → List ℕ → Effect
-acknowledgement c s body =
-    fieldsThen c s (acknowledgementFields body) λ a. note c s (answer.Acknowledgement (a .id) (a .update)) []
+unfoldable pub acknowledgement : Connection → List ℕ → Effect
+acknowledgement c body = fieldsThen (refuse c) (acknowledgementFields body) λ a. note c (answer.Acknowledgement (a .id) (a .update)) []
 
 -- "Other types from 128 are skipped by length."
-unfoldable pub skipped : Connection → Store → ℕ → Effect
-skipped c s kind = note c s (answer.Skipped kind) []
+unfoldable pub skipped : Connection → ℕ → Effect
+skipped c kind = note c (answer.Skipped kind) []
 
 -- ---- updates
+
+-- the entry that an update of the table at a place makes
+unfoldable pub updatedEntry : List ℕ → ℕ → Update → Entry
+updatedEntry body table u = makeEntry table (spanIn body (u .key)) (u .server) (u .values)
+
+unfoldable pub refusal : Connection → ℕ → Asks
+refusal c n = does (refuse c n)
+
+-- fields, then the entry that they make is to be committed
+unfoldable pub withFields : Connection → List ℕ → ℕ → Read Update → Asks
+withFields c body table fields = fieldsThen (refusal c) fields λ u. commits (u .id) (updatedEntry body table u)
+
+-- "the table's previous ID plus one, and 4294967295 is followed by 0"
+unfoldable pub followingId : ℕ → ℕ
+followingId id = (id + 1) % 2 ^ 32
+
+-- "28 | incremental, no previous ID"
+unfoldable pub incrementalOf : Connection → List Table → ℕ → List ℕ → Asks
+incrementalOf c tables table body =
+    cond (isUpdated (bindingAt c table))
+    (withFields c body table (incrementalFields (getD tables table noTable) (followingId (bindingAt c table .previous)) body))
+    (refusal c 28)
+
+-- "In an update 27 comes first, then 28, then fields, then 29." `current` is 0 where there is no current table, else its place plus 1
+unfoldable pub update : Connection → List Table → List ℕ → Asks
+update c tables body =
+    cond (eqb (c .current) 0) (refusal c 27)
+    (withFields c body (c .current - 1) (updateFields (getD tables (c .current - 1) noTable) body))
+
+unfoldable pub incremental : Connection → List Table → List ℕ → Asks
+incremental c tables body = cond (eqb (c .current) 0) (refusal c 27) (incrementalOf c tables (c .current - 1) body)
+
+-- ---- "Types: 128 update, 129 incremental update, 130 definition, 131 switch, 133 acknowledgement."
+
+unfoldable pub stickTable : Connection → List Table → ℕ → List ℕ → Asks
+stickTable c tables kind body =
+    cond (eqb kind 128) (update c tables body)
+    (cond (eqb kind 129) (incremental c tables body)
+    (does
+    (cond (eqb kind 130) (definition c tables body)
+    (cond (eqb kind 131) (switch c body)
+    (cond (eqb kind 133) (acknowledgement c body) (skipped c kind))))))
+
+-- ---- the entry committed
 
 -- the acknowledgement with an ID and an update ID: encoded ID, 4-byte update ID
 unfoldable pub acknowledge : ℕ → ℕ → List ℕ
@@ -136,62 +190,23 @@ acknowledge id update =
     let body = encodeInt id ++ encodeNumber update in
     0x0A ∷ 0x85 ∷ encodeInt (length body) ++ body
 
--- the entry that an update of the table at a place makes
-unfoldable pub updatedEntry : List ℕ → ℕ → Update → Entry
-updatedEntry body table u = makeEntry table (spanIn body (u .key)) (u .server) (u .values)
-
 -- the entry is held, and the update's ID is the table's last committed one: "a committed update gives one acknowledgement (class 10, type 133)
 -- with the table's bound ID and this update's ID"
-unfoldable pub commitAt : Connection → Store → ℕ → ℕ → Entry → ℕ → Commit → Effect
-commitAt c s table id e place how = record {
-  answer = answer.Update table id place how;
-  reply = acknowledge (bindingAt c table .id) id;
-  connection = committed c table id;
-  store = putEntry s place e;
+unfoldable pub commitAt : Connection → ℕ → Entry → ℕ → Commit → Effect
+commitAt c id e place how = record {
+  answer = answer.Update (e .table) id place how;
+  reply = acknowledge (bindingAt c (e .table) .id) id;
+  connection = committed c (e .table) id;
+  change = entryChange place e;
 }
 
--- "Otherwise the entry takes the lowest free place.", "29 | new key and no free entry"
-unfoldable pub commitNew : Connection → Store → ℕ → ℕ → Entry → Found → Effect
-commitNew c s table id e (found.At place) = commitAt c s table id e place commit.New
-commitNew c s table id e found.Nothing = refuse c s 29
+-- "A known table and key has its values replaced. Otherwise the entry takes the lowest free place.", "29 | new key and no free entry"
+unfoldable pub commitTo : Connection → ℕ → Entry → Place → Effect
+commitTo c id e (place.Held i) = commitAt c id e i commit.Replaced
+commitTo c id e (place.Free i) = commitAt c id e i commit.New
+commitTo c id e place.Full = refuse c 29
 
--- "A known table and key has its values replaced."
-unfoldable pub commitUpdate : Connection → Store → ℕ → ℕ → Entry → Found → Effect
-commitUpdate c s table id e (found.At place) = commitAt c s table id e place commit.Replaced
-commitUpdate c s table id e found.Nothing = commitNew c s table id e (freeEntry s)
-
--- fields, then the entry of the table and key that they name
-unfoldable pub withFields : Connection → Store → List ℕ → ℕ → Read Update → Effect
-withFields c s body table fields =
-    fieldsThen c s fields λ u.
-    commitUpdate c s table (u .id) (updatedEntry body table u) (findEntry s table (spanIn body (u .key)))
-
--- "the table's previous ID plus one, and 4294967295 is followed by 0"
-unfoldable pub followingId : ℕ → ℕ
-followingId id = (id + 1) % 2 ^ 32
-
--- "28 | incremental, no previous ID"
-unfoldable pub incrementalOf : Connection → Store → ℕ → List ℕ → Effect
-incrementalOf c s table body =
-    cond (isUpdated (bindingAt c table))
-    (withFields c s body table (incrementalFields (getD (s .tables) table noTable) (followingId (bindingAt c table .previous)) body))
-    (refuse c s 28)
-
--- "In an update 27 comes first, then 28, then fields, then 29." `current` is 0 where there is no current table, else its place plus 1
-unfoldable pub update : Connection → Store → List ℕ → Effect
-update c s body =
-    cond (eqb (c .current) 0) (refuse c s 27)
-    (withFields c s body (c .current - 1) (updateFields (getD (s .tables) (c .current - 1) noTable) body))
-
-unfoldable pub incremental : Connection → Store → List ℕ → Effect
-incremental c s body = cond (eqb (c .current) 0) (refuse c s 27) (incrementalOf c s (c .current - 1) body)
-
--- ---- "Types: 128 update, 129 incremental update, 130 definition, 131 switch, 133 acknowledgement."
-
-unfoldable pub stickTable : Connection → Store → ℕ → List ℕ → Effect
-stickTable c s kind body =
-    cond (eqb kind 128) (update c s body)
-    (cond (eqb kind 129) (incremental c s body)
-    (cond (eqb kind 130) (definition c s body)
-    (cond (eqb kind 131) (switch c s body)
-    (cond (eqb kind 133) (acknowledgement c s body) (skipped c s kind)))))
+-- what was asked is done, among the entries
+unfoldable pub done : Connection → List Entry → Asks → Effect
+done c entries (does e) = e
+done c entries (commits id e) = commitTo c id e (goesTo entries e)

@@ -1,5 +1,5 @@
-pub mod Effects
-pub mod OnStores
-pub mod Settled
-pub mod Examples
+pub mod Changes
 pub mod Targets
+pub mod Effects
+pub mod Structs
+pub mod Examples

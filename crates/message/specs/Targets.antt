@@ -1,23 +1,16 @@
 -- Where the entry of an update goes.
 use Prim.Native.Nat.{ℕ, _+_}
-use mathlib.Core.Path.{_≡_}
 use mathlib.Core.List.{List}
 use mathlib.Core.Bool.{Bool, true, false, cond, _&&_}
 use lib.Dec.{ltb, leb}
 use Rattle.lists.specs.Lists.{firstPlace}
 use Rattle.store.specs.declared.Entry.{Entry}
-use Rattle.store.specs.declared.Store.{Store}
 use Rattle.store.specs.Limits.{keyMax}
 use Rattle.store.specs.Store.{entryKeyed, entryFree, keyOf}
 use Rattle.store.specs.declared.entries.Place.{Place}
 use Rattle.store.specs.declared.entries.Place.the-variants as place
 use Rattle.store.specs.Places.{placeOf}
 use Rattle.session.specs.declared.Commit.the-variants as commit
-use Rattle.session.specs.declared.Connection.{Connection}
-use Rattle.message.specs.declared.Asked.{Asked}
-use Rattle.message.specs.declared.Settled.{Settled}
-use Rattle.message.specs.Effects.{Effect, refuse, commitAt}
-use Rattle.message.specs.Settled.{SettlesAll}
 use Rattle.message.specs.declared.commit.Target.{Target}
 
 -- how many bytes a key of n bytes is looked up by
@@ -32,19 +25,8 @@ keyedAs entry e = leb (entry .«key_len») keyMax && entryKeyed (entry .table) (
 unfoldable pub goesTo : List Entry → Entry → Place
 goesTo entries entry = placeOf (firstPlace (keyedAs entry) entries) (firstPlace entryFree entries)
 
--- "A known table and key has its values replaced.", "Otherwise the entry takes the lowest free place."
+-- the place and how, as the code returns them; `full` where there is none
 unfoldable pub targetOf : Place → Target
 targetOf (place.Held i) = record { full = false; place = i; how = commit.Replaced }
 targetOf (place.Free i) = record { full = false; place = i; how = commit.New }
 targetOf place.Full = record { full = true; place = 0; how = commit.New }
-
--- what an update with the entry does to a store, by the place that the entry goes to
-unfoldable pub commitsTo : Connection → ℕ → Entry → Place → Store → Effect
-commitsTo c id e (place.Held i) s = commitAt c s (e .table) id e i commit.Replaced
-commitsTo c id e (place.Free i) s = commitAt c s (e .table) id e i commit.New
-commitsTo c id e place.Full s = refuse c s 29
-
--- what was asked is done, where a committed entry goes to the place
-pub record FinishesAt (c : Connection) (p : Place) (a : Asked) (r : Settled) : Type 0 where
-  pub settled : a .commits ≡ false → r ≡ a .settled
-  pub committed : a .commits ≡ true → SettlesAll (commitsTo c (a .id) (a .entry) p) r

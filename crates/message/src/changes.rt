@@ -1,13 +1,14 @@
 // What a message changes, and refusals: the store with a change made, what is asked before the entries are looked at.
 ghost use mathlib.Core.Path.{_≡_};
-ghost use Rattle.message.specs.OnStores.{refuseOn};
-ghost use Rattle.message.specs.Settled.{noChange, tableChange, entryChange, changed, SettlesAll, AsksAll, asksNothing, asksCommit};
+ghost use Rattle.message.specs.Changes.{noChange, tableChange, entryChange, changed};
+ghost use Rattle.message.specs.Effects.{refuse, refusal};
+ghost use Rattle.message.specs.Structs.{effectStruct, asksNothing, asksCommit, asked};
 use crate::Asked;
 use crate::Change;
 use crate::PUTS_ENTRY;
 use crate::PUTS_NOTHING;
 use crate::PUTS_TABLE;
-use crate::Settled;
+use crate::Effect;
 use session::Answer;
 use session::Connection;
 use session::reply_bytes::no_reply;
@@ -74,12 +75,12 @@ pub fn put_change(store: Store, change: Change) -> Store
 }
 
 // No entry is committed.
-pub fn ask_nothing(settled: Settled) -> Asked
-    ensures { λ r. ⌜ r ≡ asksNothing settled ⌝ }
+pub fn ask_nothing(effect: Effect) -> Asked
+    ensures { λ r. ⌜ r ≡ asksNothing effect ⌝ }
 {
     let entry = no_entry();
     Asked {
-        settled,
+        effect,
         commits: false,
         id: 0,
         entry,
@@ -92,14 +93,14 @@ pub fn ask_commit(connection: Connection, id: u32, entry: Entry) -> Asked
 {
     let reply = no_reply();
     let change = no_change();
-    let settled = Settled {
+    let effect = Effect {
         answer: Answer::More,
         reply,
         connection,
         change,
     };
     Asked {
-        settled,
+        effect,
         commits: true,
         id,
         entry,
@@ -107,13 +108,13 @@ pub fn ask_commit(connection: Connection, id: u32, entry: Entry) -> Asked
 }
 
 // A message that is refused with a number: it closes the session, and changes nothing else.
-pub fn refuse(connection: Connection, number: u8) -> Settled
-    ensures { λ r. ⌜ SettlesAll (refuseOn connection number) r ⌝ }
+pub fn refuse(connection: Connection, number: u8) -> Effect
+    ensures { λ r. ⌜ r ≡ effectStruct (refuse connection number) ⌝ }
 {
     let closed = session::close_connection(connection, number);
     let reply = session::reply_bytes::refusal_reply(number);
     let change = no_change();
-    Settled {
+    Effect {
         answer: Answer::Refused(number),
         reply,
         connection: closed,
@@ -123,7 +124,7 @@ pub fn refuse(connection: Connection, number: u8) -> Settled
 
 // The same, asked before the entries are looked at.
 pub fn ask_refusal(connection: Connection, number: u8) -> Asked
-    ensures { λ r. ⌜ AsksAll connection (refuseOn connection number) r ⌝ }
+    ensures { λ r. ⌜ r ≡ asked connection (refusal connection number) ⌝ }
 {
     let refused = refuse(connection, number);
     ask_nothing(refused)

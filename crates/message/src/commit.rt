@@ -1,6 +1,6 @@
 // Committing an entry, and the acknowledgement of its update.
 use crate::Asked;
-use crate::Settled;
+use crate::Effect;
 use crate::binding_at;
 use crate::changes::refuse;
 use session::Answer;
@@ -14,10 +14,9 @@ use store::entries::Place;
 use store::entries::find_entry;
 ghost use mathlib.Core.Path.{_≡_};
 ghost use Rattle.session.specs.Answers.{replyOf};
-ghost use Rattle.message.specs.Effects.{acknowledge};
-ghost use Rattle.message.specs.OnStores.{commitAtOn};
-ghost use Rattle.message.specs.Settled.{SettlesAll};
-ghost use Rattle.message.specs.Targets.{lookedUp, goesTo, targetOf, FinishesAt};
+ghost use Rattle.message.specs.Targets.{lookedUp, goesTo, targetOf};
+ghost use Rattle.message.specs.Effects.{acknowledge, commitAt};
+ghost use Rattle.message.specs.Structs.{effectStruct, finished};
 
 // The acknowledgement of an update: class 10, type 133, the length of its body, the table's bound ID and the update's ID.
 pub fn acknowledge(id: u32, update: u32) -> Reply
@@ -42,8 +41,8 @@ pub fn commit_at(
     entry: Entry,
     place: usize,
     how: Commit,
-) -> Settled
-    ensures { λ r. ⌜ SettlesAll (commitAtOn connection id entry place how) r ⌝ }
+) -> Effect
+    ensures { λ r. ⌜ r ≡ effectStruct (commitAt connection id entry place how) ⌝ }
 {
     let table = entry.table;
     let committed = session::bound_ids::commit_update(connection, table, id);
@@ -51,7 +50,7 @@ pub fn commit_at(
     let b = binding_at(bindings, table);
     let reply = acknowledge(b.id, id);
     let change = crate::changes::entry_change(place, entry);
-    Settled {
+    Effect {
         answer: Answer::Update {
             table,
             id,
@@ -115,12 +114,12 @@ fn target_of(found: Place) -> Target
 }
 
 // What was asked is done, where a committed entry goes to the place.
-pub fn finish_at(connection: Connection, place: Place, asked: Asked) -> Settled
-    ensures { λ r. ⌜ FinishesAt connection place asked r ⌝ }
+pub fn finish_at(connection: Connection, place: Place, asked: Asked) -> Effect
+    ensures { λ r. ⌜ r ≡ finished connection place asked ⌝ }
 {
     if !asked.commits {
-        let settled = asked.settled;
-        return settled;
+        let effect = asked.effect;
+        return effect;
     }
     let target = target_of(place);
     if target.full {

@@ -1,10 +1,9 @@
 // Control and error messages, and those of other types.
 ghost use mathlib.Core.Path.{_≡_};
 ghost use Rattle.session.specs.Answers.{replyOf};
-ghost use Rattle.message.specs.Effects.{controlAnswer, controlReply};
-ghost use Rattle.message.specs.OnStores.{controlOn, peerErrorOn, skippedOn};
-ghost use Rattle.message.specs.Settled.{SettlesAll};
-use crate::Settled;
+ghost use Rattle.message.specs.Effects.{controlAnswer, controlReply, control, peerError, skipped};
+ghost use Rattle.message.specs.Structs.{effectStruct};
+use crate::Effect;
 use crate::changes::no_change;
 use session::Answer;
 use session::Connection;
@@ -39,13 +38,13 @@ fn control_reply(kind: u8) -> Reply
 }
 
 // A control message of this type, 0 to 4.
-pub fn control(connection: Connection, kind: u8) -> Settled
-    ensures { λ r. ⌜ SettlesAll (controlOn connection kind) r ⌝ }
+pub fn control(connection: Connection, kind: u8) -> Effect
+    ensures { λ r. ⌜ r ≡ effectStruct (control connection kind) ⌝ }
 {
     let answer = control_answer(kind);
     let reply = control_reply(kind);
     let change = no_change();
-    Settled {
+    Effect {
         answer,
         reply,
         connection,
@@ -54,13 +53,13 @@ pub fn control(connection: Connection, kind: u8) -> Settled
 }
 
 // A peer's error message of this type: it is accepted, and closes the session with number 0.
-pub fn peer_error(connection: Connection, kind: u8) -> Settled
-    ensures { λ r. ⌜ SettlesAll (peerErrorOn connection kind) r ⌝ }
+pub fn peer_error(connection: Connection, kind: u8) -> Effect
+    ensures { λ r. ⌜ r ≡ effectStruct (peerError connection kind) ⌝ }
 {
     let closed = session::close_connection(connection, 0);
     let reply = no_reply();
     let change = no_change();
-    Settled {
+    Effect {
         answer: Answer::Error(kind),
         reply,
         connection: closed,
@@ -69,12 +68,12 @@ pub fn peer_error(connection: Connection, kind: u8) -> Settled
 }
 
 // A message of another type.
-pub fn skipped(connection: Connection, kind: u8) -> Settled
-    ensures { λ r. ⌜ SettlesAll (skippedOn connection kind) r ⌝ }
+pub fn skipped(connection: Connection, kind: u8) -> Effect
+    ensures { λ r. ⌜ r ≡ effectStruct (skipped connection kind) ⌝ }
 {
     let reply = no_reply();
     let change = no_change();
-    Settled {
+    Effect {
         answer: Answer::Skipped(kind),
         reply,
         connection,

@@ -1,5 +1,5 @@
 // What a definition does to session and store.
-use crate::Settled;
+use crate::Effect;
 use crate::changes::refuse;
 use crate::table_at;
 use body::Reading;
@@ -10,9 +10,10 @@ use session::reply_bytes::no_reply;
 use store::TABLES;
 use store::Table;
 ghost use mathlib.Core.Path.{_≡_};
-ghost use Rattle.message.specs.Effects.{agrees};
-ghost use Rattle.message.specs.OnStores.{defineAtOn, defineNewOn, defineNamedOn, definitionOn};
-ghost use Rattle.message.specs.Settled.{SettlesAll, SettlesWith};
+ghost use Rattle.lists.specs.Lists.{firstPlace};
+ghost use Rattle.store.specs.Store.{tableFree, tableNamed};
+ghost use Rattle.message.specs.Effects.{agrees, defineAt, defineNew, defineNamed, definition};
+ghost use Rattle.message.specs.Structs.{effectStruct};
 
 // Whether a held table agrees with a defined one.
 fn agree(held: Table, defined: Table) -> bool
@@ -28,13 +29,13 @@ fn agree(held: Table, defined: Table) -> bool
 }
 
 // The defined table goes to a place, and the ID to it alone.
-fn define_at(connection: Connection, id: u32, table: Table, place: usize) -> Settled
-    ensures { λ r. ⌜ SettlesAll (defineAtOn connection id table place) r ⌝ }
+fn define_at(connection: Connection, id: u32, table: Table, place: usize) -> Effect
+    ensures { λ r. ⌜ r ≡ effectStruct (defineAt connection id table place) ⌝ }
 {
     let bound = session::bound_ids::bind_table(connection, place, id);
     let reply = no_reply();
     let change = crate::changes::table_change(place, table);
-    Settled {
+    Effect {
         answer: Answer::Table(place),
         reply,
         connection: bound,
@@ -43,8 +44,8 @@ fn define_at(connection: Connection, id: u32, table: Table, place: usize) -> Set
 }
 
 // A name that isn't held takes the lowest free place.
-fn define_new(connection: Connection, tables: [Table; TABLES], id: u32, table: Table) -> Settled
-    ensures { λ r. ⌜ SettlesWith tables (defineNewOn connection id table) r ⌝ }
+fn define_new(connection: Connection, tables: [Table; TABLES], id: u32, table: Table) -> Effect
+    ensures { λ r. ⌜ r ≡ effectStruct (defineNew connection id table (firstPlace tableFree tables)) ⌝ }
 {
     match store::tables::free_table(tables) {
         Found::At(place) => define_at(connection, id, table, place),
@@ -59,8 +60,8 @@ fn define_named(
     id: u32,
     table: Table,
     name: &[u8],
-) -> Settled
-    ensures { λ r. ⌜ SettlesWith tables (defineNamedOn connection id table (now (name .entry))) r ⌝ }
+) -> Effect
+    ensures { λ r. ⌜ r ≡ effectStruct (defineNamed connection tables id table (firstPlace (tableNamed (now (name .entry))) tables)) ⌝ }
 {
     match store::tables::find_table(tables, name) {
         Found::At(place) => {
@@ -74,8 +75,8 @@ fn define_named(
 }
 
 // A definition: its fields, then the table that it describes.
-pub fn definition(connection: Connection, tables: [Table; TABLES], body: &[u8]) -> Settled
-    ensures { λ r. ⌜ SettlesWith tables (definitionOn connection (now (body .entry))) r ⌝ }
+pub fn definition(connection: Connection, tables: [Table; TABLES], body: &[u8]) -> Effect
+    ensures { λ r. ⌜ r ≡ effectStruct (definition connection tables (now (body .entry))) ⌝ }
 {
     let d = body::definition::read_definition(body);
     let reading = d.reading;

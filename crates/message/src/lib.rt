@@ -35,17 +35,17 @@ pub struct Change {
 }
 
 // What a message did: the answer, the reply, the new connection, and the change of the store.
-pub struct Settled {
+pub struct Effect {
     pub answer: Answer,
     pub reply: Reply,
     pub connection: Connection,
     pub change: Change,
 }
 
-// What a message comes to before the entries are looked at. Where `commits` is false, `settled` is what it does. Where it is true, it is
-// an update that commits `entry` with the update ID `id`, and `settled` says nothing.
+// What a message comes to before the entries are looked at. Where `commits` is false, `effect` is what it does. Where it is true, it is
+// an update that commits `entry` with the update ID `id`, and `effect` says nothing.
 pub struct Asked {
-    pub settled: Settled,
+    pub effect: Effect,
     pub commits: bool,
     pub id: u32,
     pub entry: Entry,

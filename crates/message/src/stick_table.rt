@@ -1,6 +1,6 @@
 // What each stick table message does to session and store, by its type.
 use crate::Asked;
-use crate::Settled;
+use crate::Effect;
 use crate::changes::ask_nothing;
 use crate::changes::no_change;
 use crate::changes::refuse;
@@ -16,18 +16,20 @@ use session::reply_bytes::no_reply;
 use store::TABLES;
 use store::Table;
 use wire::Field;
-ghost use Rattle.message.specs.OnStores.{switchToOn, switchOn, acknowledgementOn, stickTableOn};
-ghost use Rattle.message.specs.Settled.{SettlesAll, AsksWith};
+ghost use mathlib.Core.Path.{_≡_};
+ghost use Rattle.session.specs.Session.{findBound};
+ghost use Rattle.message.specs.Effects.{switchTo, switch, acknowledgement, stickTable};
+ghost use Rattle.message.specs.Structs.{effectStruct, asked};
 
-fn switch_to(connection: Connection, id: u32) -> Settled
-    ensures { λ r. ⌜ SettlesAll (switchToOn connection id) r ⌝ }
+fn switch_to(connection: Connection, id: u32) -> Effect
+    ensures { λ r. ⌜ r ≡ effectStruct (switchTo connection (findBound connection id)) ⌝ }
 {
     match session::bound_ids::find_bound(connection, id) {
         Found::At(place) => {
             let switched = session::make_current(connection, place);
             let reply = no_reply();
             let change = no_change();
-            Settled {
+            Effect {
                 answer: Answer::Switch(place),
                 reply,
                 connection: switched,
@@ -39,8 +41,8 @@ fn switch_to(connection: Connection, id: u32) -> Settled
 }
 
 // A switch: the table bound to its ID becomes current.
-pub fn switch(connection: Connection, body: &[u8]) -> Settled
-    ensures { λ r. ⌜ SettlesAll (switchOn connection (now (body .entry))) r ⌝ }
+pub fn switch(connection: Connection, body: &[u8]) -> Effect
+    ensures { λ r. ⌜ r ≡ effectStruct (switch connection (now (body .entry))) ⌝ }
 {
     match body::read_switch(body) {
         Field::Value { value, next: _ } => switch_to(connection, value as u32),
@@ -50,8 +52,8 @@ pub fn switch(connection: Connection, body: &[u8]) -> Settled
 }
 
 // An acknowledgement changes nothing.
-pub fn acknowledgement(connection: Connection, body: &[u8]) -> Settled
-    ensures { λ r. ⌜ SettlesAll (acknowledgementOn connection (now (body .entry))) r ⌝ }
+pub fn acknowledgement(connection: Connection, body: &[u8]) -> Effect
+    ensures { λ r. ⌜ r ≡ effectStruct (acknowledgement connection (now (body .entry))) ⌝ }
 {
     match body::read_acknowledgement(body) {
         AcknowledgementBody::Fields {
@@ -61,7 +63,7 @@ pub fn acknowledgement(connection: Connection, body: &[u8]) -> Settled
         } => {
             let reply = no_reply();
             let change = no_change();
-            Settled {
+            Effect {
                 answer: Answer::Acknowledgement { id, update },
                 reply,
                 connection,
@@ -75,7 +77,7 @@ pub fn acknowledgement(connection: Connection, body: &[u8]) -> Settled
 
 // A stick table message of this type, from 128 up, with its body.
 pub fn stick_table(connection: Connection, tables: [Table; TABLES], kind: u8, body: &[u8]) -> Asked
-    ensures { λ r. ⌜ AsksWith connection tables (stickTableOn connection kind (now (body .entry))) r ⌝ }
+    ensures { λ r. ⌜ r ≡ asked connection (stickTable connection tables kind (now (body .entry))) ⌝ }
 {
     match kind {
         128 => update(connection, tables, body),

@@ -9,15 +9,16 @@ use body::UpdateBody;
 use session::Connection;
 use store::TABLES;
 use store::Table;
+ghost use mathlib.Core.Path.{_≡_};
 ghost use Prim.Native.Nat.{_+_, _≤_};
 ghost use lib.ListN.{length};
-ghost use Rattle.message.specs.OnStores.{withFieldsOn, incrementalOfOn, updateOn, incrementalOn};
-ghost use Rattle.message.specs.Settled.{AsksAll, AsksWith, updateRead};
+ghost use Rattle.message.specs.Effects.{withFields, incrementalOf, update, incremental};
+ghost use Rattle.message.specs.Structs.{asked, updateRead};
 
 // An update of the table at a place, whose fields were read: its entry is committed.
 fn with_fields(connection: Connection, body: &[u8], table: usize, fields: UpdateBody) -> Asked
     requires { ⌜ fields .«key_at» + fields .«key_len» ≤ length (now body) ⌝ }
-    ensures { λ r. ⌜ AsksAll connection (withFieldsOn connection (now (body .entry)) table (updateRead fields)) r ⌝ }
+    ensures { λ r. ⌜ r ≡ asked connection (withFields connection (now (body .entry)) table (updateRead fields)) ⌝ }
 {
     let reading = fields.reading;
     match reading {
@@ -36,7 +37,7 @@ fn with_fields(connection: Connection, body: &[u8], table: usize, fields: Update
 
 // An update: of the current table, with the ID that its body begins with.
 pub fn update(connection: Connection, tables: [Table; TABLES], body: &[u8]) -> Asked
-    ensures { λ r. ⌜ AsksWith connection tables (updateOn connection (now (body .entry))) r ⌝ }
+    ensures { λ r. ⌜ r ≡ asked connection (update connection tables (now (body .entry))) ⌝ }
 {
     let current = connection.current;
     if current == 0 {
@@ -54,7 +55,7 @@ fn incremental_of(
     table: usize,
     body: &[u8],
 ) -> Asked
-    ensures { λ r. ⌜ AsksWith connection tables (incrementalOfOn connection table (now (body .entry))) r ⌝ }
+    ensures { λ r. ⌜ r ≡ asked connection (incrementalOf connection tables table (now (body .entry))) ⌝ }
 {
     let bindings = connection.bindings;
     let b = binding_at(bindings, table);
@@ -68,7 +69,7 @@ fn incremental_of(
 
 // An incremental update, of the current table.
 pub fn incremental(connection: Connection, tables: [Table; TABLES], body: &[u8]) -> Asked
-    ensures { λ r. ⌜ AsksWith connection tables (incrementalOn connection (now (body .entry))) r ⌝ }
+    ensures { λ r. ⌜ r ≡ asked connection (incremental connection tables (now (body .entry))) ⌝ }
 {
     let mark = connection.current;
     if mark == 0 {

@@ -27,13 +27,12 @@ use Rattle.store.specs.Places.{freeOf, placeOf}
 use Rattle.store.proofs.entries.Looking.{array-keys}
 use Rattle.session.specs.declared.Connection.{Connection}
 use Rattle.session.specs.declared.Commit.the-variants as commit
-use Rattle.message.specs.declared.Settled.{Settled}
+use Rattle.message.specs.declared.Effect.{Effect as EffectStruct}
 use Rattle.message.specs.declared.Asked.{Asked}
-use Rattle.message.specs.Effects.{Effect, refuse, commitAt, commitNew, commitUpdate}
-use Rattle.message.specs.OnStores.{refuseOn, commitAtOn}
-use Rattle.message.specs.Settled.{Settles, SettlesAll, Asks, Finishes}
+use Rattle.message.specs.Effects.{Asks, does, commits, refuse, commitAt, commitTo, done}
+use Rattle.message.specs.Structs.{effectStruct, asksNothing, asksCommit, asked, finished}
 use Rattle.message.specs.declared.commit.Target.{Target}
-use Rattle.message.specs.Targets.{lookedUp, keyedAs, goesTo, targetOf, commitsTo, FinishesAt}
+use Rattle.message.specs.Targets.{lookedUp, keyedAs, goesTo, targetOf}
 
 -- ---- the bytes that a key is looked up by
 
@@ -115,15 +114,14 @@ module _ (entries : List Entry) (e : Entry) (z : length (e .key) ≡ 64) (m : �
 
 pub ruleset placing = (needs, one-more, as-many, prefix-inside, prefix-size, array-keys, goes)
 
--- the key that the entry of an update has
-update-key : (entries : List Entry) (e : Entry) (key : List ℕ) → Keys entries → e .«key_len» ≡ length key → e .key ≡ padTo 64 key
-    → goesTo entries e ≡ placeOf (firstPlace (entryKeyed (e .table) key) entries) (firstPlace entryFree entries)
-unfolding goesTo keyOf
-update-key entries e key h s t =
+-- where the entry of a table and a key goes
+pub goes-by-key : (entries : List Entry) (e : Entry) (table : ℕ) (key : List ℕ) → e .«key_len» ≤ 64 → e .table ≡ table → keyOf e ≡ key
+    → goesTo entries e ≡ placeOf (firstPlace (entryKeyed table key) entries) (firstPlace entryFree entries)
+unfolding goesTo
+goes-by-key entries e table key l p q =
     ap (λ (f : Found). placeOf f (firstPlace entryFree entries))
-    (sym (found-by entries e key h
-    (λ l. ap (λ (n : ℕ). take n (e .key)) s ∙ (ap (take (length key)) t ∙ pad-take 64 key (omega arith)))
-    (λ l. omega arith)))
+    (first-alike (keyedAs e) (entryKeyed table key) entries (λ x.
+    keyed-short e x l ∙ (ap (λ (n : ℕ). entryKeyed n (keyOf e) x) p ∙ ap (λ (k : List ℕ). entryKeyed table k x) q)))
 
 -- ---- the target
 
@@ -144,74 +142,44 @@ pub ruleset targeting = (needs, at-held, at-free, nowhere)
 
 -- ---- what was asked is done
 
-module _ (c : Connection) (s : Store) (id : ℕ) (e : Entry) where
-  by-place : (x y : Found) → freeEntry s ≡ y → commitUpdate c s (e .table) id e x ≡ commitsTo c id e (placeOf x y) s
-  unfolding commitUpdate commitNew placeOf freeOf commitsTo
-  by-place (found.At i) y h = refl
-  by-place found.Nothing (found.At k) h = rw h
-  by-place found.Nothing found.Nothing h = rw h
-
-  commits-at : (f : Place) → targetOf f .full ≡ false → commitAt c s (e .table) id e (targetOf f .place) (targetOf f .how) ≡ commitsTo c id e f s
-  unfolding targetOf commitsTo
+module _ (c : Connection) (id : ℕ) (e : Entry) where
+  commits-at : (f : Place) → targetOf f .full ≡ false → commitAt c id e (targetOf f .place) (targetOf f .how) ≡ commitTo c id e f
+  unfolding targetOf commitTo
   commits-at (place.Held i) h = refl
   commits-at (place.Free i) h = refl
   commits-at place.Full h = never refl h
 
-  refuses-full : (f : Place) → targetOf f .full ≡ true → refuse c s 29 ≡ commitsTo c id e f s
-  unfolding targetOf commitsTo
+  refuses-full : (f : Place) → targetOf f .full ≡ true → refuse c 29 ≡ commitTo c id e f
+  unfolding targetOf commitTo
   refuses-full (place.Held i) h = never h refl
   refuses-full (place.Free i) h = never h refl
   refuses-full place.Full h = refl
 
 module _ (c : Connection) (f : Place) (a : Asked) where
-  pub done-already : not (a .commits) ≡ true → FinishesAt c f a (a .settled)
-  done-already h = record { settled = λ z. refl; committed = λ z. never z (not-true (a .commits) h) }
+  pub done-already : not (a .commits) ≡ true → a .effect ≡ finished c f a
+  unfolding finished
+  done-already h = sym (cond-false _ _ _ (not-true (a .commits) h))
 
-  module _ (h : not (a .commits) ≡ false) (t : Target) (p : t ≡ targetOf f) (r : Settled) where
-    commits-so : ((s : Store) → Settles s (commitsTo c (a .id) (a .entry) f s) r) → FinishesAt c f a r
-    commits-so k = record { settled = λ z. never (not-false (a .commits) h) z; committed = λ z. record { on = k } }
+  module _ (h : not (a .commits) ≡ false) (t : Target) (p : t ≡ targetOf f) (r : EffectStruct) where
+    commits-so : r ≡ effectStruct (commitTo c (a .id) (a .entry) f) → r ≡ finished c f a
+    unfolding finished
+    commits-so k = k ∙ sym (cond-true _ _ _ (not-false (a .commits) h))
 
-    pub no-place : t .full ≡ true → SettlesAll (refuseOn c 29) r → FinishesAt c f a r
-    unfolding refuseOn
-    no-place z n =
-        commits-so
-        (λ s. subst (λ (x : Effect). Settles s x r) (refuses-full c s (a .id) (a .entry) f (sym (ap (λ (x : Target). x .full) p) ∙ z)) (n .on s))
+    pub no-place : t .full ≡ true → r ≡ effectStruct (refuse c 29) → r ≡ finished c f a
+    no-place z n = commits-so (n ∙ ap effectStruct (refuses-full c (a .id) (a .entry) f (sym (ap (λ (x : Target). x .full) p) ∙ z)))
 
-    pub at-place : t .full ≡ false → SettlesAll (commitAtOn c (a .id) (a .entry) (t .place) (t .how)) r → FinishesAt c f a r
-    unfolding commitAtOn
+    pub at-place : t .full ≡ false → r ≡ effectStruct (commitAt c (a .id) (a .entry) (t .place) (t .how)) → r ≡ finished c f a
     at-place z n =
         commits-so
-        (λ s.
-        subst (λ (x : Effect). Settles s x r)
-        (ap (λ (x : Target). commitAt c s (a .entry .table) (a .id) (a .entry) (x .place) (x .how)) p
-        ∙ commits-at c s (a .id) (a .entry) f (sym (ap (λ (x : Target). x .full) p) ∙ z))
-        (n .on s))
+        (n
+        ∙ (ap (λ (x : Target). effectStruct (commitAt c (a .id) (a .entry) (x .place) (x .how))) p
+        ∙ ap effectStruct (commits-at c (a .id) (a .entry) f (sym (ap (λ (x : Target). x .full) p) ∙ z))))
 
 pub ruleset finishing = (needs, done-already, no-place, at-place)
 
--- on a store where a committed entry goes to that place
-module _ (c : Connection) (entries : List Entry) (f : Place) (a : Asked) (r : Settled) (h : Keys entries) where
-  effect-is : f ≡ goesTo entries (a .entry) → (s : Store) (e : Effect) → s .entries ≡ entries → Asks c s e a → a .commits ≡ true
-      → commitsTo c (a .id) (a .entry) f s ≡ e
-  unfolding findEntry freeEntry
-  effect-is g s e q k z =
-      let m = k .commits z in
-      ap (λ (x : Place). commitsTo c (a .id) (a .entry) x s)
-      (g
-      ∙ update-key entries (a .entry) (m .key) h (m .size) (m .bytes)
-      ∙ ap (λ (es : List Entry). placeOf (firstPlace (entryKeyed (a .entry .table) (m .key)) es) (firstPlace entryFree es)) (sym q))
-      ∙ (sym (by-place c s (a .id) (a .entry) (findEntry s (a .entry .table) (m .key)) (freeEntry s) refl) ∙ sym (m .effect))
-
-  pub finishes-there : (a .commits ≡ true → f ≡ goesTo entries (a .entry)) → FinishesAt c f a r → Finishes c entries a r
-  finishes-there g x =
-      record {
-        on = λ s e q k.
-            by-test (a .commits)
-            (λ z. subst (λ (y : Effect). Settles s y r) (effect-is (g z) s e q k z) (x .committed z .on s))
-            (λ z. subst (λ (y : Settled). Settles s e y) (sym (x .settled z)) (k .settles z));
-      }
-
-  pub found-place : f ≡ goesTo entries (a .entry) → FinishesAt c f a r → Finishes c entries a r
-  found-place g x = finishes-there (λ z. g) x
-
-pub ruleset finding = (needs, array-keys, found-place)
+-- what was asked of a message, done among the entries that the committed entry's place was found in
+pub finished-done : (c : Connection) (entries : List Entry) (f : Place) (m : Asks) → (asked c m .commits ≡ true → f ≡ goesTo entries (asked c m .entry))
+    → finished c f (asked c m) ≡ effectStruct (done c entries m)
+unfolding finished asked asksNothing asksCommit done
+finished-done c entries f (does e) h = refl
+finished-done c entries f (commits id e) h = ap (λ (x : Place). effectStruct (commitTo c id e x)) (h refl)
