@@ -35,13 +35,7 @@ pub fn acknowledge(id: u32, update: u32) -> Reply
 }
 
 // The entry goes to a place, the update's ID is its table's last committed one, and the acknowledgement has the table's bound ID and this ID.
-pub fn commit_at(
-    connection: Connection,
-    id: u32,
-    entry: Entry,
-    place: usize,
-    how: Commit,
-) -> Effect
+pub fn commit_at(connection: Connection, id: u32, entry: Entry, place: usize, how: Commit) -> Effect
     ensures { λ r. ⌜ r ≡ effectStruct (commitAt connection id entry place how) ⌝ }
 {
     let table = entry.table;

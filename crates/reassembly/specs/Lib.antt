@@ -1,5 +1,3 @@
 pub mod Judge
 pub mod Pieces
 pub mod Skip
-pub mod OnStores
-pub mod SettleOnStores

@@ -1,8 +1,7 @@
-// Bytes of a stream until they end a message or show a refusal, and what they then come to: definitions and laws. The functions stand in the crates above.
-pub mod accepted;
+// Bytes of a stream until they end a message or show a refusal, and what they then come to.
 pub mod handshakes;
+pub mod judge;
 pub mod piece;
-pub mod settle;
 
 // The longest message: two bytes of a header, two of a length and 1,024 of a body.
 pub const MESSAGE_MAX: usize = 1028;

@@ -11,44 +11,48 @@ use Rattle.handshake.specs.Handshake.{helloReply}
 use Rattle.session.specs.declared.Connection.{Connection}
 use Rattle.session.specs.declared.Answer.the-variants as answer
 use Rattle.session.specs.Session.{establish}
-use Rattle.message.specs.declared.Settled.{Settled}
-use Rattle.message.specs.OnStores.{refuseOn, noteOn}
-use Rattle.message.specs.Settled.{SettlesAll}
-use Rattle.message.proofs.Settling.{all-as}
+use Rattle.message.specs.declared.Effect.{Effect as EffectStruct}
+use Rattle.message.specs.Effects.{refuse, note}
+use Rattle.message.specs.Structs.{effectStruct}
 use Rattle.reassembly.specs.Judge.{helloJudged, statusJudged, effectOf}
-use Rattle.reassembly.specs.OnStores.{helloOn, statusOn}
 
 -- ---- a hello, where h is what its bytes are judged to be
 
-module _ (c : Connection) (j h : Hello) (e : h ≡ j) (r : Settled) where
-  pub hello-waiting : h ≡ hello.Waiting → SettlesAll (noteOn c answer.More []) r → SettlesAll (helloOn c j) r
-  unfolding noteOn helloOn effectOf helloJudged
-  hello-waiting k f = all-as f (λ s. ap (λ (x : Hello). effectOf c s (helloJudged c s x)) (sym k ∙ e))
+module _ (c : Connection) (j h : Hello) (e : h ≡ j) (r : EffectStruct) where
+  hello-comes : (x : Hello) → h ≡ x → effectStruct (effectOf c (helloJudged c x)) ≡ effectStruct (effectOf c (helloJudged c j))
+  hello-comes x k = ap (λ (y : Hello). effectStruct (effectOf c (helloJudged c y))) (sym k ∙ e)
 
-  pub hello-accepted : (p q : ℕ) → h ≡ hello.Accepted p q → SettlesAll (noteOn (establish c) (answer.Hello p q) (helloReply (hello.Accepted p q))) r
-      → SettlesAll (helloOn c j) r
-  unfolding noteOn helloOn effectOf helloJudged
-  hello-accepted p q k f = all-as f (λ s. ap (λ (x : Hello). effectOf c s (helloJudged c s x)) (sym k ∙ e))
+  pub hello-waiting : h ≡ hello.Waiting → r ≡ effectStruct (note c answer.More []) → r ≡ effectStruct (effectOf c (helloJudged c j))
+  unfolding effectOf helloJudged
+  hello-waiting k f = f ∙ hello-comes hello.Waiting k
 
-  pub hello-refused : (n : ℕ) → h ≡ hello.Refused n → SettlesAll (refuseOn c n) r → SettlesAll (helloOn c j) r
-  unfolding refuseOn helloOn effectOf helloJudged
-  hello-refused n k f = all-as f (λ s. ap (λ (x : Hello). effectOf c s (helloJudged c s x)) (sym k ∙ e))
+  pub hello-accepted : (p q : ℕ) → h ≡ hello.Accepted p q → r ≡ effectStruct (note (establish c) (answer.Hello p q) (helloReply (hello.Accepted p q)))
+      → r ≡ effectStruct (effectOf c (helloJudged c j))
+  unfolding effectOf helloJudged
+  hello-accepted p q k f = f ∙ hello-comes (hello.Accepted p q) k
+
+  pub hello-refused : (n : ℕ) → h ≡ hello.Refused n → r ≡ effectStruct (refuse c n) → r ≡ effectStruct (effectOf c (helloJudged c j))
+  unfolding effectOf helloJudged
+  hello-refused n k f = f ∙ hello-comes (hello.Refused n) k
 
 pub ruleset hellos = (needs, hello-waiting, hello-accepted, hello-refused)
 
 -- ---- a status, where h is what its bytes are judged to be
 
-module _ (c : Connection) (j h : Status) (e : h ≡ j) (r : Settled) where
-  pub status-waiting : h ≡ status.Waiting → SettlesAll (noteOn c answer.More []) r → SettlesAll (statusOn c j) r
-  unfolding noteOn statusOn effectOf statusJudged
-  status-waiting k f = all-as f (λ s. ap (λ (x : Status). effectOf c s (statusJudged c s x)) (sym k ∙ e))
+module _ (c : Connection) (j h : Status) (e : h ≡ j) (r : EffectStruct) where
+  status-comes : (x : Status) → h ≡ x → effectStruct (effectOf c (statusJudged c x)) ≡ effectStruct (effectOf c (statusJudged c j))
+  status-comes x k = ap (λ (y : Status). effectStruct (effectOf c (statusJudged c y))) (sym k ∙ e)
 
-  pub status-accepted : h ≡ status.Accepted → SettlesAll (noteOn (establish c) answer.Status []) r → SettlesAll (statusOn c j) r
-  unfolding noteOn statusOn effectOf statusJudged
-  status-accepted k f = all-as f (λ s. ap (λ (x : Status). effectOf c s (statusJudged c s x)) (sym k ∙ e))
+  pub status-waiting : h ≡ status.Waiting → r ≡ effectStruct (note c answer.More []) → r ≡ effectStruct (effectOf c (statusJudged c j))
+  unfolding effectOf statusJudged
+  status-waiting k f = f ∙ status-comes status.Waiting k
 
-  pub status-refused : (n : ℕ) → h ≡ status.Refused n → SettlesAll (refuseOn c n) r → SettlesAll (statusOn c j) r
-  unfolding refuseOn statusOn effectOf statusJudged
-  status-refused n k f = all-as f (λ s. ap (λ (x : Status). effectOf c s (statusJudged c s x)) (sym k ∙ e))
+  pub status-accepted : h ≡ status.Accepted → r ≡ effectStruct (note (establish c) answer.Status []) → r ≡ effectStruct (effectOf c (statusJudged c j))
+  unfolding effectOf statusJudged
+  status-accepted k f = f ∙ status-comes status.Accepted k
+
+  pub status-refused : (n : ℕ) → h ≡ status.Refused n → r ≡ effectStruct (refuse c n) → r ≡ effectStruct (effectOf c (statusJudged c j))
+  unfolding effectOf statusJudged
+  status-refused n k f = f ∙ status-comes (status.Refused n) k
 
 pub ruleset statuses = (needs, status-waiting, status-accepted, status-refused)

@@ -1,4 +1,4 @@
-use Rattle.reassembly.proofs.Settling.{accepting}
+use Rattle.reassembly.proofs.handshakes.Noting.{accepting}
 use Rattle.reassembly.proofs.handshakes.more.Statement.{statement}
 use Rattle.reassembly.proofs.handshakes.more.Tie as tie
 

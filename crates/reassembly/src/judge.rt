@@ -1,7 +1,7 @@
 // What unfinished bytes come to.
+use crate::handshakes::hello_effect;
 use crate::handshakes::more;
-use crate::handshakes::settle_hello;
-use crate::handshakes::settle_status;
+use crate::handshakes::status_effect;
 use frame::Frame;
 use frame::judge_frame;
 use message::Asked;
@@ -11,12 +11,13 @@ use session::AWAITING_STATUS;
 use session::Connection;
 use store::TABLES;
 use store::Table;
+ghost use mathlib.Core.Path.{_≡_};
 ghost use Rattle.frame.specs.Frame.{judgeFrame};
-ghost use Rattle.message.specs.Settled.{AsksWith};
-ghost use Rattle.reassembly.specs.SettleOnStores.{frameOn, judgeOn};
+ghost use Rattle.message.specs.Structs.{asked};
+ghost use Rattle.reassembly.specs.Judge.{frameJudged, judgeBytes, asksOf};
 
-fn settle_frame(connection: Connection, tables: [Table; TABLES], u: &[u8]) -> Asked
-    ensures { λ r. ⌜ AsksWith connection tables (frameOn connection (now (u .entry)) (judgeFrame (now (u .entry)))) r ⌝ }
+fn ask_frame(connection: Connection, tables: [Table; TABLES], u: &[u8]) -> Asked
+    ensures { λ r. ⌜ r ≡ asked connection (asksOf connection (frameJudged connection tables (now (u .entry)) (judgeFrame (now (u .entry))))) ⌝ }
 {
     match judge_frame(u) {
         Frame::Waiting => ask_nothing(more(connection)),
@@ -31,14 +32,14 @@ fn settle_frame(connection: Connection, tables: [Table; TABLES], u: &[u8]) -> As
 
 // What unfinished bytes come to before the entries are looked at. Bytes that end nothing and show no refusal come to more wanted, and
 // change nothing.
-pub fn settle(connection: Connection, tables: [Table; TABLES], u: &[u8]) -> Asked
-    ensures { λ r. ⌜ AsksWith connection tables (judgeOn connection (now (u .entry))) r ⌝ }
+pub fn judge_bytes(connection: Connection, tables: [Table; TABLES], u: &[u8]) -> Asked
+    ensures { λ r. ⌜ r ≡ asked connection (asksOf connection (judgeBytes connection tables (now (u .entry)))) ⌝ }
 {
     if connection.phase == AWAITING_HELLO {
-        return ask_nothing(settle_hello(connection, u));
+        return ask_nothing(hello_effect(connection, u));
     }
     if connection.phase == AWAITING_STATUS {
-        return ask_nothing(settle_status(connection, u));
+        return ask_nothing(status_effect(connection, u));
     }
-    settle_frame(connection, tables, u)
+    ask_frame(connection, tables, u)
 }

@@ -1,6 +1,6 @@
 use Rattle.reassembly.proofs.handshakes.Judging.{statuses}
-use Rattle.reassembly.proofs.handshakes.settle_status.Statement.{statement}
-use Rattle.reassembly.proofs.handshakes.settle_status.Tie as tie
+use Rattle.reassembly.proofs.handshakes.status_effect.Statement.{statement}
+use Rattle.reassembly.proofs.handshakes.status_effect.Tie as tie
 
 judge-status-requires : tie.Need-judge-status-requires
 judge-status-requires c κs = search statuses
@@ -32,8 +32,8 @@ returns-2 c = search statuses
 returns-3 : tie.Need-returns-3
 returns-3 c = search statuses
 
-pub settle-status-spec : {M : Type 1} → statement M
-settle-status-spec =
+pub status-effect-spec : {M : Type 1} → statement M
+status-effect-spec =
     tie.close
     (tie.spec
     judge-status-requires

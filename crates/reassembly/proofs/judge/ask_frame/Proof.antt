@@ -1,6 +1,6 @@
-use Rattle.reassembly.proofs.settle.Judging.{frames}
-use Rattle.reassembly.proofs.settle.settle_frame.Statement.{statement}
-use Rattle.reassembly.proofs.settle.settle_frame.Tie as tie
+use Rattle.reassembly.proofs.judge.Judging.{frames}
+use Rattle.reassembly.proofs.judge.ask_frame.Statement.{statement}
+use Rattle.reassembly.proofs.judge.ask_frame.Tie as tie
 
 judge-frame-requires : tie.Need-judge-frame-requires
 judge-frame-requires c κs = search frames
@@ -71,8 +71,8 @@ returns-4 c = search frames
 returns-5 : tie.Need-returns-5
 returns-5 c = search frames
 
-pub settle-frame-spec : {M : Type 1} → statement M
-settle-frame-spec =
+pub ask-frame-spec : {M : Type 1} → statement M
+ask-frame-spec =
     tie.close
     (tie.spec
     judge-frame-requires

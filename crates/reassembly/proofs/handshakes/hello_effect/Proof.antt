@@ -1,6 +1,6 @@
 use Rattle.reassembly.proofs.handshakes.Judging.{hellos}
-use Rattle.reassembly.proofs.handshakes.settle_hello.Statement.{statement}
-use Rattle.reassembly.proofs.handshakes.settle_hello.Tie as tie
+use Rattle.reassembly.proofs.handshakes.hello_effect.Statement.{statement}
+use Rattle.reassembly.proofs.handshakes.hello_effect.Tie as tie
 
 hello-of-requires : tie.Need-hello-of-requires
 hello-of-requires c κs = search hellos
@@ -32,8 +32,8 @@ returns-2 c = search hellos
 returns-3 : tie.Need-returns-3
 returns-3 c = search hellos
 
-pub settle-hello-spec : {M : Type 1} → statement M
-settle-hello-spec =
+pub hello-effect-spec : {M : Type 1} → statement M
+hello-effect-spec =
     tie.close
     (tie.spec
     hello-of-requires
