@@ -148,7 +148,7 @@ module _ (c : Connection) (s : Store) (h : Held c s) where
     connectionShape = closed-shape (h .connectionShape) l;
   }
 
-  stays-kept : {d : Connection} → Held d s → Held d (changed s noChange)
+  pub stays-kept : {d : Connection} → Held d s → Held d (changed s noChange)
   unfolding changed noChange
   stays-kept g = g
 
@@ -309,19 +309,19 @@ module _ (c : Connection) (s : Store) (h : Held c s) where
       connectionShape = subst (λ (n : ℕ). ConnectionShape (committed c n id)) (sym e-table) (commit-shape (h .connectionShape) table idFits);
     }
 
-    pub commit-kept : (f : Found) → findEntry s table key ≡ f → Kept s (Effects.commitTo c id e (placeOf f (firstPlace entryFree (s .entries))))
-    unfolding Effects.commitTo placeOf freeOf
+    pub commit-kept : (f : Found) → findEntry s table key ≡ f → Kept s (Effects.commitEntry c id e (placeOf f (firstPlace entryFree (s .entries))))
+    unfolding Effects.commitEntry placeOf freeOf
     commit-kept (found.At p) q = commit-at p commit.Replaced (only-entry s table key p (h .store) q)
     commit-kept found.Nothing q = commit-free (firstPlace entryFree (s .entries))
       where
-        commit-free : (f : Found) → Kept s (Effects.commitTo c id e (placeOf found.Nothing f))
+        commit-free : (f : Found) → Kept s (Effects.commitEntry c id e (placeOf found.Nothing f))
         commit-free (found.At p) = commit-at p commit.New (λ r m z. entry-missing s table key q r noEntry m)
         commit-free found.Nothing = refuse-kept 29 closing-29 (lit< tt)
 
   -- the entry that an update makes
   pub update-kept : (body : List ℕ) (table : ℕ) (u : Update) → Bytes body → c .current ≡ table + 1 → u .id < 2 ^ 32
       → UpdateWithin (getD (s .tables) table noTable) body u
-      → Kept s (Effects.commitTo c (u .id) (Effects.updatedEntry body table u) (goesTo (s .entries) (Effects.updatedEntry body table u)))
+      → Kept s (Effects.commitEntry c (u .id) (Effects.updatedEntry body table u) (goesTo (s .entries) (Effects.updatedEntry body table u)))
   unfolding Effects.updatedEntry findEntry
   update-kept body table u bytes now idFits w =
       let t = getD (s .tables) table noTable in
@@ -336,7 +336,7 @@ module _ (c : Connection) (s : Store) (h : Held c s) where
       let size : made .«key_len» ≤ 64 = made-size table key (u .server) (u .values) short in
       let table-is = made-entry-table table key (u .server) (u .values) in
       let key-is = made-key table key (u .server) (u .values) short in
-      subst (λ (f : Place). Kept s (Effects.commitTo c (u .id) made f)) (sym (goes-by-key (s .entries) made table key size table-is key-is))
+      subst (λ (f : Place). Kept s (Effects.commitEntry c (u .id) made f)) (sym (goes-by-key (s .entries) made table key size table-is key-is))
       (commit-kept table (u .id) key made idFits now (made-entry-mark table key (u .server) (u .values))
       (made-entry-facts table key (u .server) (u .values) (s .tables) small held short (rw n (w .keyLength)) (w .slots))
       (made-entry-shape table key (u .server) (u .values) (omega arith) (omega arith) (span-bytes body (u .key) (w .keyEnd) bytes .byte) (w .server) (w .values))

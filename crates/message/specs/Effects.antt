@@ -201,12 +201,12 @@ commitAt c id e place how = record {
 }
 
 -- "A known table and key has its values replaced. Otherwise the entry takes the lowest free place.", "29 | new key and no free entry"
-unfoldable pub commitTo : Connection → ℕ → Entry → Place → Effect
-commitTo c id e (place.Held i) = commitAt c id e i commit.Replaced
-commitTo c id e (place.Free i) = commitAt c id e i commit.New
-commitTo c id e place.Full = refuse c 29
+unfoldable pub commitEntry : Connection → ℕ → Entry → Place → Effect
+commitEntry c id e (place.Held i) = commitAt c id e i commit.Replaced
+commitEntry c id e (place.Free i) = commitAt c id e i commit.New
+commitEntry c id e place.Full = refuse c 29
 
 -- what was asked is done, among the entries
 unfoldable pub done : Connection → List Entry → Asks → Effect
 done c entries (does e) = e
-done c entries (commits id e) = commitTo c id e (goesTo entries e)
+done c entries (commits id e) = commitEntry c id e (goesTo entries e)

@@ -14,7 +14,7 @@ use Rattle.body.specs.Bodies.{Update}
 use Rattle.body.specs.Results.{readAs}
 use Rattle.message.specs.declared.Effect.{Effect as EffectStruct}
 use Rattle.message.specs.declared.Asked.{Asked}
-use Rattle.message.specs.Effects.{Effect, Asks, does, commits, note, commitTo}
+use Rattle.message.specs.Effects.{Effect, Asks, does, commits, note, commitEntry}
 
 unfoldable pub effectStruct : Effect → EffectStruct
 effectStruct e = record { answer = e .answer; reply = replyOf (e .reply); connection = e .connection; change = e .change }
@@ -33,7 +33,7 @@ asked c (commits id e) = asksCommit c id e
 
 -- what was asked is done, where a committed entry goes to the place
 unfoldable pub finished : Connection → Place → Asked → EffectStruct
-finished c p a = cond (a .commits) (effectStruct (commitTo c (a .id) (a .entry) p)) (a .effect)
+finished c p a = cond (a .commits) (effectStruct (commitEntry c (a .id) (a .entry) p)) (a .effect)
 
 -- ---- what was read of an update
 

@@ -24,6 +24,7 @@ use Rattle.session.specs.declared.Answer.{Answer}
 use Rattle.session.specs.declared.Answer.the-variants as answer
 use Rattle.session.specs.Session.{unfinished, holding, bindingAt}
 use Rattle.body.specs.Fields.{spanIn}
+use Rattle.message.specs.Changes.{noChange, changed}
 use Rattle.message.specs.Effects.{Effect, refuse, acknowledge, updatedEntry}
 use Rattle.opening.specs.Opening.{Role, Opening, refuseOpening, accept, refusedOpening, «open», openRoom}
 use Rattle.message.proofs.Kept.{Held}
@@ -85,13 +86,13 @@ module _ (s : Session) (t : Store) (m : Made) (p : ReadPromise s t m) where
         room = p .final ∙ (ap (λ (l : List ℕ). front l (m .room)) r ∙ no-front (m .room));
       }
 
-  closed : (n : ℕ) (e : Effect) → Judging s t (m .piece) call e → e ≡ refuse (s .connection) t n → OnlyClosed s t m n
-  unfolding refuse
+  closed : (n : ℕ) (e : Effect) → Judging s t (m .piece) call e → e ≡ refuse (s .connection) n → OnlyClosed s t m n
+  unfolding refuse changed noChange
   closed n e j q = record {
     session =
         record-holds s t m p (j .some)
         ∙ (ap (λ (k : State). holding (k .connection) (k .unfinished)) (j .state) ∙ ap (λ (x : Effect). holding (x .connection) []) q);
-    store = p .store ∙ (ap (λ (k : State). k .store) (j .state) ∙ ap (λ (x : Effect). x .store) q);
+    store = p .store ∙ (ap (λ (k : State). k .store) (j .state) ∙ ap (λ (x : Effect). changed t (x .change)) q);
     reply = reply-is s t m p ∙ (j .reply ∙ ap (λ (x : Effect). x .reply) q);
     room = room-past s t m p;
   }
@@ -171,8 +172,8 @@ module _ (s : Session) (t : Store) (m : Made) (p : ReadPromise s t m) (e : Effec
         (small-bytes (take (m .outcome .taken) (m .piece)) (every-take isByte (m .outcome .taken) (m .piece) (p .bytes)));
   }
 
-  pub right : Right (s .connection) (messageOf s m) e
-  right = subst (JudgedRight (s .connection) (messageOf s m)) judged (judge-right (s .connection) t held (messageOf s m) bytes)
+  pub right : Right (s .connection) t (messageOf s m) e
+  right = subst (JudgedRight (s .connection) t (messageOf s m)) judged (judge-right (s .connection) t held (messageOf s m) bytes)
 
   acked : isAcknowledgement (replyIn m) ≡ true → isAcknowledgement (e .reply) ≡ true
   acked h = ap isAcknowledgement (sym (reply-is s t m p ∙ j .reply)) ∙ h

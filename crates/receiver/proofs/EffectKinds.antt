@@ -11,11 +11,13 @@ use lib.Dec.{eqb, leb}
 use borrow.Author.Tests.{eqb-true, le-leb, lt-leb}
 use Rattle.lists.specs.declared.Found.{Found}
 use Rattle.lists.specs.declared.Found.the-variants as found
+use Rattle.lists.specs.Lists.{firstPlace}
+use Rattle.lists.proofs.Places.{first-at}
 use Rattle.lists.proofs.Cases.{by-test, cond-true, cond-false}
 use Rattle.store.specs.declared.Table.{Table}
 use Rattle.store.specs.declared.Store.{Store}
-use Rattle.store.specs.Store.{findTable, freeTable, findEntry, freeEntry, makeTable, tableHeld, noTable}
-use Rattle.store.proofs.Kept.{entry-found, entry-place}
+use Rattle.store.specs.Store.{tableFree, entryFree, makeTable, tableHeld, noTable}
+use Rattle.store.specs.Places.{freeOf, placeOf}
 use Rattle.handshake.specs.declared.Hello.{Hello}
 use Rattle.handshake.specs.declared.Hello.the-variants as hello
 use Rattle.handshake.specs.declared.Status.{Status}
@@ -34,8 +36,9 @@ use Rattle.session.specs.declared.Answer.the-variants as answer
 use Rattle.session.specs.Session.{localName, remoteName, findBound, bindingAt, isUpdated}
 use Rattle.body.specs.Fields.{Read, got, short, outside, spanIn}
 use Rattle.body.specs.Bodies.{Definition, Update, definitionFields, switchFields, acknowledgementFields, updateFields, incrementalFields}
-use Rattle.message.specs.Effects.{Effect, refuse, note, fieldsThen, control, controlAnswer, peerError, definedTable, defineAt, defineNew, defineNamed, agrees, definition, switchTo, switch, acknowledgement, skipped, updatedEntry, commitAt, commitNew, commitUpdate, withFields, followingId, incrementalOf, update, incremental, stickTable}
-use Rattle.reassembly.specs.Judge.{Judged, waiting, settled, helloJudged, statusJudged, frameJudged, judge}
+use Rattle.message.specs.Targets.{keyedAs, goesTo}
+use Rattle.message.specs.Effects.{Effect, Asks, does, refuse, refusal, note, fieldsThen, control, controlAnswer, peerError, definedTable, defineAt, defineNew, defineNamed, agrees, definition, switchTo, switch, acknowledgement, skipped, updatedEntry, commitAt, commitEntry, withFields, followingId, incrementalOf, update, incremental, stickTable, done}
+use Rattle.reassembly.specs.Judge.{Judged, waiting, settled, helloJudged, statusJudged, frameJudged, asksNone, judgeBytes, doneOf, judge}
 use Rattle.receiver.specs.Corollaries.{closes, fieldsOf}
 
 -- an answer that leaves the store as it is, and is no refusal
@@ -74,12 +77,12 @@ pub record Committing (c : Connection) (t : Store) (u : List ℕ) (fields : Upda
   pub inside : place < length (t .entries)
 
 pub data Kind (c : Connection) (t : Store) (u : List ℕ) : Effect → Type 0 where
-  refused : (n : ℕ) → closes n ≡ true → Kind c t u (refuse c t n)
-  noted : (d : Connection) (a : Answer) (reply : List ℕ) → Noted a → Kind c t u (note d t a reply)
-  failed : (type : ℕ) → Kind c t u (peerError c t type)
-  defined : (id : ℕ) (x : Table) (place : ℕ) → tableHeld x ≡ true → Kind c t u (defineAt c t id x place)
+  refused : (n : ℕ) → closes n ≡ true → Kind c t u (refuse c n)
+  noted : (d : Connection) (a : Answer) (reply : List ℕ) → Noted a → Kind c t u (note d a reply)
+  failed : (type : ℕ) → Kind c t u (peerError c type)
+  defined : (id : ℕ) (x : Table) (place : ℕ) → tableHeld x ≡ true → Kind c t u (defineAt c id x place)
   committed : (fields : Update) (body : List ℕ) (place : ℕ) (how : Commit) → Committing c t u fields body place
-      → Kind c t u (commitAt c t (c .current - 1) (fields .id) (updatedEntry body (c .current - 1) fields) place how)
+      → Kind c t u (commitAt c (fields .id) (updatedEntry body (c .current - 1) fields) place how)
 
 -- ---- numbers of refusals
 
@@ -94,31 +97,31 @@ closes-high n a b = rw (le-leb 10 n (let z : 10 ≤ n = omega arith in z), lt-le
 -- ---- messages of class 10
 
 module _ (c : Connection) (t : Store) (u : List ℕ) where
-  refused-with : (n : ℕ) → 20 ≤ n → n ≤ 29 → Kind c t u (refuse c t n)
+  refused-with : (n : ℕ) → 20 ≤ n → n ≤ 29 → Kind c t u (refuse c n)
   refused-with n a b = refused n (closes-high n a b)
 
-  fields-kind : {A : Type 0} (r : Read A) (f : A → Effect) → ((a : A) → Kind c t u (f a)) → Kind c t u (fieldsThen c t r f)
+  fields-kind : {A : Type 0} (r : Read A) (f : A → Effect) → ((a : A) → Kind c t u (f a)) → Kind c t u (fieldsThen (refuse c) r f)
   unfolding fieldsThen
   fields-kind (got a n) f g = g a
   fields-kind short f g = refused-with 23 (omega arith) (omega arith)
   fields-kind outside f g = refused-with 24 (omega arith) (omega arith)
 
-  new-kind : (id : ℕ) (x : Table) (f : Found) → tableHeld x ≡ true → Kind c t u (defineNew c t id x f)
+  new-kind : (id : ℕ) (x : Table) (f : Found) → tableHeld x ≡ true → Kind c t u (defineNew c id x f)
   unfolding defineNew
   new-kind id x (found.At p) k = defined id x p k
   new-kind id x found.Nothing k = refused-with 26 (omega arith) (omega arith)
 
-  named-kind : (id : ℕ) (x : Table) (f : Found) → tableHeld x ≡ true → Kind c t u (defineNamed c t id x f)
+  named-kind : (id : ℕ) (x : Table) (f : Found) → tableHeld x ≡ true → Kind c t u (defineNamed c (t .tables) id x f)
   unfolding defineNamed
   named-kind id x (found.At p) k =
       by-test (agrees (getD (t .tables) p noTable) x) (λ a. rw a (defined id x p k)) (λ a. rw a (refused-with 25 (omega arith) (omega arith)))
-  named-kind id x found.Nothing k = new-kind id x (freeTable t) k
+  named-kind id x found.Nothing k = new-kind id x (firstPlace tableFree (t .tables)) k
 
   defined-held : (body : List ℕ) (d : Definition) → tableHeld (definedTable body d) ≡ true
   unfolding definedTable makeTable tableHeld
   defined-held body d = refl
 
-  switch-kind : (f : Found) → Kind c t u (switchTo c t f)
+  switch-kind : (f : Found) → Kind c t u (switchTo c f)
   unfolding switchTo
   switch-kind (found.At p) = noted _ _ [] tt
   switch-kind found.Nothing = refused-with 27 (omega arith) (omega arith)
@@ -132,38 +135,35 @@ module _ (c : Connection) (t : Store) (u : List ℕ) where
 
     module _ (type : (kind ≡ 128) ⊎ (kind ≡ 129)) (z : eqb (c .current) 0 ≡ false) (previous : kind ≡ 129 → isUpdated (bindingAt c now) ≡ true) where
       commit-kind : (f : Update) (after p : ℕ) (how : Commit) → fieldsOf c t now kind body ≡ got f after → p < length (t .entries)
-          → Kind c t u (commitAt c t now (f .id) (updatedEntry body now f) p how)
+          → Kind c t u (commitAt c (f .id) (updatedEntry body now f) p how)
       commit-kind f after p how r l =
           committed f body p how
           (record { kind = kind; start = start; end = end; framed = e; body-is = refl; type = type; current = z; previous = previous; after = after; read = r; inside = l })
 
-      commit-new-kind : (f : Update) (after : ℕ) (x : Found) → fieldsOf c t now kind body ≡ got f after → freeEntry t ≡ x
-          → Kind c t u (commitNew c t now (f .id) (updatedEntry body now f) x)
-      unfolding commitNew
-      commit-new-kind f after (found.At p) r q = commit-kind f after p commit.New r (entry-place t p q .inside)
-      commit-new-kind f after found.Nothing r q = refused-with 29 (omega arith) (omega arith)
+      -- where the entry goes, by what the lookups found
+      commit-entry-kind : (f : Update) (after : ℕ) (x y : Found) → fieldsOf c t now kind body ≡ got f after
+          → firstPlace (keyedAs (updatedEntry body now f)) (t .entries) ≡ x → firstPlace entryFree (t .entries) ≡ y
+          → Kind c t u (commitEntry c (f .id) (updatedEntry body now f) (placeOf x y))
+      unfolding commitEntry placeOf freeOf
+      commit-entry-kind f after (found.At p) y r q w = commit-kind f after p commit.Replaced r (first-at (keyedAs (updatedEntry body now f)) (t .entries) p q .inside)
+      commit-entry-kind f after found.Nothing (found.At p) r q w = commit-kind f after p commit.New r (first-at entryFree (t .entries) p w .inside)
+      commit-entry-kind f after found.Nothing found.Nothing r q w = refused-with 29 (omega arith) (omega arith)
 
-      commit-update-kind : (f : Update) (after : ℕ) (x : Found) → fieldsOf c t now kind body ≡ got f after
-          → findEntry t now (spanIn body (f .key)) ≡ x → Kind c t u (commitUpdate c t now (f .id) (updatedEntry body now f) x)
-      unfolding commitUpdate
-      commit-update-kind f after (found.At p) r q = commit-kind f after p commit.Replaced r (entry-found t now (spanIn body (f .key)) p q .inside)
-      commit-update-kind f after found.Nothing r q = commit-new-kind f after (freeEntry t) r refl
-
-      with-kind : (r : Read Update) → fieldsOf c t now kind body ≡ r → Kind c t u (withFields c t body now r)
-      unfolding withFields fieldsThen
-      with-kind (got f after) q = commit-update-kind f after (findEntry t now (spanIn body (f .key))) q refl
+      with-kind : (r : Read Update) → fieldsOf c t now kind body ≡ r → Kind c t u (done c (t .entries) (withFields c body now r))
+      unfolding withFields fieldsThen refusal done goesTo
+      with-kind (got f after) q = commit-entry-kind f after _ _ q refl refl
       with-kind short q = refused-with 23 (omega arith) (omega arith)
       with-kind outside q = refused-with 24 (omega arith) (omega arith)
 
-    update-kind : eqb kind 128 ≡ true → Kind c t u (update c t body)
-    unfolding update
+    update-kind : eqb kind 128 ≡ true → Kind c t u (done c (t .entries) (update c (t .tables) body))
+    unfolding update refusal done
     update-kind a =
         by-test (eqb (c .current) 0)
         (λ z. rw z (refused-with 27 (omega arith) (omega arith)))
         (λ z. rw z (with-kind (inl (eqb-true kind 128 a)) z (λ y. absurd (omega (arith, eqb-true kind 128 a))) (updateFields (getD (t .tables) now noTable) body) (cond-true (eqb kind 128) _ _ a)))
 
-    incremental-kind : eqb kind 128 ≡ false → eqb kind 129 ≡ true → Kind c t u (incremental c t body)
-    unfolding incremental incrementalOf
+    incremental-kind : eqb kind 128 ≡ false → eqb kind 129 ≡ true → Kind c t u (done c (t .entries) (incremental c (t .tables) body))
+    unfolding incremental incrementalOf refusal done
     incremental-kind a b =
         by-test (eqb (c .current) 0)
         (λ z. rw z (refused-with 27 (omega arith) (omega arith)))
@@ -176,8 +176,8 @@ module _ (c : Connection) (t : Store) (u : List ℕ) where
         (cond-false (eqb kind 128) _ _ a)))
         (λ y. rw y (refused-with 28 (omega arith) (omega arith)))))
 
-    stick-kind : Kind c t u (stickTable c t kind body)
-    unfolding stickTable
+    stick-kind : Kind c t u (done c (t .entries) (stickTable c (t .tables) kind body))
+    unfolding stickTable done
     stick-kind =
         by-test (eqb kind 128)
         (λ a. rw a (update-kind a))
@@ -201,7 +201,7 @@ module _ (c : Connection) (t : Store) (u : List ℕ) where
 
 -- ---- all that bytes come to
 
-abbrev JudgedKind : Connection → Store → List ℕ → Judged → Type 0
+abbrev JudgedKind : Connection → Store → List ℕ → Judged Effect → Type 0
 JudgedKind c t u waiting = Unit {0}
 JudgedKind c t u (settled e) = Kind c t u e
 
@@ -213,32 +213,41 @@ control-noted type =
     (λ a. rw a (by-test (eqb type 1) (λ b. rw b tt) (λ b. rw b (by-test (eqb type 2) (λ d. rw d tt) (λ d. rw d (by-test (eqb type 3) (λ e. rw e tt) (λ e. rw e tt)))))))
 
 module _ (c : Connection) (t : Store) (u : List ℕ) where
-  hello-kind : (h : Hello) → judgeHello (localName c) (remoteName c) u ≡ h → JudgedKind c t u (helloJudged c t h)
+  hello-kind : (h : Hello) → judgeHello (localName c) (remoteName c) u ≡ h → JudgedKind c t u (helloJudged c h)
   unfolding helloJudged
   hello-kind hello.Waiting e = tt
   hello-kind (hello.Accepted p r) e = noted _ _ _ tt
   hello-kind (hello.Refused n) e = let k = hello-refusal (localName c) (remoteName c) u n e in refused n (closes-low n (k .0) (omega (arith, k .1)))
 
-  status-kind : (h : Status) → judgeStatus u ≡ h → JudgedKind c t u (statusJudged c t h)
+  status-kind : (h : Status) → judgeStatus u ≡ h → JudgedKind c t u (statusJudged c h)
   unfolding statusJudged
   status-kind status.Waiting e = tt
   status-kind status.Accepted e = noted _ _ _ tt
   status-kind (status.Refused n) e = let k = status-refusal u n e in refused n (closes-low n (omega (arith, k .0)) (k .1))
 
-  frame-kind : (f : Frame) → judgeFrame u ≡ f → JudgedKind c t u (frameJudged c t u f)
-  unfolding frameJudged
+  frame-kind : (f : Frame) → judgeFrame u ≡ f → JudgedKind c t u (doneOf c (t .entries) (frameJudged c (t .tables) u f))
+  unfolding doneOf frameJudged done refusal
   frame-kind frame.Waiting e = tt
   frame-kind (frame.Control type) e = unfold control in noted c (controlAnswer type) _ (control-noted type)
   frame-kind (frame.Error type) e = failed type
   frame-kind (frame.Body kind start end) e = stick-kind c t u kind start end e
   frame-kind (frame.Refused n) e = let k = refused-number u n e in refused n (closes-high n (k .0) (omega (arith, k .1)))
 
+  none-kind : (j : Judged Effect) → JudgedKind c t u j → JudgedKind c t u (doneOf c (t .entries) (asksNone j))
+  unfolding doneOf asksNone done
+  none-kind waiting k = tt
+  none-kind (settled e) k = k
+
   judge-kind : JudgedKind c t u (judge c t u)
-  unfolding judge
+  unfolding judge judgeBytes
   judge-kind =
       by-test (eqb (c .phase) 0)
-      (λ a. rw a (hello-kind (judgeHello (localName c) (remoteName c) u) refl))
-      (λ a. rw a (by-test (eqb (c .phase) 1) (λ b. rw b (status-kind (judgeStatus u) refl)) (λ b. rw b (frame-kind (judgeFrame u) refl))))
+      (λ a. rw a (none-kind _ (hello-kind (judgeHello (localName c) (remoteName c) u) refl)))
+      (λ a.
+      rw a
+      (by-test (eqb (c .phase) 1)
+      (λ b. rw b (none-kind _ (status-kind (judgeStatus u) refl)))
+      (λ b. rw b (frame-kind (judgeFrame u) refl))))
 
   pub kind-of : (e : Effect) → judge c t u ≡ settled e → Kind c t u e
   kind-of e q = subst (JudgedKind c t u) q judge-kind

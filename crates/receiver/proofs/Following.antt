@@ -127,33 +127,33 @@ same-ledger c d e b l f = record {
   last = λ p. f .last p ∙ ap (λ (bs : List Binding). cond (isUpdated (getD bs p noBinding)) (some (getD bs p noBinding .previous)) none) (sym b);
 }
 
-pub refuse-follow : (c : Connection) (s : Store) (n : ℕ) (m : List ℕ) → Follow c m (refuse c s n)
+pub refuse-follow : (c : Connection) (n : ℕ) (m : List ℕ) → Follow c m (refuse c n)
 unfolding refuse post closedWith
-refuse-follow c s n m = record { follows = same-ledger c (closedWith c n) refl refl; right = λ l f. refusal-none n }
+refuse-follow c n m = record { follows = same-ledger c (closedWith c n) refl refl; right = λ l f. refusal-none n }
 
-pub hello-follow : (c : Connection) (s : Store) (p r : ℕ) (m : List ℕ) → Follow c m (note (establish c) s (answer.Hello p r) (statusLine 200))
+pub hello-follow : (c : Connection) (p r : ℕ) (m : List ℕ) → Follow c m (note (establish c) (answer.Hello p r) (statusLine 200))
 unfolding note post establish
-hello-follow c s p r m = record { follows = same-ledger c (establish c) refl refl; right = λ l f. accepted-none }
+hello-follow c p r m = record { follows = same-ledger c (establish c) refl refl; right = λ l f. accepted-none }
 
-pub status-follow : (c : Connection) (s : Store) (m : List ℕ) → Follow c m (note (establish c) s answer.Status [])
+pub status-follow : (c : Connection) (m : List ℕ) → Follow c m (note (establish c) answer.Status [])
 unfolding note post establish
-status-follow c s m = record { follows = same-ledger c (establish c) refl refl; right = λ l f. none-none }
+status-follow c m = record { follows = same-ledger c (establish c) refl refl; right = λ l f. none-none }
 
-pub error-follow : (c : Connection) (s : Store) (type : ℕ) (m : List ℕ) → Follow c m (peerError c s type)
-unfolding peerError post closedWith
-error-follow c s type m = record { follows = same-ledger c (closedWith c 0) refl refl; right = λ l f. none-none }
+pub error-follow : (c : Connection) (type : ℕ) (m : List ℕ) → Follow c m (peerError c type)
+unfolding peerError note post closedWith
+error-follow c type m = record { follows = same-ledger c (closedWith c 0) refl refl; right = λ l f. none-none }
 
-pub skipped-follow : (c : Connection) (s : Store) (kind : ℕ) (m : List ℕ) → Follow c m (note c s (answer.Skipped kind) [])
+pub skipped-follow : (c : Connection) (kind : ℕ) (m : List ℕ) → Follow c m (note c (answer.Skipped kind) [])
 unfolding note post
-skipped-follow c s kind m = record { follows = λ l f. f; right = λ l f. none-none }
+skipped-follow c kind m = record { follows = λ l f. f; right = λ l f. none-none }
 
-pub acknowledgement-follow : (c : Connection) (s : Store) (id update : ℕ) (m : List ℕ) → Follow c m (note c s (answer.Acknowledgement id update) [])
+pub acknowledgement-follow : (c : Connection) (id update : ℕ) (m : List ℕ) → Follow c m (note c (answer.Acknowledgement id update) [])
 unfolding note post
-acknowledgement-follow c s id update m = record { follows = λ l f. f; right = λ l f. none-none }
+acknowledgement-follow c id update m = record { follows = λ l f. f; right = λ l f. none-none }
 
-pub control-follow : (c : Connection) (s : Store) (type : ℕ) (m : List ℕ) → Follow c m (control c s type)
+pub control-follow : (c : Connection) (type : ℕ) (m : List ℕ) → Follow c m (control c type)
 unfolding control note post controlAnswer
-control-follow c s type m =
+control-follow c type m =
     by-test (eqb type 0)
     (λ a. rw a (record { follows = λ l f. f; right = λ l f. control-none type }))
     (λ a.
@@ -182,9 +182,9 @@ made-current : (c : Connection) (place : ℕ) → place < 8 → makeCurrent c pl
 unfolding makeCurrent withTables
 made-current c place h = sym (mark-of place h)
 
-pub switch-follow : (c : Connection) (s : Store) (place : ℕ) (m : List ℕ) → place < 8 → Follow c m (note (makeCurrent c place) s (answer.Switch place) [])
+pub switch-follow : (c : Connection) (place : ℕ) (m : List ℕ) → place < 8 → Follow c m (note (makeCurrent c place) (answer.Switch place) [])
 unfolding note post switches
-switch-follow c s place m h = record {
+switch-follow c place m h = record {
   follows = λ l f. record {
     current = sym (current-some (makeCurrent c place) place (made-current c place h));
     bound = λ p. f .bound p ∙ unfold startLedger bindingAt makeCurrent withTables in refl;
@@ -272,10 +272,10 @@ module _ (c : Connection) (place id : ℕ) (h : place < 8) (long : length (c .bi
       (λ e. refl))
       ∙ sym (start-last (bind c place id) p)))
 
-pub define-follow : (c : Connection) (s : Store) (id : ℕ) (t : Table) (place : ℕ) (m : List ℕ) → place < 8
-    → length (c .bindings) ≡ 8 → definedId m ≡ id → Follow c m (defineAt c s id t place)
+pub define-follow : (c : Connection) (id : ℕ) (t : Table) (place : ℕ) (m : List ℕ) → place < 8
+    → length (c .bindings) ≡ 8 → definedId m ≡ id → Follow c m (defineAt c id t place)
 unfolding defineAt post
-define-follow c s id t place m h long e = record {
+define-follow c id t place m h long e = record {
   follows = λ l f.
       subst (λ (k : ℕ). Follows (bind c place id) (defines l place k)) (sym e)
       (record {
@@ -339,13 +339,13 @@ module _ (c : Connection) (table id : ℕ) (h : table < 8) (long : length (c .bi
     carries = refl;
   }
 
-pub commit-follow : (c : Connection) (s : Store) (table id : ℕ) (e : Entry) (place : ℕ) (how : Commit) (m : List ℕ) → table < 8
-    → length (c .bindings) ≡ 8 → c .current ≡ table + 1 → isBound (bindingAt c table) ≡ true
-    → bindingAt c table .id < 2 ^ 32 → id < 2 ^ 32
+pub commit-follow : (c : Connection) (id : ℕ) (e : Entry) (place : ℕ) (how : Commit) (m : List ℕ) → e .table < 8
+    → length (c .bindings) ≡ 8 → c .current ≡ e .table + 1 → isBound (bindingAt c (e .table)) ≡ true
+    → bindingAt c (e .table) .id < 2 ^ 32 → id < 2 ^ 32
     → ((l : Ledger) → Follows c l → updateId m (at (l .last) (l .current)) ≡ some id)
-    → Follow c m (commitAt c s table id e place how)
+    → Follow c m (commitAt c id e place how)
 unfolding commitAt post
-commit-follow c s table id e place how m h long now b i u ids = record {
-  follows = λ l f. rw (ids l f) (after-commit c table id h long now l f);
-  right = λ l f. rw (ids l f) (carried c table id h long now l f b i u);
+commit-follow c id e place how m h long now b i u ids = record {
+  follows = λ l f. rw (ids l f) (after-commit c (e .table) id h long now l f);
+  right = λ l f. rw (ids l f) (carried c (e .table) id h long now l f b i u);
 }

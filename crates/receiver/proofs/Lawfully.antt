@@ -21,6 +21,7 @@ use Rattle.session.specs.Session.{isClosed, holding, unfinished}
 use Rattle.session_soundness.specs.Sound.{waits, sound}
 use Rattle.session_soundness.proofs.Facts.{SoundConnection}
 use Rattle.session_soundness.proofs.Records.{sound-store, sound-session, sound-both, holding-sound, empty-sound, open-facts}
+use Rattle.message.specs.Changes.{changed}
 use Rattle.message.specs.Effects.{Effect}
 use Rattle.message.proofs.Kept.{Held, Kept}
 use Rattle.streams.specs.Model.{Fed, quiet, answered, stateOf, endedBy}
@@ -63,9 +64,9 @@ unfolding soundState
 settled-sound c t st sc = sound-both (holding c []) t (facts-sound t st) (empty-sound sc)
 
 -- after an answer no byte is unfinished
-settled-good : (e : Effect) → Kept e → Good (record { connection = e .connection; unfinished = []; store = e .store })
-settled-good e k = record {
-  sound = settled-sound (e .connection) (e .store) (k .store) (k .connection);
+settled-good : (t : Store) (e : Effect) → Kept t e → Good (record { connection = e .connection; unfinished = []; store = changed t (e .change) })
+settled-good t e k = record {
+  sound = settled-sound (e .connection) (changed t (e .change)) (k .store) (k .connection);
   connection = k .connectionShape;
   unfinished = λ i. lit< tt;
   store = k .storeShape;
@@ -83,8 +84,8 @@ snoc-small (x ∷ u) b h l (suc i) = snoc-small u b (λ j. h (suc j)) l i
 pub data Came (s : State) (b : ℕ) : Fed State Answer → Type 0 where
   waited : waits (s .connection) (s .unfinished ++ (b ∷ [])) ≡ true
       → Came s b (quiet (record { connection = s .connection; unfinished = s .unfinished ++ (b ∷ []); store = s .store }))
-  answers : (e : Effect) → Right (s .connection) (s .unfinished ++ (b ∷ [])) e
-      → Came s b (answered (e .answer) (e .reply) (record { connection = e .connection; unfinished = []; store = e .store }))
+  answers : (e : Effect) → Right (s .connection) (s .store) (s .unfinished ++ (b ∷ [])) e
+      → Came s b (answered (e .answer) (e .reply) (record { connection = e .connection; unfinished = []; store = changed (s .store) (e .change) }))
 
 module _ (s : State) (b : ℕ) (g : Good s) (o : isClosed (s .connection) ≡ false) (l : isByte b ≡ true) where
   abbrev now : List ℕ
@@ -102,13 +103,13 @@ module _ (s : State) (b : ℕ) (g : Good s) (o : isClosed (s .connection) ≡ fa
       (λ w. subst (Came s b) (sym (feed-waits (s .connection) (s .unfinished) (s .store) b o w)) (waited w))
       (λ w.
       let j = judged-settled (waits (s .connection) now) (judge (s .connection) (s .store) now) (judged-as (s .connection) (s .store) now) w in
-      let r : Right (s .connection) now (j .0) = subst (JudgedRight (s .connection) now) (j .1) (judge-right (s .connection) (s .store) (open-held s g o) now now-bytes) in
+      let r : Right (s .connection) (s .store) now (j .0) = subst (JudgedRight (s .connection) (s .store) now) (j .1) (judge-right (s .connection) (s .store) (open-held s g o) now now-bytes) in
       subst (Came s b)
       (sym (feed-open (s .connection) (s .unfinished) (s .store) b o ∙ (ap (joined (s .connection) (s .store) now) (j .1) ∙ settled-fed (s .connection) (s .store) now (j .0))))
       (answers (j .0) r))
     where
       settled-fed : (c : Connection) (t : Store) (u : List ℕ) (e : Effect)
-          → joined c t u (settled e) ≡ answered (e .answer) (e .reply) (record { connection = e .connection; unfinished = []; store = e .store })
+          → joined c t u (settled e) ≡ answered (e .answer) (e .reply) (record { connection = e .connection; unfinished = []; store = changed t (e .change) })
       settled-fed c t u e = unfold joined in refl
 
   came-good : (f : Fed State Answer) → Came s b f → Good (stateOf f)
@@ -120,7 +121,7 @@ module _ (s : State) (b : ℕ) (g : Good s) (o : isClosed (s .connection) ≡ fa
         unfinished = now-bytes .byte;
         store = g .store;
       }
-  came-good f (answers e r) = settled-good e (r .kept)
+  came-good f (answers e r) = settled-good (s .store) e (r .kept)
 
   pub open-good : Good (stateOf (feed s b))
   open-good = came-good (feed s b) came
@@ -141,7 +142,7 @@ abbrev AnswerEnds : Fed State Answer → Type 0
 AnswerEnds (quiet t) = Unit {0}
 AnswerEnds (answered a r t) = ends a ≡ true
 
-joined-ends : (c : Connection) (t : Store) (u : List ℕ) (j : Judged) → judge c t u ≡ j → AnswerEnds (joined c t u j)
+joined-ends : (c : Connection) (t : Store) (u : List ℕ) (j : Judged Effect) → judge c t u ≡ j → AnswerEnds (joined c t u j)
 unfolding joined
 joined-ends c t u waiting e = tt
 joined-ends c t u (settled x) e = settled-ends c t u x e
@@ -203,7 +204,7 @@ answer-along s b f (waited w) t u l a r k e i = absurd (let z : _≡_ {A = ℕ} 
 answer-along s b f (answers x y) t u l a r k e i =
     let qa : x .answer ≡ a = cc in
     let qr : x .reply ≡ r = cc in
-    let qt : record { connection = x .connection; unfinished = []; store = x .store } ≡ t = cc in
+    let qt : record { connection = x .connection; unfinished = []; store = changed (s .store) (x .change) } ≡ t = cc in
     let qu = i .bytes k in
     rw (← qa, ← qr, ← qt, qu)
     (y .follow .right l (i .follows), record { follows = y .follow .follows l (i .follows); bytes = λ z. refl })

@@ -11,12 +11,15 @@ use lib.Dec.{eqb, ltb, leb, lit<}
 use borrow.Author.Tests.{eq-eqb, ne-eqb, eqb-true, eqb-false, le-leb, lt-leb}
 use Rattle.lists.specs.declared.Found.{Found}
 use Rattle.lists.specs.declared.Found.the-variants as found
+use Rattle.lists.specs.Lists.{firstPlace}
 use Rattle.lists.proofs.Places.{First, first-at}
 use Rattle.wire.specs.Value.{Bytes}
 use Rattle.wire.proofs.Sizes.{drop-bytes}
 use Rattle.store.specs.declared.Table.{Table}
 use Rattle.store.specs.declared.Entry.{Entry}
-use Rattle.store.specs.Store.{tableFree, tableNamed, findTable, findEntry, freeTable, freeEntry, noTable}
+use Rattle.store.specs.declared.entries.Place.{Place}
+use Rattle.store.specs.declared.entries.Place.the-variants as place
+use Rattle.store.specs.Store.{tableFree, tableNamed, makeEntry, noTable}
 use Rattle.lists.proofs.Cases.{by-test, and-intro, cond-true, cond-false}
 use Rattle.store.specs.declared.Store.{Store}
 use Rattle.handshake.specs.declared.Hello.{Hello}
@@ -44,18 +47,19 @@ use Rattle.session.proofs.Shapes.{establish-shape}
 use Rattle.body.specs.Fields.{Read, got, short, outside, spanIn}
 use Rattle.body.specs.Bodies.{Definition, definitionFields, switchFields, acknowledgementFields, Update, updateFields, incrementalFields}
 use Rattle.body.proofs.Within.{UpdateWithin, update-within, update-id, incremental-within}
-use Rattle.message.specs.Effects.{Effect, refuse, note, fieldsThen, control, controlAnswer, controlReply, peerError, defineAt, defineNew, defineNamed, agrees, definition, switchTo, switch, acknowledgement, skipped, commitAt, commitNew, commitUpdate, withFields, followingId, incrementalOf, update, incremental, definedTable, updatedEntry, stickTable}
+use Rattle.message.specs.Targets.{goesTo}
+use Rattle.message.specs.Effects.{Effect, refuse, refusal, note, fieldsThen, control, controlAnswer, controlReply, peerError, defineAt, defineNew, defineNamed, agrees, definition, switchTo, switch, acknowledgement, skipped, commitAt, commitEntry, withFields, followingId, incrementalOf, update, incremental, definedTable, updatedEntry, stickTable, done}
 use Rattle.message.proofs.Acknowledging.{acknowledge-short}
-use Rattle.message.proofs.Kept.{Held, Kept, refuse-kept, error-kept, note-kept, switch-kept, definition-kept, update-kept}
+use Rattle.message.proofs.Kept.{Held, Kept, stays-kept, refuse-kept, error-kept, note-kept, switch-kept, definition-kept, update-kept}
 use Rattle.receiver.specs.Ledger.{Ledger, definedId, updateId, at, kindOf, nextId, explicitId, startLedger}
-use Rattle.reassembly.specs.Judge.{Judged, waiting, settled, helloJudged, statusJudged, frameJudged, judge}
+use Rattle.reassembly.specs.Judge.{Judged, waiting, settled, helloJudged, statusJudged, frameJudged, asksNone, judgeBytes, doneOf, judge}
 use Rattle.receiver.specs.Model.{ends}
 use Rattle.receiver.proofs.Following.{Follows, Follow, current-some, last-some, refuse-follow, hello-follow, status-follow, error-follow, control-follow, skipped-follow, acknowledgement-follow, switch-follow, define-follow, commit-follow}
 use Rattle.receiver.proofs.FirstFields.{body-starts, definition-id, update-explicit}
 
-pub record Right (c : Connection) (m : List ℕ) (e : Effect) : Type 0 where
+pub record Right (c : Connection) (s : Store) (m : List ℕ) (e : Effect) : Type 0 where
   pub short : length (e .reply) ≤ 12
-  pub kept : Kept e
+  pub kept : Kept s e
   pub follow : Follow c m e
 
 -- ---- refusals
@@ -100,62 +104,64 @@ unfolding statusLine hb.decimal hb.decimalIn lf
 accepted-short = omega arith
 
 module _ (c : Connection) (s : Store) (h : Held c s) (m : List ℕ) where
-  pub refuse-right : (n : ℕ) → 10 ≤ n → n < 2 ^ 8 → isClosing n ≡ true → Right c m (refuse c s n)
+  pub refuse-right : (n : ℕ) → 10 ≤ n → n < 2 ^ 8 → isClosing n ≡ true → Right c s m (refuse c n)
   refuse-right n l b k = record {
     short = unfold refuse in refusal-short n;
     kept = refuse-kept c s h n k b;
-    follow = refuse-follow c s n m;
+    follow = refuse-follow c n m;
   }
 
-  established : (a : Answer) (r : List ℕ) → Kept (note (establish c) s a r)
+  established : (a : Answer) (r : List ℕ) → Kept s (note (establish c) a r)
   unfolding note
-  established a r = record {
-    store = h .store;
-    storeShape = h .storeShape;
-    connection = establish-keeps (h .connection);
-    connectionShape = establish-shape (h .connectionShape);
-  }
+  established a r =
+      stays-kept c s h
+      (record {
+        store = h .store;
+        storeShape = h .storeShape;
+        connection = establish-keeps (h .connection);
+        connectionShape = establish-shape (h .connectionShape);
+      })
 
-  control-right : (type : ℕ) → Right c m (control c s type)
+  control-right : (type : ℕ) → Right c s m (control c type)
   control-right type = record {
     short = unfold control note in control-short type;
     kept = unfold control in note-kept c s h (controlAnswer type) (controlReply type);
-    follow = control-follow c s type m;
+    follow = control-follow c type m;
   }
 
-  error-right : (type : ℕ) → Right c m (peerError c s type)
+  error-right : (type : ℕ) → Right c s m (peerError c type)
   error-right type = record {
-    short = unfold peerError in omega arith;
+    short = unfold peerError note in omega arith;
     kept = error-kept c s h type;
-    follow = error-follow c s type m;
+    follow = error-follow c type m;
   }
 
 -- ---- what unfinished bytes come to
 
-abbrev pub JudgedRight : Connection → List ℕ → Judged → Type 0
-JudgedRight c m waiting = Unit {0}
-JudgedRight c m (settled e) = Right c m e
+abbrev pub JudgedRight : Connection → Store → List ℕ → Judged Effect → Type 0
+JudgedRight c s m waiting = Unit {0}
+JudgedRight c s m (settled e) = Right c s m e
 
 module _ (c : Connection) (s : Store) (h : Held c s) (m : List ℕ) where
-  hello-right : (j : Hello) → judgeHello (localName c) (remoteName c) m ≡ j → JudgedRight c m (helloJudged c s j)
+  hello-right : (j : Hello) → judgeHello (localName c) (remoteName c) m ≡ j → JudgedRight c s m (helloJudged c j)
   unfolding helloJudged helloReply
   hello-right hello.Waiting e = tt
   hello-right (hello.Accepted p r) e = record {
     short = unfold note in accepted-short;
     kept = established c s h m (answer.Hello p r) (statusLine 200);
-    follow = hello-follow c s p r m;
+    follow = hello-follow c p r m;
   }
   hello-right (hello.Refused n) e =
       let k = hello-refusal (localName c) (remoteName c) m n e in
       refuse-right c s h m n (k .0) (omega (arith, k .1)) (closing-hello n (k .0) (omega (arith, k .1)))
 
-  status-right : (j : Status) → judgeStatus m ≡ j → JudgedRight c m (statusJudged c s j)
+  status-right : (j : Status) → judgeStatus m ≡ j → JudgedRight c s m (statusJudged c j)
   unfolding statusJudged
   status-right status.Waiting e = tt
   status-right status.Accepted e = record {
     short = unfold note in omega arith;
     kept = established c s h m answer.Status [];
-    follow = status-follow c s m;
+    follow = status-follow c m;
   }
   status-right (status.Refused n) e =
       let k = status-refusal m n e in
@@ -164,102 +170,98 @@ module _ (c : Connection) (s : Store) (h : Held c s) (m : List ℕ) where
 -- ---- messages of class 10
 
 module _ (c : Connection) (s : Store) (h : Held c s) (m : List ℕ) where
-  message-refused : (n : ℕ) → 20 ≤ n → n ≤ 29 → Right c m (refuse c s n)
+  message-refused : (n : ℕ) → 20 ≤ n → n ≤ 29 → Right c s m (refuse c n)
   message-refused n a b = refuse-right c s h m n (omega arith) (omega arith) (closing-message n a b)
 
-  noted : (a : Answer) → Follow c m (note c s a []) → Right c m (note c s a [])
+  noted : (a : Answer) → Follow c m (note c a []) → Right c s m (note c a [])
   noted a f = record { short = unfold note in omega arith; kept = note-kept c s h a []; follow = f }
 
   -- fields, then what the message does
-  fields-right : {A : Type 0} (r : Read A) (f : A → Effect) → ((a : A) (n : ℕ) → r ≡ got a n → Right c m (f a)) → Right c m (fieldsThen c s r f)
+  fields-right : {A : Type 0} (r : Read A) (f : A → Effect) → ((a : A) (n : ℕ) → r ≡ got a n → Right c s m (f a)) → Right c s m (fieldsThen (refuse c) r f)
   unfolding fieldsThen
   fields-right (got a n) f g = g a n refl
   fields-right short f g = message-refused 23 (omega arith) (omega arith)
   fields-right outside f g = message-refused 24 (omega arith) (omega arith)
 
-  acknowledgement-right : (body : List ℕ) → Right c m (acknowledgement c s body)
+  acknowledgement-right : (body : List ℕ) → Right c s m (acknowledgement c body)
   unfolding acknowledgement
   acknowledgement-right body =
       fields-right (acknowledgementFields body) _
-      (λ a n e. noted (answer.Acknowledgement (a .id) (a .update)) (acknowledgement-follow c s (a .id) (a .update) m))
+      (λ a n e. noted (answer.Acknowledgement (a .id) (a .update)) (acknowledgement-follow c (a .id) (a .update) m))
 
-  skipped-right : (kind : ℕ) → Right c m (skipped c s kind)
+  skipped-right : (kind : ℕ) → Right c s m (skipped c kind)
   unfolding skipped
-  skipped-right kind = noted (answer.Skipped kind) (skipped-follow c s kind m)
+  skipped-right kind = noted (answer.Skipped kind) (skipped-follow c kind m)
 
-  switch-right : (body : List ℕ) → Right c m (switch c s body)
+  switch-right : (body : List ℕ) → Right c s m (switch c body)
   unfolding switch
   switch-right body = fields-right (switchFields body) _ (λ id n e. to id (findBound c id) refl)
     where
-      to : (id : ℕ) (f : Found) → findBound c id ≡ f → Right c m (switchTo c s f)
+      to : (id : ℕ) (f : Found) → findBound c id ≡ f → Right c s m (switchTo c f)
       to id (found.At p) e =
           let l : p < 8 = omega (arith, found-bound c id p e .0, h .connectionShape .places) in
           record {
             short = unfold switchTo note in omega arith;
             kept = switch-kept c s h id (found.At p) e;
-            follow = unfold switchTo in switch-follow c s p m l;
+            follow = unfold switchTo in switch-follow c p m l;
           }
       to id found.Nothing e = unfold switchTo in message-refused 27 (omega arith) (omega arith)
 
   -- a definition, whose ID is the ledger's
-  define-at-right : (id : ℕ) (t : Table) (p : ℕ) → definedId m ≡ id → p < length (s .tables) → Kept (defineAt c s id t p) → Right c m (defineAt c s id t p)
+  define-at-right : (id : ℕ) (t : Table) (p : ℕ) → definedId m ≡ id → p < length (s .tables) → Kept s (defineAt c id t p) → Right c s m (defineAt c id t p)
   define-at-right id t p e l k = record {
     short = unfold defineAt in omega arith;
     kept = k;
-    follow = define-follow c s id t p m (omega (arith, h .storeShape .tables)) (h .connectionShape .places) e;
+    follow = define-follow c id t p m (omega (arith, h .storeShape .tables)) (h .connectionShape .places) e;
   }
 
-  define-new-right : (id : ℕ) (t : Table) → definedId m ≡ id → (f : Found) → freeTable s ≡ f → Kept (defineNew c s id t f) → Right c m (defineNew c s id t f)
-  unfolding defineNew freeTable
+  define-new-right : (id : ℕ) (t : Table) → definedId m ≡ id → (f : Found) → firstPlace tableFree (s .tables) ≡ f → Kept s (defineNew c id t f) → Right c s m (defineNew c id t f)
+  unfolding defineNew
   define-new-right id t e (found.At p) q k = define-at-right id t p e (first-at tableFree (s .tables) p q .inside) k
   define-new-right id t e found.Nothing q k = message-refused 26 (omega arith) (omega arith)
 
-  define-right : (id : ℕ) (t : Table) (name : List ℕ) → definedId m ≡ id → (f : Found) → findTable s name ≡ f
-      → Kept (defineNamed c s id t f) → Right c m (defineNamed c s id t f)
-  unfolding defineNamed findTable
+  define-right : (id : ℕ) (t : Table) (name : List ℕ) → definedId m ≡ id → (f : Found) → firstPlace (tableNamed name) (s .tables) ≡ f
+      → Kept s (defineNamed c (s .tables) id t f) → Right c s m (defineNamed c (s .tables) id t f)
+  unfolding defineNamed
   define-right id t name e (found.At p) q k =
       let x = agrees (getD (s .tables) p noTable) t in
       by-test x
       (λ a.
-      let w = cond-true x (defineAt c s id t p) (refuse c s 25) a in
-      rw w (define-at-right id t p e (first-at (tableNamed name) (s .tables) p q .inside) (subst Kept w k)))
-      (λ a. rw (cond-false x (defineAt c s id t p) (refuse c s 25) a) (message-refused 25 (omega arith) (omega arith)))
-  define-right id t name e found.Nothing q k = define-new-right id t e (freeTable s) refl k
+      let w = cond-true x (defineAt c id t p) (refuse c 25) a in
+      rw w (define-at-right id t p e (first-at (tableNamed name) (s .tables) p q .inside) (subst (Kept s) w k)))
+      (λ a. rw (cond-false x (defineAt c id t p) (refuse c 25) a) (message-refused 25 (omega arith) (omega arith)))
+  define-right id t name e found.Nothing q k = define-new-right id t e (firstPlace tableFree (s .tables)) refl k
 
   -- ---- updates
 
-  module _ (table : ℕ) (now : c .current ≡ table + 1) (id : ℕ) (ids : (l : Ledger) → Follows c l → updateId m (at (l .last) (l .current)) ≡ some id) (e : Entry) where
-    small : table < 8
+  module _ (id : ℕ) (ids : (l : Ledger) → Follows c l → updateId m (at (l .last) (l .current)) ≡ some id) (e : Entry) (now : c .current ≡ e .table + 1) where
+    small : e .table < 8
     small = let l = h .connection .currentLimit in omega arith
 
-    commit-at-right : (p : ℕ) (how : Commit) → Kept (commitAt c s table id e p how) → Right c m (commitAt c s table id e p how)
+    commit-at-right : (p : ℕ) (how : Commit) → Kept s (commitAt c id e p how) → Right c s m (commitAt c id e p how)
     commit-at-right p how k = record {
       short = reply-short p how k;
       kept = k;
-      follow = commit-follow c s table id e p how m small (h .connectionShape .places) now (h .connection .currentBound table now)
-          (h .connectionShape .binding table small .id) (update-small k) ids;
+      follow = commit-follow c id e p how m small (h .connectionShape .places) now (h .connection .currentBound (e .table) now)
+          (h .connectionShape .binding (e .table) small .id) (update-small k) ids;
     }
       where
-        update-small : Kept (commitAt c s table id e p how) → id < 2 ^ 32
+        update-small : Kept s (commitAt c id e p how) → id < 2 ^ 32
         update-small k =
             unfold commitAt in
-            subst (λ (n : ℕ). n < 2 ^ 32) (committed-previous c table id (omega (arith, small, h .connectionShape .places)))
-            (k .connectionShape .binding table small .previous)
+            subst (λ (n : ℕ). n < 2 ^ 32) (committed-previous c (e .table) id (omega (arith, small, h .connectionShape .places)))
+            (k .connectionShape .binding (e .table) small .previous)
 
-        reply-short : (p : ℕ) (how : Commit) → Kept (commitAt c s table id e p how) → length (commitAt c s table id e p how .reply) ≤ 12
+        reply-short : (p : ℕ) (how : Commit) → Kept s (commitAt c id e p how) → length (commitAt c id e p how .reply) ≤ 12
         reply-short p how k =
             unfold commitAt in
-            acknowledge-short (bindingAt c table .id) id (h .connectionShape .binding table small .id)
+            acknowledge-short (bindingAt c (e .table) .id) id (h .connectionShape .binding (e .table) small .id)
 
-    commit-new-right : (f : Found) → Kept (commitNew c s table id e f) → Right c m (commitNew c s table id e f)
-    unfolding commitNew
-    commit-new-right (found.At p) k = commit-at-right p commit.New k
-    commit-new-right found.Nothing k = message-refused 29 (omega arith) (omega arith)
-
-    commit-right : (f : Found) → Kept (commitUpdate c s table id e f) → Right c m (commitUpdate c s table id e f)
-    unfolding commitUpdate
-    commit-right (found.At p) k = commit-at-right p commit.Replaced k
-    commit-right found.Nothing k = commit-new-right (freeEntry s) k
+    commit-right : (f : Place) → Kept s (commitEntry c id e f) → Right c s m (commitEntry c id e f)
+    unfolding commitEntry
+    commit-right (place.Held p) k = commit-at-right p commit.Replaced k
+    commit-right (place.Free p) k = commit-at-right p commit.New k
+    commit-right place.Full k = message-refused 29 (omega arith) (omega arith)
 
 -- ---- a whole message of class 10
 
@@ -286,26 +288,30 @@ module _ (c : Connection) (s : Store) (h : Held c s) (m : List ℕ) (mb : Bytes 
   unfolding kindOf
   kind-is = sym (whole-facts m kind start end e .type)
 
-  definition-right : Right c m (definition c s body)
+  definition-right : Right c s m (definition c (s .tables) body)
   unfolding definition
   definition-right =
       fields-right c s h m (definitionFields body) _
       (λ d n q.
       define-right c s h m (d .id) (definedTable body d) (spanIn body (d .name)) (definition-id m kind start end d n e start-inside q)
-      (findTable s (spanIn body (d .name))) refl (definition-kept c s h body d n body-bytes q))
+      (firstPlace (tableNamed (spanIn body (d .name))) (s .tables)) refl (definition-kept c s h body d n body-bytes q))
+
+  made-now : (table : ℕ) (u : Update) → c .current ≡ table + 1 → c .current ≡ updatedEntry body table u .table + 1
+  unfolding updatedEntry makeEntry
+  made-now table u now = now
 
   -- the fields of an update of the current table, and its ID
   with-right : (table : ℕ) (r : Read Update) → c .current ≡ table + 1
       → ((u : Update) (n : ℕ) → r ≡ got u n → (u .id < 2 ^ 32) × UpdateWithin (getD (s .tables) table noTable) body u
       × ((l : Ledger) → Follows c l → updateId m (at (l .last) (l .current)) ≡ some (u .id)))
-      → Right c m (withFields c s body table r)
-  unfolding withFields
-  with-right table r now facts =
-      fields-right c s h m r _
-      (λ u n q.
-      let w = facts u n q in
-      commit-right c s h m table now (u .id) (w .2) (updatedEntry body table u) (findEntry s table (spanIn body (u .key)))
-      (update-kept c s h body table u body-bytes now (w .0) (w .1)))
+      → Right c s m (done c (s .entries) (withFields c body table r))
+  unfolding withFields fieldsThen refusal done
+  with-right table (got u n) now facts =
+      let w = facts u n refl in
+      commit-right c s h m (u .id) (w .2) (updatedEntry body table u) (made-now table u now) (goesTo (s .entries) (updatedEntry body table u))
+      (update-kept c s h body table u body-bytes now (w .0) (w .1))
+  with-right table short now facts = message-refused c s h m 23 (omega arith) (omega arith)
+  with-right table outside now facts = message-refused c s h m 24 (omega arith) (omega arith)
 
   current-is : eqb (c .current) 0 ≡ false → c .current ≡ c .current - 1 + 1
   current-is z = let q = eqb-false (c .current) 0 z in current-positive (c .current) q
@@ -320,8 +326,8 @@ module _ (c : Connection) (s : Store) (h : Held c s) (m : List ℕ) (mb : Bytes 
       cond-false (eqb (kindOf m) 129) (nextId x) _ (ne-eqb (kindOf m) 129 (λ w. let z : ⊥ = omega (arith, kind-is) in z))
       ∙ cond-true (eqb (kindOf m) 128) (some (explicitId m)) none (eq-eqb (kindOf m) 128 (kind-is ∙ k))
 
-  update-right : kind ≡ 128 → Right c m (update c s body)
-  unfolding update
+  update-right : kind ≡ 128 → Right c s m (done c (s .entries) (update c (s .tables) body))
+  unfolding update refusal done
   update-right k =
       by-test (eqb (c .current) 0)
       (λ z. rw z (message-refused c s h m 27 (omega arith) (omega arith)))
@@ -349,8 +355,8 @@ module _ (c : Connection) (s : Store) (h : Held c s) (m : List ℕ) (mb : Bytes 
   unfolding followingId
   following-small x = omega arith
 
-  incremental-right : kind ≡ 129 → Right c m (incremental c s body)
-  unfolding incremental incrementalOf
+  incremental-right : kind ≡ 129 → Right c s m (done c (s .entries) (incremental c (s .tables) body))
+  unfolding incremental incrementalOf refusal done
   incremental-right k =
       by-test (eqb (c .current) 0)
       (λ z. rw z (message-refused c s h m 27 (omega arith) (omega arith)))
@@ -368,8 +374,8 @@ module _ (c : Connection) (s : Store) (h : Held c s) (m : List ℕ) (mb : Bytes 
       (rw (w .0) (following-small (bindingAt c table .previous)), w .1, (λ l f. next-is k table now y l f ∙ ap some (sym (w .0)))))))
       (λ y. rw y (message-refused c s h m 28 (omega arith) (omega arith)))))
 
-  stick-right : Right c m (stickTable c s kind body)
-  unfolding stickTable
+  stick-right : Right c s m (done c (s .entries) (stickTable c (s .tables) kind body))
+  unfolding stickTable done
   stick-right =
       by-test (eqb kind 128)
       (λ a. rw a (update-right (eqb-true kind 128 a)))
@@ -390,8 +396,8 @@ module _ (c : Connection) (s : Store) (h : Held c s) (m : List ℕ) (mb : Bytes 
       (by-test (eqb kind 133) (λ g. rw g (acknowledgement-right c s h m body)) (λ g. rw g (skipped-right c s h m kind))))))))))
 
 module _ (c : Connection) (s : Store) (h : Held c s) (m : List ℕ) (mb : Bytes m) where
-  frame-right : (f : Frame) → judgeFrame m ≡ f → JudgedRight c m (frameJudged c s m f)
-  unfolding frameJudged
+  frame-right : (f : Frame) → judgeFrame m ≡ f → JudgedRight c s m (doneOf c (s .entries) (frameJudged c (s .tables) m f))
+  unfolding doneOf frameJudged done refusal
   frame-right frame.Waiting e = tt
   frame-right (frame.Control type) e = control-right c s h m type
   frame-right (frame.Error type) e = error-right c s h m type
@@ -400,13 +406,18 @@ module _ (c : Connection) (s : Store) (h : Held c s) (m : List ℕ) (mb : Bytes 
       let k = refused-number m n e in
       refuse-right c s h m n (omega (arith, k .0)) (omega (arith, k .1)) (closing-message n (k .0) (omega (arith, k .1)))
 
-  pub judge-right : JudgedRight c m (judge c s m)
-  unfolding judge
+  none-right : (j : Judged Effect) → JudgedRight c s m j → JudgedRight c s m (doneOf c (s .entries) (asksNone j))
+  unfolding doneOf asksNone done
+  none-right waiting r = tt
+  none-right (settled e) r = r
+
+  pub judge-right : JudgedRight c s m (judge c s m)
+  unfolding judge judgeBytes
   judge-right =
       by-test (eqb (c .phase) 0)
-      (λ a. rw a (hello-right c s h m (judgeHello (localName c) (remoteName c) m) refl))
+      (λ a. rw a (none-right _ (hello-right c s h m (judgeHello (localName c) (remoteName c) m) refl)))
       (λ a.
       rw a
       (by-test (eqb (c .phase) 1)
-      (λ b. rw b (status-right c s h m (judgeStatus m) refl))
+      (λ b. rw b (none-right _ (status-right c s h m (judgeStatus m) refl)))
       (λ b. rw b (frame-right (judgeFrame m) refl))))

@@ -77,7 +77,7 @@ module _ (s : Session) (t : Store) (m : Made) (p : ReadPromise s t m) (f : sound
         ∙ (ap (λ (n : ℕ). unfinished s ++ take n (m .piece)) (taken-is s t m p) ∙ sym (unfinished-is ∙ ap (λ (x : State). x .unfinished) (w .state))))
 
     module _ (e : Effect) (j : Judging s t (m .piece) call e) where
-      abbrev fact : Right (s .connection) (messageOf s m) e
+      abbrev fact : Right (s .connection) t (messageOf s m) e
       fact = right s t m p e j
 
       ended-is : endedBy u m ≡ endedAs (messageOf s m) e

@@ -7,6 +7,8 @@ use mathlib.Core.Bool.{Bool, true, false, cond}
 use lib.ListN.{length, take, drop}
 use lib.Dec.{eqb}
 use Rattle.lists.proofs.Cases.{by-test, cond-true, cond-false}
+use Rattle.store.specs.declared.Table.{Table}
+use Rattle.store.specs.declared.Entry.{Entry}
 use Rattle.store.specs.declared.Store.{Store}
 use Rattle.handshake.specs.declared.Hello.{Hello}
 use Rattle.handshake.specs.declared.Hello.the-variants as hello
@@ -22,52 +24,63 @@ use Rattle.session.specs.declared.Answer.{Answer}
 use Rattle.session.specs.declared.Answer.the-variants as answer
 use Rattle.session.specs.Session.{isClosed, localName, remoteName}
 use Rattle.session_soundness.specs.Sound.{waits, helloWaits, statusWaits, frameWaits}
+use Rattle.message.specs.Changes.{changed}
 use Rattle.message.specs.Effects.{Effect}
 use Rattle.streams.specs.Model.{Fed, quiet, answered}
 use Rattle.streams.specs.Calls.{Call, scan, onward}
 use Rattle.streams.proofs.OneCall.{scan-nil, scan-quiet, scan-answered}
-use Rattle.reassembly.specs.Judge.{Judged, waiting, settled, judge, helloJudged, statusJudged, frameJudged}
+use Rattle.reassembly.specs.Judge.{Judged, waiting, settled, judge, judgeBytes, doneOf, asksNone, helloJudged, statusJudged, frameJudged}
 use Rattle.receiver.specs.Model.{State, joined, feed, peers}
 use Rattle.reassembly.specs.Pieces.{Part, oneMore, takePiece}
 use Rattle.receiver.specs.Parts.{judgedCall, partCall}
 
 -- bytes that wait come to nothing, and others to something
-pub data JudgedAs : Bool → Judged → Type 0 where
+pub data JudgedAs {A : Type 0} : Bool → Judged A → Type 0 where
   waits-on : JudgedAs true waiting
-  settles : (e : Effect) → JudgedAs false (settled e)
+  settles : (e : A) → JudgedAs false (settled e)
 
-hello-as : (c : Connection) (s : Store) (h : Hello) → JudgedAs (helloWaits h) (helloJudged c s h)
-unfolding helloJudged
-hello-as c s hello.Waiting = waits-on
-hello-as c s (hello.Accepted p r) = settles _
-hello-as c s (hello.Refused n) = settles _
+module _ (c : Connection) (entries : List Entry) where
+  none-as : (b : Bool) (j : Judged Effect) → JudgedAs b j → JudgedAs b (doneOf c entries (asksNone j))
+  unfolding doneOf asksNone
+  none-as b j waits-on = waits-on
+  none-as b j (settles e) = settles _
 
-status-as : (c : Connection) (s : Store) (h : Status) → JudgedAs (statusWaits h) (statusJudged c s h)
-unfolding statusJudged
-status-as c s status.Waiting = waits-on
-status-as c s status.Accepted = settles _
-status-as c s (status.Refused n) = settles _
+  hello-as : (h : Hello) → JudgedAs (helloWaits h) (helloJudged c h)
+  unfolding helloJudged
+  hello-as hello.Waiting = waits-on
+  hello-as (hello.Accepted p r) = settles _
+  hello-as (hello.Refused n) = settles _
 
-frame-as : (c : Connection) (s : Store) (u : List ℕ) (f : Frame) → JudgedAs (frameWaits f) (frameJudged c s u f)
-unfolding frameJudged
-frame-as c s u frame.Waiting = waits-on
-frame-as c s u (frame.Control type) = settles _
-frame-as c s u (frame.Error type) = settles _
-frame-as c s u (frame.Body kind start end) = settles _
-frame-as c s u (frame.Refused n) = settles _
+  status-as : (h : Status) → JudgedAs (statusWaits h) (statusJudged c h)
+  unfolding statusJudged
+  status-as status.Waiting = waits-on
+  status-as status.Accepted = settles _
+  status-as (status.Refused n) = settles _
+
+  frame-as : (tables : List Table) (u : List ℕ) (f : Frame) → JudgedAs (frameWaits f) (doneOf c entries (frameJudged c tables u f))
+  unfolding doneOf frameJudged
+  frame-as tables u frame.Waiting = waits-on
+  frame-as tables u (frame.Control type) = settles _
+  frame-as tables u (frame.Error type) = settles _
+  frame-as tables u (frame.Body kind start end) = settles _
+  frame-as tables u (frame.Refused n) = settles _
 
 pub judged-as : (c : Connection) (s : Store) (u : List ℕ) → JudgedAs (waits c u) (judge c s u)
-unfolding waits judge
+unfolding waits judge judgeBytes
 judged-as c s u =
     by-test (eqb (c .phase) 0)
-    (λ a. rw a (hello-as c s (judgeHello (localName c) (remoteName c) u)))
-    (λ a. rw a (by-test (eqb (c .phase) 1) (λ b. rw b (status-as c s (judgeStatus u))) (λ b. rw b (frame-as c s u (judgeFrame u)))))
+    (λ a. rw a (none-as c (s .entries) _ _ (hello-as c (s .entries) (judgeHello (localName c) (remoteName c) u))))
+    (λ a.
+    rw a
+    (by-test (eqb (c .phase) 1)
+    (λ b. rw b (none-as c (s .entries) _ _ (status-as c (s .entries) (judgeStatus u))))
+    (λ b. rw b (frame-as c (s .entries) (s .tables) u (judgeFrame u)))))
 
-pub judged-waiting : (t : Bool) (j : Judged) → JudgedAs t j → t ≡ true → j ≡ waiting
+pub judged-waiting : (t : Bool) (j : Judged Effect) → JudgedAs t j → t ≡ true → j ≡ waiting
 judged-waiting t j waits-on h = refl
 judged-waiting t j (settles e) h = absurd (let z : _≡_ {A = ℕ} 0 1 = cc in omega arith)
 
-pub judged-settled : (t : Bool) (j : Judged) → JudgedAs t j → t ≡ false → (e : Effect) × (j ≡ settled e)
+pub judged-settled : (t : Bool) (j : Judged Effect) → JudgedAs t j → t ≡ false → (e : Effect) × (j ≡ settled e)
 judged-settled t j waits-on h = absurd (let z : _≡_ {A = ℕ} 0 1 = cc in omega arith)
 judged-settled t j (settles e) h = (e, refl)
 
@@ -101,13 +114,13 @@ scan-takes c u s (b ∷ bs) h =
     (λ w.
     let j = judged-settled (waits c v) (judge c s v) (judged-as c s v) w in
     let e = j .0 in
-    let f : feed (stateAt c u s) b ≡ answered (e .answer) (e .reply) (stateAt (e .connection) [] (e .store)) =
+    let f : feed (stateAt c u s) b ≡ answered (e .answer) (e .reply) (stateAt (e .connection) [] (changed s (e .change))) =
     feed-open c u s b h ∙ (ap (joined c s v) (j .1) ∙ unfold joined in refl) in
     rw w
-    (scan-answered peers (stateAt c u s) (stateAt (e .connection) [] (e .store)) b bs (e .answer) (e .reply) f
+    (scan-answered peers (stateAt c u s) (stateAt (e .connection) [] (changed s (e .change))) b bs (e .answer) (e .reply) f
     ∙ sym (ap (judgedCall c s v 1) (j .1) ∙ unfold judgedCall in refl) ∙ unfold partCall in refl))
   where
-    more-judged : (c : Connection) (s : Store) (u : List ℕ) (n : ℕ) (j : Judged) → onward (judgedCall c s u n j) ≡ judgedCall c s u (suc n) j
+    more-judged : (c : Connection) (s : Store) (u : List ℕ) (n : ℕ) (j : Judged Effect) → onward (judgedCall c s u n j) ≡ judgedCall c s u (suc n) j
     more-judged c s u n waiting = unfold judgedCall in refl
     more-judged c s u n (settled e) = unfold judgedCall in refl
 

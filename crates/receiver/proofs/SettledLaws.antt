@@ -11,7 +11,7 @@ use lib.Dec.{eqb}
 use borrow.Author.Tests.{ne-eqb, eqb-false}
 use Rattle.lists.proofs.Cases.{never}
 use Rattle.store.specs.declared.Store.{Store}
-use Rattle.store.specs.Store.{putTable, putEntry}
+use Rattle.store.specs.Store.{putTable, putEntry, makeEntry}
 use Rattle.frame.specs.declared.Frame.the-variants as frame
 use Rattle.frame.specs.Frame.{judgeFrame}
 use Rattle.session.specs.declared.Connection.{Connection}
@@ -23,6 +23,7 @@ use Rattle.session_soundness.proofs.Facts.{heldAt}
 use Rattle.session_soundness.proofs.Keeping.{put-held}
 use Rattle.body.specs.Fields.{got}
 use Rattle.body.specs.Bodies.{Update}
+use Rattle.message.specs.Changes.{noChange, tableChange, entryChange, changed}
 use Rattle.message.specs.Effects.{Effect, refuse, note, peerError, defineAt, acknowledge, updatedEntry, commitAt}
 use Rattle.reassembly.specs.Judge.{settled, judge}
 use Rattle.receiver.specs.Model.{ends}
@@ -65,7 +66,7 @@ module _ (c : Connection) (t : Store) (u : List ℕ) where
   kind-ends : (e : Effect) → Kind c t u e → ends (e .answer) ≡ true
   kind-ends e (kinds.refused n h) = unfold refuse in refusal-ends n h
   kind-ends e (kinds.noted d a reply h) = unfold note in noted-ends a h
-  kind-ends e (kinds.failed type) = unfold peerError ends in refl
+  kind-ends e (kinds.failed type) = unfold peerError note ends in refl
   kind-ends e (kinds.defined id x place h) = unfold defineAt ends in refl
   kind-ends e (kinds.committed fields body place how k) = unfold commitAt ends in refl
 
@@ -77,22 +78,22 @@ module _ (c : Connection) (t : Store) (u : List ℕ) where
   noted-refused : (a : Answer) (n : ℕ) → Noted a → a ≡ answer.Refused n → ⊥
   noted-refused a n h q = subst Noted q h
 
-  kind-refused : (e : Effect) (n : ℕ) → Kind c t u e → e .answer ≡ answer.Refused n → (closes n ≡ true) × (e ≡ refuse c t n)
+  kind-refused : (e : Effect) (n : ℕ) → Kind c t u e → e .answer ≡ answer.Refused n → (closes n ≡ true) × (e ≡ refuse c n)
   unfolding refuse note peerError defineAt commitAt
-  kind-refused e n (kinds.refused k h) q = let r : k ≡ n = cc in (subst (λ (x : ℕ). closes x ≡ true) r h, ap (refuse c t) r)
+  kind-refused e n (kinds.refused k h) q = let r : k ≡ n = cc in (subst (λ (x : ℕ). closes x ≡ true) r h, ap (refuse c) r)
   kind-refused e n (kinds.noted d a reply h) q = absurd (noted-refused a n h q)
   kind-refused e n (kinds.failed type) q = absurd (let z : _≡_ {A = ℕ} 0 1 = cc in omega arith)
   kind-refused e n (kinds.defined id x place h) q = absurd (let z : _≡_ {A = ℕ} 0 1 = cc in omega arith)
   kind-refused e n (kinds.committed fields body place how k) q = absurd (let z : _≡_ {A = ℕ} 0 1 = cc in omega arith)
 
-  pub settled-refused : (e : Effect) → judge c t u ≡ settled e → (n : ℕ) → e .answer ≡ answer.Refused n → (closes n ≡ true) × (e ≡ refuse c t n)
+  pub settled-refused : (e : Effect) → judge c t u ≡ settled e → (n : ℕ) → e .answer ≡ answer.Refused n → (closes n ≡ true) × (e ≡ refuse c n)
   settled-refused e q n a = kind-refused e n (kind-of c t u e q) a
 
   -- ---- the store stays for every answer but a table or an update
 
   kind-stays : (e : Effect) → Kind c t u e → ((place : ℕ) → e .answer ≡ answer.Table place → ⊥)
-      → ((table id place : ℕ) (how : Commit) → e .answer ≡ answer.Update table id place how → ⊥) → e .store ≡ t
-  unfolding refuse note peerError defineAt commitAt
+      → ((table id place : ℕ) (how : Commit) → e .answer ≡ answer.Update table id place how → ⊥) → changed t (e .change) ≡ t
+  unfolding refuse note peerError defineAt commitAt changed noChange
   kind-stays e (kinds.refused n h) f g = refl
   kind-stays e (kinds.noted d a reply h) f g = refl
   kind-stays e (kinds.failed type) f g = refl
@@ -100,20 +101,20 @@ module _ (c : Connection) (t : Store) (u : List ℕ) where
   kind-stays e (kinds.committed fields body place how k) f g = absurd (g _ _ place how refl)
 
   pub store-stays : (e : Effect) → judge c t u ≡ settled e → ((place : ℕ) → e .answer ≡ answer.Table place → ⊥)
-      → ((table id place : ℕ) (how : Commit) → e .answer ≡ answer.Update table id place how → ⊥) → e .store ≡ t
+      → ((table id place : ℕ) (how : Commit) → e .answer ≡ answer.Update table id place how → ⊥) → changed t (e .change) ≡ t
   store-stays e q = kind-stays e (kind-of c t u e q)
 
   -- ---- held tables stay held
 
-  kind-grows : (e : Effect) → Kind c t u e → (i : ℕ) → heldAt (t .tables) i ≡ true → heldAt (e .store .tables) i ≡ true
-  unfolding refuse note peerError defineAt commitAt putTable putEntry
+  kind-grows : (e : Effect) → Kind c t u e → (i : ℕ) → heldAt (t .tables) i ≡ true → heldAt (changed t (e .change) .tables) i ≡ true
+  unfolding refuse note peerError defineAt commitAt changed noChange tableChange entryChange putTable putEntry
   kind-grows e (kinds.refused n h) i k = k
   kind-grows e (kinds.noted d a reply h) i k = k
   kind-grows e (kinds.failed type) i k = k
   kind-grows e (kinds.defined id x place h) i k = put-held (t .tables) place x h i k
   kind-grows e (kinds.committed fields body place how w) i k = k
 
-  pub settled-grows : (e : Effect) → judge c t u ≡ settled e → (i : ℕ) → heldAt (t .tables) i ≡ true → heldAt (e .store .tables) i ≡ true
+  pub settled-grows : (e : Effect) → judge c t u ≡ settled e → (i : ℕ) → heldAt (t .tables) i ≡ true → heldAt (changed t (e .change) .tables) i ≡ true
   settled-grows e q = kind-grows e (kind-of c t u e q)
 
 -- ---- an update
@@ -131,7 +132,7 @@ pub record Updated (c : Connection) (t : Store) (u : List ℕ) (table id place :
   pub read : fieldsOf c t table kind (bodyIn u start end) ≡ got fields after
   pub own-id : fields .id ≡ id
   pub inside : place < length (t .entries)
-  pub store : e .store ≡ putEntry t place (updatedEntry (bodyIn u start end) table fields)
+  pub store : changed t (e .change) ≡ putEntry t place (updatedEntry (bodyIn u start end) table fields)
   pub reply : e .reply ≡ acknowledge (bindingAt c table .id) id
 
 module _ (c : Connection) (t : Store) (u : List ℕ) (table id place : ℕ) (how : Commit) where
@@ -139,7 +140,7 @@ module _ (c : Connection) (t : Store) (u : List ℕ) (table id place : ℕ) (how
   noted-update a h q = subst Noted q h
 
   kind-updated : (e : Effect) → Kind c t u e → e .answer ≡ answer.Update table id place how → Updated c t u table id place e
-  unfolding refuse note peerError defineAt commitAt
+  unfolding refuse note peerError defineAt commitAt changed entryChange updatedEntry makeEntry
   kind-updated e (kinds.refused n h) q = absurd (let z : _≡_ {A = ℕ} 0 1 = cc in omega arith)
   kind-updated e (kinds.noted d a reply h) q = absurd (noted-update a h q)
   kind-updated e (kinds.failed type) q = absurd (let z : _≡_ {A = ℕ} 0 1 = cc in omega arith)

@@ -23,6 +23,7 @@ use Rattle.session_soundness.proofs.Keeping.{held-keeps}
 use Rattle.session_soundness.proofs.Records.{sound-session, sound-both}
 use Rattle.body.specs.Fields.{Read}
 use Rattle.message.specs.Effects.{refuse}
+use Rattle.message.specs.Changes.{changed}
 use Rattle.reassembly.specs.Judge.{waiting, settled, judge}
 use Rattle.streams.specs.Calls.{Call, stay}
 use Rattle.receiver.specs.Model.{State, heldBy}
@@ -57,8 +58,8 @@ others-sound s t m other p f (staying n h q) =
 others-sound s t m other p f (waiting-on w) = subst (λ (x : Store). sound other x ≡ true) (sym (p .store ∙ ap (λ (k : State). k .store) (w .state))) f
 others-sound s t m other p f (judging e j) =
     subst (λ (x : Store). sound other x ≡ true) (sym (p .store ∙ ap (λ (k : State). k .store) (j .state)))
-    (sound-both other (e .store) (facts-sound (e .store) (right s t m p e j .kept .store))
-    (session-grows (t .tables) (e .store .tables) other (settled-grows (s .connection) t _ e (j .judged)) (sound-session other t f)))
+    (sound-both other (changed t (e .change)) (facts-sound (changed t (e .change)) (right s t m p e j .kept .store))
+    (session-grows (t .tables) (changed t (e .change) .tables) other (settled-grows (s .connection) t _ e (j .judged)) (sound-session other t f)))
 
 pub other-records-sound : OtherRecordsSound
 other-records-sound s t m other p f = others-sound s t m other p f (ways s t m p)

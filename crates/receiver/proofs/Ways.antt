@@ -18,6 +18,7 @@ use Rattle.session.specs.declared.Answer.the-variants as answer
 use Rattle.session.specs.declared.Outcome.{Outcome}
 use Rattle.session.specs.Session.{unfinished, isClosed, holding}
 use Rattle.session_soundness.specs.Sound.{sound, waits}
+use Rattle.message.specs.Changes.{changed}
 use Rattle.message.specs.Effects.{Effect}
 use Rattle.reassembly.specs.Judge.{Judged, settled, judge}
 use Rattle.reassembly.specs.Pieces.{Part, takePiece}
@@ -40,7 +41,7 @@ pub record Judging (s : Session) (t : Store) (piece : List ℕ) (c : Call State 
   pub judged : judge (s .connection) t (unfinished s ++ take (c .taken) piece) ≡ settled e
   pub reply : c .reply ≡ e .reply
   pub answer : c .answer ≡ e .answer
-  pub state : c .state ≡ record { connection = e .connection; unfinished = []; store = e .store }
+  pub state : c .state ≡ record { connection = e .connection; unfinished = []; store = changed t (e .change) }
 
 -- sound, open, and the bytes wait
 pub record Waiting (s : Session) (t : Store) (piece : List ℕ) (c : Call State Answer) : Type 0 where

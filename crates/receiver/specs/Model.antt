@@ -10,6 +10,8 @@ use Rattle.session.specs.declared.Answer.{Answer}
 use Rattle.session.specs.declared.Answer.the-variants as answer
 use Rattle.session.specs.Session.{unfinished, isClosed, holding}
 use Rattle.session_soundness.specs.Sound.{sound}
+use Rattle.message.specs.Changes.{changed}
+use Rattle.message.specs.Effects.{Effect}
 use Rattle.reassembly.specs.Judge.{Judged, waiting, settled, judge}
 use Rattle.streams.specs.Model.{Fed, quiet, answered, Receiver}
 
@@ -27,9 +29,9 @@ heldBy s t = record { connection = s .connection; unfinished = unfinished s; sto
 
 -- "If these now end a message (hello and status too) or show a refusal, the rules here give answer, reply and new state, and no byte stays
 -- unfinished. All else stays."
-unfoldable pub joined : Connection → Store → List ℕ → Judged → Fed State Answer
+unfoldable pub joined : Connection → Store → List ℕ → Judged Effect → Fed State Answer
 joined c s u waiting = quiet (record { connection = c; unfinished = u; store = s })
-joined c s u (settled e) = answered (e .answer) (e .reply) (record { connection = e .connection; unfinished = []; store = e .store })
+joined c s u (settled e) = answered (e .answer) (e .reply) (record { connection = e .connection; unfinished = []; store = changed s (e .change) })
 
 -- "On a closed session a byte changes nothing. On an open one it joins the unfinished bytes."
 unfoldable pub feed : State → ℕ → Fed State Answer

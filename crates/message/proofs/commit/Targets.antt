@@ -29,7 +29,7 @@ use Rattle.session.specs.declared.Connection.{Connection}
 use Rattle.session.specs.declared.Commit.the-variants as commit
 use Rattle.message.specs.declared.Effect.{Effect as EffectStruct}
 use Rattle.message.specs.declared.Asked.{Asked}
-use Rattle.message.specs.Effects.{Asks, does, commits, refuse, commitAt, commitTo, done}
+use Rattle.message.specs.Effects.{Asks, does, commits, refuse, commitAt, commitEntry, done}
 use Rattle.message.specs.Structs.{effectStruct, asksNothing, asksCommit, asked, finished}
 use Rattle.message.specs.declared.commit.Target.{Target}
 use Rattle.message.specs.Targets.{lookedUp, keyedAs, goesTo, targetOf}
@@ -143,14 +143,14 @@ pub ruleset targeting = (needs, at-held, at-free, nowhere)
 -- ---- what was asked is done
 
 module _ (c : Connection) (id : ℕ) (e : Entry) where
-  commits-at : (f : Place) → targetOf f .full ≡ false → commitAt c id e (targetOf f .place) (targetOf f .how) ≡ commitTo c id e f
-  unfolding targetOf commitTo
+  commits-at : (f : Place) → targetOf f .full ≡ false → commitAt c id e (targetOf f .place) (targetOf f .how) ≡ commitEntry c id e f
+  unfolding targetOf commitEntry
   commits-at (place.Held i) h = refl
   commits-at (place.Free i) h = refl
   commits-at place.Full h = never refl h
 
-  refuses-full : (f : Place) → targetOf f .full ≡ true → refuse c 29 ≡ commitTo c id e f
-  unfolding targetOf commitTo
+  refuses-full : (f : Place) → targetOf f .full ≡ true → refuse c 29 ≡ commitEntry c id e f
+  unfolding targetOf commitEntry
   refuses-full (place.Held i) h = never h refl
   refuses-full (place.Free i) h = never h refl
   refuses-full place.Full h = refl
@@ -161,7 +161,7 @@ module _ (c : Connection) (f : Place) (a : Asked) where
   done-already h = sym (cond-false _ _ _ (not-true (a .commits) h))
 
   module _ (h : not (a .commits) ≡ false) (t : Target) (p : t ≡ targetOf f) (r : EffectStruct) where
-    commits-so : r ≡ effectStruct (commitTo c (a .id) (a .entry) f) → r ≡ finished c f a
+    commits-so : r ≡ effectStruct (commitEntry c (a .id) (a .entry) f) → r ≡ finished c f a
     unfolding finished
     commits-so k = k ∙ sym (cond-true _ _ _ (not-false (a .commits) h))
 
@@ -182,4 +182,4 @@ pub finished-done : (c : Connection) (entries : List Entry) (f : Place) (m : Ask
     → finished c f (asked c m) ≡ effectStruct (done c entries m)
 unfolding finished asked asksNothing asksCommit done
 finished-done c entries f (does e) h = refl
-finished-done c entries f (commits id e) h = ap (λ (x : Place). effectStruct (commitTo c id e x)) (h refl)
+finished-done c entries f (commits id e) h = ap (λ (x : Place). effectStruct (commitEntry c id e x)) (h refl)
