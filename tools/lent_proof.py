@@ -82,14 +82,14 @@ PUTS = (Put('₀', ENTRIES, '«puts_entry»', 'entry', 'withEntry', 'entryWritte
 USES = '''use Rattle.store.proofs.Typed.{store-shape}
 use Rattle.store_scan.specs.Scan.{Scans}
 use Rattle.reading.specs.Start.{Starts}
-use Rattle.reading.specs.Finish.{EndsRead}
+use Rattle.reading.specs.Finish.{endOf, endStep, endRoom, finishedAs}
 use Rattle.reading.proofs.finish.Finishing.{promised, in-entries, in-tables, withEntry, withTable, entryWritten, tableWritten, storeWritten}'''
 
 # What the callees ensure, and the proof of what `read_lent` ensures, over h₀ (the record), h₁ (the store), x .now (the
 # piece), ys (the room at entry), v (started), s (scanned), r (the step), h (the new store), zs (the room at exit).
 BEGAN = 'Starts h₀ (h₁ .tables) (x .now) v'
 LOOKED = 'Scans (v .query) (h₁ .entries) s'
-SAID = 'EndsRead h₀ v s ys r zs'
+SAID = '(r ≡ finishedAs (endStep h₀ (v .taken) (endOf h₀ v s (length ys)))) × (zs ≡ endRoom ys (endOf h₀ v s (length ys)))'
 PROMISED = 'promised h₀ h₁ (x .now) v s ys r h zs he (store-shape h₁ _ g₁) bv lv e'
 WRITTEN = 'storeWritten h₁ r'
 
@@ -771,7 +771,7 @@ def puts_from(walk, rest, store, relation, written, same):
 def put_element(walk, put, store, relation, go_on):
     """store.ARRAY[step.place] = step.VALUE;"""
     number, array = put.number, put.array
-    bound = f'({put.bound} e (holds (r .{put.flag}) t{number}))'
+    bound = f'({put.bound} _ (e .0) (holds (r .{put.flag}) t{number}))'
     fits = f'(record {{ fits = far{number} (r .place) {bound} }})'
     walk.assign('offset' + number, f'bin ! {walk.step_field("place")} (lit ! tt) {fits}', f'(tt, {fits})')
     walk.assign('array' + number, f'addr ! {walk.store_field(array)}')

@@ -12,9 +12,9 @@ use Rattle.session.specs.declared.Answer.{Answer}
 use Rattle.session.specs.declared.Answer.the-variants as answer
 use Rattle.session.specs.declared.Reply.{Reply}
 use Rattle.session.specs.Session.{holding}
-use Rattle.message.specs.declared.Settled.{Settled}
+use Rattle.message.specs.declared.Effect.{Effect as EffectStruct}
 use Rattle.message.specs.Effects.{Effect}
-use Rattle.message.specs.Settled.{noChange, changed}
+use Rattle.message.specs.Changes.{noChange, changed}
 use Rattle.streams.specs.Calls.{Call}
 use Rattle.receiver.specs.Model.{State}
 use Rattle.receiver.specs.Promise.{outcomeOf, sessionOf}
@@ -33,20 +33,20 @@ waits c u count = record { outcome = record { taken = count; «reply_len» = 0; 
 unfoldable pub applied : Store → StepChange → Step
 applied t r = record { outcome = r .outcome; session = r .session; store = changed t (r .change) }
 
--- a message's answer, after so many bytes
-unfoldable pub answers : ℕ → Effect → Step
-answers count e = record {
-  outcome = record { taken = count; «reply_len» = length (e .reply); answer = e .answer };
-  session = holding (e .connection) [];
-  store = e .store;
-}
-
--- the same of a settled message, whose store is to be changed
-unfoldable pub gives : ℕ → Settled → StepChange
+-- what a message did is answered, after so many bytes
+unfoldable pub gives : ℕ → EffectStruct → StepChange
 gives count x = record {
   outcome = record { taken = count; «reply_len» = x .reply .len; answer = x .answer };
   session = holding (x .connection) [];
   change = x .change;
+}
+
+-- the same on a store
+unfoldable pub answers : ℕ → Store → Effect → Step
+answers count t e = record {
+  outcome = record { taken = count; «reply_len» = length (e .reply); answer = e .answer };
+  session = holding (e .connection) [];
+  store = changed t (e .change);
 }
 
 -- the room with a reply at its front; a reply of more than the twelve bytes of its array, or than the room has, is not put

@@ -11,10 +11,10 @@ use Rattle.session.specs.declared.Session.{Session}
 use Rattle.session.specs.Session.{unfinished}
 use Rattle.session.specs.Shape.{SessionShape}
 use Rattle.session_soundness.specs.Sound.{soundSession}
-use Rattle.message.specs.Settled.{AsksWith}
+use Rattle.message.specs.Structs.{asked}
 use Rattle.reassembly.specs.declared.Taken.{Taken}
 use Rattle.reassembly.specs.Pieces.{takePiece, takenOf}
-use Rattle.reassembly.specs.SettleOnStores.{judgeOn}
+use Rattle.reassembly.specs.Judge.{judgeBytes, asksOf}
 use Rattle.receiver.specs.Model.{isByte}
 use Rattle.reading.specs.declared.start.Started.{Started}
 
@@ -26,7 +26,7 @@ takenBytes x = take (x .len) (x .bytes)
 pub record Starts (s : Session) (tables : List Table) (piece : List ℕ) (r : Started) : Type 0 where
   pub sound : r .sound ≡ ((every soundTable tables && distinct sameName tables) && soundSession tables s)
   pub taken : r .taken ≡ takenOf (takePiece (s .connection) (unfinished s) piece)
-  pub asks : AsksWith (s .connection) tables (judgeOn (s .connection) (takenBytes (r .taken))) (r .asked)
+  pub asks : r .asked ≡ asked (s .connection) (asksOf (s .connection) (judgeBytes (s .connection) tables (takenBytes (r .taken))))
   pub query : r .query ≡ record { tables = tables; entry = r .asked .entry }
   -- the shape of what came in
   pub session : SessionShape s

@@ -22,9 +22,10 @@ use store_scan::Scanned;
 ghost use mathlib.Core.Path.{_≡_};
 ghost use mathlib.Core.Bool.{_&&_};
 ghost use lib.Dec.{eqb, ltb};
+ghost use lib.ListN.{length};
 ghost use Rattle.reading.specs.Results.{waits};
 ghost use Rattle.reading.specs.Start.{takenBytes};
-ghost use Rattle.reading.specs.Finish.{Ends, EndsRead};
+ghost use Rattle.reading.specs.Finish.{endOf, endStep, endRoom, finishedAs};
 
 // The least room for a reply.
 pub const REPLY_ROOM: usize = 12;
@@ -56,7 +57,7 @@ fn finish_change(
     scanned: Scanned,
     reply: &mut [u8],
 ) -> StepChange
-    ensures { λ r. ⌜ Ends session started scanned (now (reply .entry)) r (now (reply .exit)) ⌝ }
+    ensures { λ r. ⌜ (r ≡ endStep session (started .taken) (endOf session started scanned (length (now (reply .entry))))) × (now (reply .exit) ≡ endRoom (now (reply .entry)) (endOf session started scanned (length (now (reply .entry))))) ⌝ }
 {
     if reply.len() < REPLY_ROOM {
         return stay(session, Answer::Refused(1));
@@ -101,7 +102,7 @@ pub fn finish_read(
     scanned: Scanned,
     reply: &mut [u8],
 ) -> Finished
-    ensures { λ r. ⌜ EndsRead session started scanned (now (reply .entry)) r (now (reply .exit)) ⌝ }
+    ensures { λ r. ⌜ (r ≡ finishedAs (endStep session (started .taken) (endOf session started scanned (length (now (reply .entry)))))) × (now (reply .exit) ≡ endRoom (now (reply .entry)) (endOf session started scanned (length (now (reply .entry))))) ⌝ }
 {
     let step = finish_change(session, started, scanned, reply);
     let outcome = step.outcome;

@@ -1,7 +1,7 @@
 // What a reading call gives back, for each way that it ends.
 use lists::pad;
 use message::Change;
-use message::Settled;
+use message::Effect;
 use message::changes::no_change;
 use session::Answer;
 use session::Connection;
@@ -90,22 +90,22 @@ fn put_reply(room: &mut [u8], reply: Reply)
     wire::buffer::put_bytes(room, 0, &text[..n]);
 }
 
-// A settled message is answered; its reply stands at the front of the room.
-pub fn give(settled: Settled, count: usize, reply: &mut [u8]) -> StepChange
-    ensures result { λ r. ⌜ r ≡ gives count settled ⌝ }
-    ensures content { λ _. ⌜ now (reply .exit) ≡ replied (settled .reply) (now (reply .entry)) ⌝ }
+// What a message did is answered; its reply stands at the front of the room.
+pub fn give(effect: Effect, count: usize, reply: &mut [u8]) -> StepChange
+    ensures result { λ r. ⌜ r ≡ gives count effect ⌝ }
+    ensures content { λ _. ⌜ now (reply .exit) ≡ replied (effect .reply) (now (reply .entry)) ⌝ }
 {
-    let written = settled.reply;
+    let written = effect.reply;
     put_reply(reply, written);
-    let next = settled.connection;
+    let next = effect.connection;
     let session = record_with(next, b"");
-    let given = settled.answer;
+    let given = effect.answer;
     let outcome = Outcome {
         taken: count,
         reply_len: written.len,
         answer: given,
     };
-    let change = settled.change;
+    let change = effect.change;
     StepChange {
         outcome,
         session,

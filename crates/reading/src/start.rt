@@ -3,8 +3,8 @@ use lists::shorter;
 use message::Asked;
 use reassembly::MESSAGE_MAX;
 use reassembly::Taken;
+use reassembly::judge::judge_bytes;
 use reassembly::piece::take_piece;
-use reassembly::settle::settle;
 use session::Connection;
 use session::Session;
 use session_soundness::session_ok;
@@ -17,8 +17,8 @@ ghost use mathlib.Core.Bool.{_&&_};
 ghost use Rattle.lists.specs.Lists.{every, distinct};
 ghost use Rattle.store.specs.Sound.{soundTable, sameName};
 ghost use Rattle.session_soundness.specs.Sound.{soundSession};
-ghost use Rattle.message.specs.Settled.{AsksWith};
-ghost use Rattle.reassembly.specs.SettleOnStores.{judgeOn};
+ghost use Rattle.message.specs.Structs.{asked};
+ghost use Rattle.reassembly.specs.Judge.{judgeBytes, asksOf};
 ghost use Rattle.reading.specs.Start.{takenBytes, Starts};
 
 // What the entries are to be asked, whether the tables and the record are sound, what was taken of the piece, and what that asks for.
@@ -41,11 +41,11 @@ fn tables_and_record_ok(session: Session, tables: [Table; TABLES]) -> bool
 
 // What the bytes that were taken ask for.
 fn ask_taken(connection: Connection, tables: [Table; TABLES], taken: Taken) -> Asked
-    ensures { λ r. ⌜ AsksWith connection tables (judgeOn connection (takenBytes taken)) r ⌝ }
+    ensures { λ r. ⌜ r ≡ asked connection (asksOf connection (judgeBytes connection tables (takenBytes taken))) ⌝ }
 {
     let bytes = taken.bytes;
     let n = shorter(taken.len, MESSAGE_MAX);
-    settle(connection, tables, &bytes[..n])
+    judge_bytes(connection, tables, &bytes[..n])
 }
 
 // Tests tables and record, takes bytes of the piece, and says what they ask for.

@@ -7,7 +7,7 @@ use mathlib.Core.List.{List}
 use lib.ListN.{length, getD, take, set}
 use lib.Dec.{eqb, ltb}
 use borrow.Author.Needs.{needs}
-use borrow.Author.Tests.{eq-eqb, ne-eqb, eqb-true, ltb-true, ltb-false, not-true, not-false}
+use borrow.Author.Tests.{eq-eqb, ne-eqb, lt-ltb, le-ltb, eqb-true, eqb-false, ltb-true, ltb-false, not-true, not-false}
 use Rattle.lists.specs.Lists.{allOf, every, distinct}
 use Rattle.lists.proofs.Cases.{by-test, and-second, and-true, and-false, cond-true, cond-false}
 use lib.Seq.{set-out}
@@ -21,18 +21,23 @@ use Rattle.store.proofs.Lookup.{blankEntry, Keys}
 use Rattle.lists.proofs.Every.{getD-any}
 use Rattle.session.specs.declared.Connection.{Connection}
 use Rattle.session.specs.declared.Session.{Session}
+use Rattle.session.specs.declared.Answer.{Answer}
 use Rattle.session.specs.declared.Answer.the-variants as answer
 use Rattle.session.specs.Session.{isClosed}
 use Rattle.session_soundness.specs.Sound.{soundSession, sound}
-use Rattle.message.specs.declared.Settled.{Settled}
+use Rattle.message.specs.declared.Effect.{Effect as EffectStruct}
+use Rattle.message.specs.declared.Asked.{Asked}
 use Rattle.message.specs.declared.Change.{Change}
-use Rattle.message.specs.Settled.{changed, Finishes}
+use Rattle.message.specs.Changes.{changed}
+use Rattle.message.specs.Effects.{Asks}
+use Rattle.message.specs.Structs.{effectStruct, asked, finished}
+use Rattle.reassembly.specs.Judge.{judgeBytes, asksOf, effectOf, judge}
 use Rattle.reassembly.specs.declared.Taken.{Taken}
-use Rattle.message.specs.Targets.{goesTo, FinishesAt}
-use Rattle.message.proofs.commit.Targets.{finishes-there}
+use Rattle.message.specs.Targets.{goesTo}
+use Rattle.message.proofs.commit.Targets.{finished-done}
 use Rattle.reading.specs.declared.results.StepChange.{StepChange}
 use Rattle.reading.specs.Results.{stays, waits, gives, replied}
-use Rattle.reading.proofs.finish.Answering.{commit-made, commit-replied}
+use Rattle.reading.proofs.finish.Answering.{gives-made, gives-replied, done-effect}
 use Rattle.receiver.specs.Promise.{Made, Shaped, ReadPromise}
 use Rattle.reading.proofs.finish.Promising.{short-promise, unsound-promise, closed-promise, open-promise, is-closed, is-open}
 use Rattle.reading.proofs.finish.Receiving.{stays-step, stays-room, waits-step, waits-room, answers-step, answers-room}
@@ -43,16 +48,7 @@ use Rattle.reading.specs.declared.start.Started.{Started}
 use Rattle.reading.specs.Start.{takenBytes, Starts}
 use Rattle.reading.proofs.start.Starting.{taken-fits, taken-size, taken-are}
 use Rattle.reading.specs.declared.finish.Finished.{Finished}
-use Rattle.reading.specs.Finish.{Reads, Ends, short, unsound, closed, empty, waiting, answered, EndsRead, finished}
-
--- every key has the longest key's places
-shaped-keys : (t : Store) → StoreShape t → Keys (t .entries)
-shaped-keys t shape =
-    record {
-      count = shape .entries;
-      long = λ k l.
-          ap (λ (e : Entry). length (e .key)) (getD-any (t .entries) k blankEntry noEntry (omega (arith, shape .entries))) ∙ shape .entry k l .key .size;
-    }
+use Rattle.reading.specs.Finish.{End, staying, waiting, answering, endOf, endStep, endRoom, finishedAs}
 
 -- ---- soundness in two parts: tables and record, then entries
 
@@ -66,39 +62,105 @@ parted true true true false false = refl
 parted true true true true true = refl
 parted true true true true false = refl
 
+-- ---- each way to end
+
 module _ (s : Session) (x : Started) (y : Scanned) (room : List ℕ) where
-  pub ends-short : (r : StepChange) → length room < 12 → r ≡ stays s (answer.Refused 1) → Ends s x y room r room
-  ends-short r l e = short l e refl
+  abbrev Ended : StepChange → List ℕ → Type 0
+  Ended r final = (r ≡ endStep s (x .taken) (endOf s x y (length room))) × (final ≡ endRoom room (endOf s x y (length room)))
+
+  stays-so : (a : Answer) → endOf s x y (length room) ≡ staying a → (r : StepChange) → r ≡ stays s a → Ended r room
+  unfolding endStep endRoom
+  stays-so a e r p = rw e (p, refl)
+
+  -- sound, open, and the room is large enough
+  pub record Reads : Type 0 where
+    pub roomy : 12 ≤ length room
+    pub sound : (x .sound && y .sound) ≡ true
+    pub opened : isClosed (s .connection) ≡ false
+
+  -- which way it is, and why
+  pub data EndAs : End → Type 0 where
+    short : length room < 12 → EndAs (staying (answer.Refused 1))
+    unsound : 12 ≤ length room → (x .sound && y .sound) ≡ false → EndAs (staying (answer.Refused 4))
+    closed : 12 ≤ length room → (x .sound && y .sound) ≡ true → isClosed (s .connection) ≡ true → EndAs (staying (answer.Refused 2))
+    empty : Reads → x .taken .count ≡ 0 → EndAs (staying answer.More)
+    waits-on : Reads → (x .taken .count ≡ 0 → ⊥) → x .taken .ended ≡ false → EndAs waiting
+    answers-now : Reads → (x .taken .count ≡ 0 → ⊥) → x .taken .ended ≡ true → EndAs (answering (finished (s .connection) (y .place) (x .asked)))
+
+  choose : (b : Bool) (u v : End) → (b ≡ true → EndAs u) → (b ≡ false → EndAs v) → EndAs (cond b u v)
+  choose b u v f g =
+      by-test b (λ h. subst EndAs (sym (cond-true b u v h)) (f h)) (λ h. subst EndAs (sym (cond-false b u v h)) (g h))
+
+  pub end-as : EndAs (endOf s x y (length room))
+  unfolding endOf
+  end-as =
+      choose (ltb (length room) 12) _ _
+      (λ h. short (ltb-true (length room) 12 h))
+      (λ h.
+      let l = ltb-false (length room) 12 h in
+      choose (x .sound && y .sound) _ _
+      (λ f.
+      choose (isClosed (s .connection)) _ _
+      (λ c. closed l f c)
+      (λ c.
+      let k : Reads = record { roomy = l; sound = f; opened = c } in
+      choose (eqb (x .taken .count) 0) _ _
+      (λ z. empty k (eqb-true (x .taken .count) 0 z))
+      (λ z.
+      let n = eqb-false (x .taken .count) 0 z in
+      choose (x .taken .ended) _ _ (answers-now k n) (waits-on k n))))
+      (λ f. unsound l f))
+
+  pub ends-short : (r : StepChange) → length room < 12 → r ≡ stays s (answer.Refused 1) → Ended r room
+  unfolding endOf
+  ends-short r l e = stays-so (answer.Refused 1) (cond-true _ _ _ (lt-ltb (length room) 12 l)) r e
 
   module _ (l : 12 ≤ length room) where
-    pub ends-unsound : (r : StepChange) → not (x .sound) ≡ true → r ≡ stays s (answer.Refused 4) → Ends s x y room r room
-    ends-unsound r f e = unsound l (and-false (x .sound) (y .sound) (not-true (x .sound) f)) e refl
+    past : (rest : End) → cond (ltb (length room) 12) (staying (answer.Refused 1)) rest ≡ rest
+    past rest = cond-false _ _ _ (le-ltb (length room) 12 l)
+
+    not-sound : (x .sound && y .sound) ≡ false → endOf s x y (length room) ≡ staying (answer.Refused 4)
+    unfolding endOf
+    not-sound f = past _ ∙ cond-false _ _ _ f
+
+    pub ends-unsound : (r : StepChange) → not (x .sound) ≡ true → r ≡ stays s (answer.Refused 4) → Ended r room
+    ends-unsound r f e = stays-so (answer.Refused 4) (not-sound (and-false (x .sound) (y .sound) (not-true (x .sound) f))) r e
 
     module _ (f : not (x .sound) ≡ false) where
-      pub ends-spoiled : (r : StepChange) → not (y .sound) ≡ true → r ≡ stays s (answer.Refused 4) → Ends s x y room r room
-      ends-spoiled r g e = unsound l (and-true (x .sound) (y .sound) (not-false (x .sound) f) ∙ not-true (y .sound) g) e refl
+      pub ends-spoiled : (r : StepChange) → not (y .sound) ≡ true → r ≡ stays s (answer.Refused 4) → Ended r room
+      ends-spoiled r g e = stays-so (answer.Refused 4) (not-sound (and-true (x .sound) (y .sound) (not-false (x .sound) f) ∙ not-true (y .sound) g)) r e
 
       module _ (g : not (y .sound) ≡ false) where
         both : (x .sound && y .sound) ≡ true
         both = and-true (x .sound) (y .sound) (not-false (x .sound) f) ∙ not-false (y .sound) g
 
-        pub ends-closed : (r : StepChange) → s .connection .closed ≡ 1 → r ≡ stays s (answer.Refused 2) → Ends s x y room r room
-        ends-closed r c e = closed l both (is-closed s c) e refl
+        pub ends-closed : (r : StepChange) → s .connection .closed ≡ 1 → r ≡ stays s (answer.Refused 2) → Ended r room
+        unfolding endOf
+        ends-closed r c e = stays-so (answer.Refused 2) (past _ ∙ (cond-true _ _ _ both ∙ cond-true _ _ _ (is-closed s c))) r e
 
         module _ (o : s .connection .closed ≡ 1 → ⊥) where
-          reads : Reads s x y room
-          reads = record { roomy = l; sound = both; opened = is-open s o }
+          open-past : (rest : End) → cond (x .sound && y .sound) (cond (isClosed (s .connection)) (staying (answer.Refused 2)) rest) (staying (answer.Refused 4)) ≡ rest
+          open-past rest = cond-true _ _ _ both ∙ cond-false _ _ _ (is-open s o)
 
-          pub ends-empty : (r : StepChange) → x .taken .count ≡ 0 → r ≡ stays s answer.More → Ends s x y room r room
-          ends-empty r z e = empty reads z e refl
+          pub ends-empty : (r : StepChange) → x .taken .count ≡ 0 → r ≡ stays s answer.More → Ended r room
+          unfolding endOf
+          ends-empty r z e = stays-so answer.More (past _ ∙ (open-past _ ∙ cond-true _ _ _ (eq-eqb (x .taken .count) 0 z))) r e
 
           module _ (n : x .taken .count ≡ 0 → ⊥) where
-            pub ends-waiting : (r : StepChange) → x .taken .ended ≡ false → r ≡ waits (s .connection) (takenBytes (x .taken)) (x .taken .count) → Ends s x y room r room
-            ends-waiting r z e = waiting reads n z e refl
+            by-ended : endOf s x y (length room) ≡ cond (x .taken .ended) (answering (finished (s .connection) (y .place) (x .asked))) waiting
+            unfolding endOf
+            by-ended = past _ ∙ (open-past _ ∙ cond-false _ _ _ (ne-eqb (x .taken .count) 0 n))
 
-            pub ends-answered : x .taken .ended ≡ true → (m : Settled) → FinishesAt (s .connection) (y .place) (x .asked) m → (r : StepChange) (final : List ℕ)
-                → r ≡ gives (x .taken .count) m → final ≡ replied (m .reply) room → Ends s x y room r final
-            ends-answered z m d r final e w = answered reads n z m d e w
+            pub ends-waiting : (r : StepChange) → x .taken .ended ≡ false → r ≡ waits (s .connection) (takenBytes (x .taken)) (x .taken .count) → Ended r room
+            unfolding endStep endRoom
+            ends-waiting r z e = rw (by-ended ∙ cond-false _ _ _ z) (e, refl)
+
+            pub ends-answered : x .taken .ended ≡ true → (m : EffectStruct) → m ≡ finished (s .connection) (y .place) (x .asked) → (r : StepChange) (final : List ℕ)
+                → r ≡ gives (x .taken .count) m → final ≡ replied (m .reply) room → Ended r final
+            unfolding endStep endRoom
+            ends-answered z m d r final e w =
+                rw (by-ended ∙ cond-true _ _ _ z)
+                (e ∙ ap (gives (x .taken .count)) d, w ∙ ap (λ (k : EffectStruct). replied (k .reply) room) d)
 
 -- the bytes that were taken, as those of a slice
 pub waits-taken : (c : Connection) (x : Taken) (n : ℕ) (r : StepChange) → n ≡ min (x .len) 1028 → length (x .bytes) ≡ 1028
@@ -126,38 +188,51 @@ module _ (s : Session) (x : Started) (y : Scanned) (room : List ℕ) (t : Store)
       ∙ ap (λ (b : Bool). x .sound && b)
       (sym (sc .sound ∙ ap (λ (q : Query). every (soundEntry (q .tables)) (t .entries) && distinct sameKey (t .entries)) (st .query)))
 
-  finishes : (m : Settled) → y .sound ≡ true → FinishesAt (s .connection) (y .place) (x .asked) m → Finishes (s .connection) (t .entries) (x .asked) m
-  finishes m g d =
-      finishes-there (s .connection) (t .entries) (y .place) (x .asked) m (shaped-keys t shape)
-      (λ h. sc .place g ∙ ap (λ (q : Query). goesTo (t .entries) (q .entry)) (st .query)) d
+  -- what is asked, done at the place that the scan told
+  did : y .sound ≡ true
+      → finished (s .connection) (y .place) (x .asked) ≡ effectStruct (effectOf (s .connection) (judge (s .connection) t (takenBytes (x .taken))))
+  unfolding judge
+  did g =
+      ap (finished (s .connection) (y .place)) (st .asks)
+      ∙ (finished-done (s .connection) (t .entries) (y .place) asks
+      (λ h. sc .place g ∙ ap (λ (q : Query). goesTo (t .entries) (q .entry)) (st .query) ∙ ap (λ (a : Asked). goesTo (t .entries) (a .entry)) (st .asks))
+      ∙ ap effectStruct (done-effect (s .connection) (t .entries) (judgeBytes (s .connection) (t .tables) (takenBytes (x .taken)))))
+    where
+      asks : Asks
+      asks = asksOf (s .connection) (judgeBytes (s .connection) (t .tables) (takenBytes (x .taken)))
 
   same-room : (r : StepChange) (final : List ℕ) → final ≡ room → ReadPromise s t (made r room) → ReadPromise s t (made r final)
   same-room r final e h = subst (λ (l : List ℕ). ReadPromise s t (made r l)) (sym e) h
 
-  kept : (r : StepChange) (final : List ℕ) → Ends s x y room r final → ReadPromise s t (made r final)
-  kept r final (short l e w) = same-room r final w (short-promise s t piece room shaped (st .bytes) r l e)
-  kept r final (unsound l f e w) = same-room r final w (unsound-promise s t piece room shaped (st .bytes) l r (sym (is-sound ∙ f)) e)
-  kept r final (closed l f c e w) = same-room r final w (closed-promise s t piece room shaped (st .bytes) l (sym (is-sound ∙ f)) r c e)
-  kept r final (empty k z e w) =
+  kept-as : (w : End) → EndAs s x y room w → (r : StepChange) (final : List ℕ) → r ≡ endStep s (x .taken) w → final ≡ endRoom room w
+      → ReadPromise s t (made r final)
+  unfolding endStep endRoom
+  kept-as w (short l) r final e q = same-room r final q (short-promise s t piece room shaped (st .bytes) r l e)
+  kept-as w (unsound l f) r final e q = same-room r final q (unsound-promise s t piece room shaped (st .bytes) l r (sym (is-sound ∙ f)) e)
+  kept-as w (closed l f c) r final e q = same-room r final q (closed-promise s t piece room shaped (st .bytes) l (sym (is-sound ∙ f)) r c e)
+  kept-as w (empty k z) r final e q =
       let p = is-sound ∙ k .sound in
-      same-room r final w
+      same-room r final q
       (open-promise s t piece room shaped (st .bytes) (k .roomy) (sym p) r room (k .opened)
       (stays-step s t piece (x .taken) (st .taken) p (k .opened) shaped (st .bytes) r z e)
       (stays-room s t piece (x .taken) (st .taken) p (k .opened) shaped (st .bytes) room z))
-  kept r final (waiting k n z e w) =
+  kept-as w (waits-on k n z) r final e q =
       let p = is-sound ∙ k .sound in
-      same-room r final w
+      same-room r final q
       (open-promise s t piece room shaped (st .bytes) (k .roomy) (sym p) r room (k .opened)
       (waits-step s t piece (x .taken) (st .taken) p (k .opened) shaped (st .bytes) n r z e)
       (waits-room s t piece (x .taken) (st .taken) p (k .opened) shaped (st .bytes) n room z))
-  kept r final (answered k n z m d e w) =
+  kept-as w (answers-now k n z) r final e q =
       let p = is-sound ∙ k .sound in
-      let q = finishes m (and-second (x .sound) (y .sound) (k .sound)) d in
+      let d = did (and-second (x .sound) (y .sound) (k .sound)) in
       open-promise s t piece room shaped (st .bytes) (k .roomy) (sym p) r final (k .opened)
       (answers-step s t piece (x .taken) (st .taken) p (k .opened) shaped (st .bytes) n z _
-      (commit-made (s .connection) t (takenBytes (x .taken)) (x .asked) (st .asks) (x .taken .count) r m q e))
+      (gives-made t (x .taken .count) (effectOf (s .connection) (judge (s .connection) t (takenBytes (x .taken)))) r (e ∙ ap (gives (x .taken .count)) d)))
       (answers-room s t piece (x .taken) (st .taken) p (k .opened) shaped (st .bytes) n z room final (k .roomy)
-      (commit-replied (s .connection) t (takenBytes (x .taken)) (x .asked) (st .asks) (x .taken .count) r m q room final w))
+      (gives-replied (effectOf (s .connection) (judge (s .connection) t (takenBytes (x .taken)))) room final (q ∙ ap (λ (m : EffectStruct). replied (m .reply) room) d)))
+
+  kept : (r : StepChange) (final : List ℕ) → Ended s x y room r final → ReadPromise s t (made r final)
+  kept r final e = kept-as (endOf s x y (length room)) (end-as s x y room) r final (e .0) (e .1)
 
 -- ---- what is put at a place
 
@@ -229,64 +304,55 @@ module _ (t : Store) (shape : StoreShape t) (c : Change) where
     put-changed : put a b ≡ changed t c
     put-changed = by-test (eqb (c .kind) 1) put-table put-entry
 
--- ---- the whole end
-
-pub ends-read : (s : Session) (x : Started) (y : Scanned) (room : List ℕ) (m : StepChange) (final : List ℕ) (a b : Bool)
-    → Ends s x y room m final → a ≡ (eqb (m .change .kind) 2 && ltb (m .change .place) 128)
-    → b ≡ (eqb (m .change .kind) 1 && ltb (m .change .place) 8)
-    → EndsRead s x y room
-    (record {
-      outcome = m .outcome;
-      session = m .session;
-      «puts_entry» = a;
-      «puts_table» = b;
-      place = m .change .place;
-      entry = m .change .entry;
-      table = m .change .table;
-    })
-    final
-ends-read s x y room m final a b f ae be = record { step = m; ends = f; same = same }
-  where
-    same : _≡_ {A = Finished} (record { outcome = m .outcome; session = m .session; «puts_entry» = a; «puts_table» = b; place = m .change .place; entry = m .change .entry; table = m .change .table }) (finished m)
-    same = unfold finished in rw (ae, be) refl
-
 -- ---- what the three parts of the reading call ensure gives its promise
+
+pub finished-as : (m : StepChange) (a b : Bool) → a ≡ (eqb (m .change .kind) 2 && ltb (m .change .place) 128) → b ≡ (eqb (m .change .kind) 1 && ltb (m .change .place) 8)
+    → _≡_ {A = Finished} (record { outcome = m .outcome; session = m .session; «puts_entry» = a; «puts_table» = b; place = m .change .place; entry = m .change .entry; table = m .change .table }) (finishedAs m)
+unfolding finishedAs
+finished-as m a b p q = rw (p, q)
+
+-- where m is what `finish_change` returned
+pub ends-read : (s : Session) (x : Started) (y : Scanned) (room : List ℕ) (m : StepChange) (final : List ℕ) (a b : Bool)
+    → (m ≡ endStep s (x .taken) (endOf s x y (length room))) × (final ≡ endRoom room (endOf s x y (length room)))
+    → a ≡ (eqb (m .change .kind) 2 && ltb (m .change .place) 128) → b ≡ (eqb (m .change .kind) 1 && ltb (m .change .place) 8)
+    → (_≡_ {A = Finished} (record { outcome = m .outcome; session = m .session; «puts_entry» = a; «puts_table» = b; place = m .change .place; entry = m .change .entry; table = m .change .table })
+    (finishedAs (endStep s (x .taken) (endOf s x y (length room)))))
+    × (final ≡ endRoom room (endOf s x y (length room)))
+ends-read s x y room m final a b f p q = (finished-as m a b p q ∙ ap finishedAs (f .0), f .1)
 
 within : (b : Bool) (kind wanted i n : ℕ) → b ≡ (eqb kind wanted && ltb i n) → b ≡ true → i < n
 within b kind wanted i n e h = ltb-true i n (and-second (eqb kind wanted) (ltb i n) (sym e ∙ h))
 
-module _ {s : Session} {x : Started} {y : Scanned} {room : List ℕ} {r : Finished} {final : List ℕ} (f : EndsRead s x y room r final) where
-  abbrev c : Change
-  c = f .step .change
-
-  place-is : r .place ≡ c .place
-  unfolding finished
-  place-is = ap (λ (k : Finished). k .place) (f .same)
+module _ (m : StepChange) {r : Finished} (f : r ≡ finishedAs m) where
+  place-is : r .place ≡ m .change .place
+  unfolding finishedAs
+  place-is = ap (λ (k : Finished). k .place) f
 
   pub in-entries : r .«puts_entry» ≡ true → r .place < 128
-  unfolding finished
+  unfolding finishedAs
   in-entries h =
       subst (λ (i : ℕ). i < 128) (sym place-is)
-      (within (r .«puts_entry») (c .kind) 2 (c .place) 128 (ap (λ (k : Finished). k .«puts_entry») (f .same)) h)
+      (within (r .«puts_entry») (m .change .kind) 2 (m .change .place) 128 (ap (λ (k : Finished). k .«puts_entry») f) h)
 
   pub in-tables : r .«puts_table» ≡ true → r .place < 8
-  unfolding finished
+  unfolding finishedAs
   in-tables h =
       subst (λ (i : ℕ). i < 8) (sym place-is)
-      (within (r .«puts_table») (c .kind) 1 (c .place) 8 (ap (λ (k : Finished). k .«puts_table») (f .same)) h)
+      (within (r .«puts_table») (m .change .kind) 1 (m .change .place) 8 (ap (λ (k : Finished). k .«puts_table») f) h)
 
-written-change : (t : Store) → StoreShape t → (m : StepChange) → storeWritten t (finished m) ≡ changed t (m .change)
-unfolding finished
+written-change : (t : Store) → StoreShape t → (m : StepChange) → storeWritten t (finishedAs m) ≡ changed t (m .change)
+unfolding finishedAs
 written-change t shape m = put-changed t shape (m .change) _ _ refl refl
 
 pub promised : (s : Session) (t : Store) (piece : List ℕ) (x : Started) (y : Scanned) (room : List ℕ) (r : Finished) (h : Store) (final : List ℕ)
-    → h ≡ storeWritten t r → StoreShape t → Starts s (t .tables) piece x → Scans (x .query) (t .entries) y → EndsRead s x y room r final
+    → h ≡ storeWritten t r → StoreShape t → Starts s (t .tables) piece x → Scans (x .query) (t .entries) y
+    → (r ≡ finishedAs (endStep s (x .taken) (endOf s x y (length room)))) × (final ≡ endRoom room (endOf s x y (length room)))
     → ReadPromise s t (record { piece = piece; room = room; outcome = r .outcome; session = r .session; store = h; final = final })
-unfolding finished
+unfolding finishedAs
 promised s t piece x y room r h final he shape st sc f =
-    let m = f .step in
+    let m = endStep s (x .taken) (endOf s x y (length room)) in
     subst (λ (k : Finished). ReadPromise s t (record { piece = piece; room = room; outcome = k .outcome; session = k .session; store = h; final = final }))
-    (sym (f .same))
+    (sym (f .0))
     (subst (λ (u : Store). ReadPromise s t (record { piece = piece; room = room; outcome = m .outcome; session = m .session; store = u; final = final }))
-    (sym (he ∙ (ap (storeWritten t) (f .same) ∙ written-change t shape m)))
-    (kept s x y room t piece shape st sc m final (f .ends)))
+    (sym (he ∙ (ap (storeWritten t) (f .0) ∙ written-change t shape m)))
+    (kept s x y room t piece shape st sc m final (refl, f .1)))

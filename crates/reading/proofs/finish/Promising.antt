@@ -14,7 +14,7 @@ use Rattle.session.specs.declared.Answer.{Answer}
 use Rattle.session.specs.declared.Answer.the-variants as answer
 use Rattle.session.specs.Session.{isClosed}
 use Rattle.session_soundness.specs.Sound.{sound}
-use Rattle.message.specs.Settled.{noChange, changed}
+use Rattle.message.specs.Changes.{noChange, changed}
 use Rattle.streams.specs.Calls.{Call, stay, scan}
 use Rattle.reading.specs.declared.results.Step.{Step}
 use Rattle.reading.specs.declared.results.StepChange.{StepChange}

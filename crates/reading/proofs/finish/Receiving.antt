@@ -24,7 +24,7 @@ use Rattle.session.proofs.Basics.{told}
 use Rattle.session_soundness.specs.Sound.{sound}
 use Rattle.session_soundness.specs.Sound as sounds
 use Rattle.message.specs.Effects.{Effect}
-use Rattle.message.specs.Settled.{noChange, changed}
+use Rattle.message.specs.Changes.{noChange, changed}
 use Rattle.reassembly.specs.declared.Taken.{Taken}
 use Rattle.reassembly.specs.Judge.{Judged, settled, judge, effectOf}
 use Rattle.reassembly.specs.Pieces.{Part, takePiece, takenOf}
@@ -74,7 +74,7 @@ module _ (s : Session) (t : Store) (a : Part) where
   waited-step e n = rw (waited-call s t a e, ne-eqb (a .taken) 0 n)
 
   settled-step : (e : Effect) → a .ended ≡ true → judge (s .connection) t (a .bytes) ≡ settled e → (a .taken ≡ 0 → ⊥)
-      → answers (a .taken) e ≡ stepOf s call
+      → answers (a .taken) t e ≡ stepOf s call
   unfolding answers stepOf judgedCall outcomeOf sessionOf
   settled-step e h j n = rw (settled-call s t a e h j, ne-eqb (a .taken) 0 n)
 
@@ -86,9 +86,9 @@ module _ (s : Session) (t : Store) (a : Part) where
   unfolding judgedCall
   settled-reply e h j = rw (settled-call s t a e h j)
 
-settled-effect : (c : Connection) (t : Store) (j : Judged) (e : Effect) → j ≡ settled e → effectOf c t j ≡ e
+settled-effect : (c : Connection) (j : Judged Effect) (e : Effect) → j ≡ settled e → effectOf c j ≡ e
 unfolding effectOf
-settled-effect c t j e h = rw h
+settled-effect c j e h = rw h
 
 no-front : (room : List ℕ) → room ≡ front [] room
 unfolding front
@@ -168,7 +168,7 @@ module _ (s : Session) (t : Store) (piece : List ℕ) (x : Taken) (p : x ≡ tak
     -- an answer
 
     module _ (z : x .ended ≡ true) where
-      abbrev judged : Judged
+      abbrev judged : Judged Effect
       judged = judge (s .connection) t (part .bytes)
 
       ends-settled : (e : Effect) × (judged ≡ settled e)
@@ -176,30 +176,30 @@ module _ (s : Session) (t : Store) (piece : List ℕ) (x : Taken) (p : x ≡ tak
           judged-settled (sounds.waits (s .connection) (part .bytes)) judged (judged-as (s .connection) t (part .bytes))
           (part-ended (s .connection) (unfinished s) piece few (sym ended-is ∙ z))
 
-      effect-is : effectOf (s .connection) t (judge (s .connection) t (take (x .len) (x .bytes))) ≡ ends-settled .0
+      effect-is : effectOf (s .connection) (judge (s .connection) t (take (x .len) (x .bytes))) ≡ ends-settled .0
       effect-is =
-          ap (λ (u : List ℕ). effectOf (s .connection) t (judge (s .connection) t u)) prefix-is
-          ∙ settled-effect (s .connection) t judged (ends-settled .0) (ends-settled .1)
+          ap (λ (u : List ℕ). effectOf (s .connection) (judge (s .connection) t u)) prefix-is
+          ∙ settled-effect (s .connection) judged (ends-settled .0) (ends-settled .1)
 
       reply-is : model .reply ≡ ends-settled .0 .reply
       reply-is =
           ap (λ (k : Call State Answer). k .reply) is-part ∙ settled-reply s t part (ends-settled .0) (sym ended-is ∙ z) (ends-settled .1)
 
-      reply-short : length (effectOf (s .connection) t (judge (s .connection) t (take (x .len) (x .bytes))) .reply) ≤ 12
+      reply-short : length (effectOf (s .connection) (judge (s .connection) t (take (x .len) (x .bytes))) .reply) ≤ 12
       reply-short = rw (effect-is, ← reply-is) (scan-short (heldBy s t) piece (good-held s t sh f) by)
 
-      pub answers-step : (r : Step) → r ≡ answers (x .count) (effectOf (s .connection) t (judge (s .connection) t (take (x .len) (x .bytes)))) → r ≡ stepOf s model
+      pub answers-step : (r : Step) → r ≡ answers (x .count) t (effectOf (s .connection) (judge (s .connection) t (take (x .len) (x .bytes)))) → r ≡ stepOf s model
       answers-step r q =
           q
-          ∙ (ap (answers (x .count)) effect-is
-          ∙ (ap (λ (k : ℕ). answers k (ends-settled .0)) count-is
+          ∙ (ap (answers (x .count) t) effect-is
+          ∙ (ap (λ (k : ℕ). answers k t (ends-settled .0)) count-is
           ∙ (settled-step s t part (ends-settled .0) (sym ended-is ∙ z) (ends-settled .1) some-taken ∙ ap (stepOf s) (sym is-part))))
 
       pub answers-room : (room final : List ℕ) → 12 ≤ length room
-          → final ≡ replied (replyOf (effectOf (s .connection) t (judge (s .connection) t (take (x .len) (x .bytes))) .reply)) room → final ≡ front (model .reply) room
+          → final ≡ replied (replyOf (effectOf (s .connection) (judge (s .connection) t (take (x .len) (x .bytes))) .reply)) room → final ≡ front (model .reply) room
       answers-room room final h q =
           q
-          ∙ (replied-front (effectOf (s .connection) t (judge (s .connection) t (take (x .len) (x .bytes))) .reply) room reply-short h
+          ∙ (replied-front (effectOf (s .connection) (judge (s .connection) t (take (x .len) (x .bytes))) .reply) room reply-short h
           ∙ ap (λ (l : List ℕ). front l room) (ap (λ (e : Effect). e .reply) effect-is ∙ sym reply-is))
 
     pub waits-room : (room : List ℕ) → x .ended ≡ false → room ≡ front (model .reply) room

@@ -54,7 +54,7 @@ use borrow.Table.Elements.{at-mul}
 use Rattle.store.proofs.Typed.{store-shape}
 use Rattle.store_scan.specs.Scan.{Scans}
 use Rattle.reading.specs.Start.{Starts}
-use Rattle.reading.specs.Finish.{EndsRead}
+use Rattle.reading.specs.Finish.{endOf, endStep, endRoom, finishedAs}
 use Rattle.reading.proofs.finish.Finishing.{promised, in-entries, in-tables, withEntry, withTable, entryWritten, tableWritten, storeWritten}
 use Rattle.session.specs.declared.Outcome.{Outcome}
 use Rattle.session.specs.declared.Session.{Session}
@@ -269,7 +269,7 @@ module _ {M : Type 1} (𝓤 : URA M) (H : Heap 𝓤) (A : Atoms 𝓤) (W : Given
   Looked v s = Scans (v .query) (h₁ .entries) s
 
   abbrev Said : Started → Scanned → Finished → List ℕ → Type 0
-  Said v s r zs = EndsRead h₀ v s ys r zs
+  Said v s r zs = (r ≡ finishedAs (endStep h₀ (v .taken) (endOf h₀ v s (length ys)))) × (zs ≡ endRoom ys (endOf h₀ v s (length ys)))
 
   -- ---- what each callee's triple binds outside, and how its `pre` is met
   abbrev to-begin : Begin 𝓤 H A at-mem run .Ghost
@@ -393,18 +393,18 @@ module _ {M : Type 1} (𝓤 : URA M) (H : Heap 𝓤) (A : Atoms 𝓤) (W : Given
       puts =
           assigns ! (of-opd ! (load ! (from ! (fld ! step-at-2 (stop !))) (look-in ! 32 (sub ! 2 refl (whole !))))) (from ! (stop !)) (init ! 22 refl (tt, tt)) $
           first ! $ branches ! (load ! (from ! (stop !)) (look ! 22 refl)) (λ t₀.
-          assigns ! (bin ! (load ! (from ! (fld ! step-at-4 (stop !))) (look-in ! 32 (sub ! 4 refl (whole !)))) (lit ! tt) (record { fits = far₀ (r .place) (in-entries e (holds (r .«puts_entry») t₀)) })) (from ! (stop !)) (init ! 20 refl (tt, (record { fits = far₀ (r .place) (in-entries e (holds (r .«puts_entry») t₀)) }))) $
+          assigns ! (bin ! (load ! (from ! (fld ! step-at-4 (stop !))) (look-in ! 32 (sub ! 4 refl (whole !)))) (lit ! tt) (record { fits = far₀ (r .place) (in-entries _ (e .0) (holds (r .«puts_entry») t₀)) })) (from ! (stop !)) (init ! 20 refl (tt, (record { fits = far₀ (r .place) (in-entries _ (e .0) (holds (r .«puts_entry») t₀)) }))) $
           assigns ! (addr ! (from ! (hop ! (look ! 46 refl) (fld ! store-at-1 (stop !))))) (from ! (stop !)) (init ! 18 refl (tt, tt)) $
           assigns ! (bin ! (load ! (from ! (stop !)) (look ! 18 refl)) (load ! (from ! (stop !)) (look ! 20 refl)) tt) (from ! (stop !)) (init ! 16 refl (tt, tt)) $
-          assigns-last ! (of-opd ! (load ! (from ! (fld ! step-at-5 (stop !))) (look-in ! 32 (sub ! 5 refl (whole !))))) (from ! (hop ! (look ! 16 refl) (stop !))) (store-in ! 0 (unraw ! (elem ! (vals₀ (h₁ .entries)) (r .place) _ _ (at-mul _ _ (r .place)) (in-entries e (holds (r .«puts_entry») t₀)) (vals-len N₀.the-type N₀′.the-laws 128 (h₁ .entries) _ (arr-is₀ h₁ g₁)) refl (sub ! 1 refl (whole !)))) (LL.lawful N₀.the-type N₀′.the-laws 𝓤 H A W .typed (r .entry) _ (entry-is r w is) .0)) $
+          assigns-last ! (of-opd ! (load ! (from ! (fld ! step-at-5 (stop !))) (look-in ! 32 (sub ! 5 refl (whole !))))) (from ! (hop ! (look ! 16 refl) (stop !))) (store-in ! 0 (unraw ! (elem ! (vals₀ (h₁ .entries)) (r .place) _ _ (at-mul _ _ (r .place)) (in-entries _ (e .0) (holds (r .«puts_entry») t₀)) (vals-len N₀.the-type N₀′.the-laws 128 (h₁ .entries) _ (arr-is₀ h₁ g₁)) refl (sub ! 1 refl (whole !)))) (LL.lawful N₀.the-type N₀′.the-laws 𝓤 H A W .typed (r .entry) _ (entry-is r w is) .0)) $
           exec ! C Λ En body.t-14 (atRet En Post) $
           rewrite ! 0 (λ (us : List Val). ‵ (cellAt fullShare (T.the-row .mir) (vstruct (setV (fieldsOf (stoV h₁)) 1 (arrayVal us)) ∷ []) b₁ o₁)) (vals-put N₀.the-type N₀′.the-laws 128 (h₁ .entries) _ (arr-is₀ h₁ g₁) (r .place) (r .entry)) refl $
           assigns ! (of-opd ! (load ! (from ! (fld ! step-at-3 (stop !))) (look-in ! 32 (sub ! 3 refl (whole !))))) (from ! (stop !)) (store ! 22 refl (tt, tt)) $
           first ! $ branches ! (load ! (from ! (stop !)) (look ! 22 refl)) (λ t₁.
-          assigns ! (bin ! (load ! (from ! (fld ! step-at-4 (stop !))) (look-in ! 32 (sub ! 4 refl (whole !)))) (lit ! tt) (record { fits = far₁ (r .place) (in-tables e (holds (r .«puts_table») t₁)) })) (from ! (stop !)) (init ! 14 refl (tt, (record { fits = far₁ (r .place) (in-tables e (holds (r .«puts_table») t₁)) }))) $
+          assigns ! (bin ! (load ! (from ! (fld ! step-at-4 (stop !))) (look-in ! 32 (sub ! 4 refl (whole !)))) (lit ! tt) (record { fits = far₁ (r .place) (in-tables _ (e .0) (holds (r .«puts_table») t₁)) })) (from ! (stop !)) (init ! 14 refl (tt, (record { fits = far₁ (r .place) (in-tables _ (e .0) (holds (r .«puts_table») t₁)) }))) $
           assigns ! (addr ! (from ! (hop ! (look ! 46 refl) (fld ! store-at-0 (stop !))))) (from ! (stop !)) (init ! 12 refl (tt, tt)) $
           assigns ! (bin ! (load ! (from ! (stop !)) (look ! 12 refl)) (load ! (from ! (stop !)) (look ! 14 refl)) tt) (from ! (stop !)) (init ! 10 refl (tt, tt)) $
-          assigns-last ! (of-opd ! (load ! (from ! (fld ! step-at-6 (stop !))) (look-in ! 32 (sub ! 6 refl (whole !))))) (from ! (hop ! (look ! 10 refl) (stop !))) (store-in ! 0 (unraw ! (elem ! (vals₁ ((withEntry h₁ (r .place) (r .entry)) .tables)) (r .place) _ _ (at-mul _ _ (r .place)) (in-tables e (holds (r .«puts_table») t₁)) (vals-len N₁.the-type N₁′.the-laws 8 ((withEntry h₁ (r .place) (r .entry)) .tables) _ (arr-is₁ (withEntry h₁ (r .place) (r .entry)) (made₀ h₁ g₁ (r .place) (r .entry) (entry-is r w is)))) refl (sub ! 0 refl (whole !)))) (LL.lawful N₁.the-type N₁′.the-laws 𝓤 H A W .typed (r .table) _ (table-is r w is) .0)) $
+          assigns-last ! (of-opd ! (load ! (from ! (fld ! step-at-6 (stop !))) (look-in ! 32 (sub ! 6 refl (whole !))))) (from ! (hop ! (look ! 10 refl) (stop !))) (store-in ! 0 (unraw ! (elem ! (vals₁ ((withEntry h₁ (r .place) (r .entry)) .tables)) (r .place) _ _ (at-mul _ _ (r .place)) (in-tables _ (e .0) (holds (r .«puts_table») t₁)) (vals-len N₁.the-type N₁′.the-laws 8 ((withEntry h₁ (r .place) (r .entry)) .tables) _ (arr-is₁ (withEntry h₁ (r .place) (r .entry)) (made₀ h₁ g₁ (r .place) (r .entry) (entry-is r w is)))) refl (sub ! 0 refl (whole !)))) (LL.lawful N₁.the-type N₁′.the-laws 𝓤 H A W .typed (r .table) _ (table-is r w is) .0)) $
           exec ! C Λ En body.t-16 (atRet En Post) $
           rewrite ! 0 (λ (us : List Val). ‵ (cellAt fullShare (T.the-row .mir) (vstruct (setV (fieldsOf (stoV (withEntry h₁ (r .place) (r .entry)))) 0 (arrayVal us)) ∷ []) b₁ o₁)) (vals-put N₁.the-type N₁′.the-laws 8 ((withEntry h₁ (r .place) (r .entry)) .tables) _ (arr-is₁ (withEntry h₁ (r .place) (r .entry)) (made₀ h₁ g₁ (r .place) (r .entry) (entry-is r w is))) (r .place) (r .table)) refl $
           assigns ! (of-opd ! (load ! (from ! (fld ! step-at-0 (stop !))) (look-in ! 32 (sub ! 0 refl (whole !))))) (from ! (stop !)) (init ! 50 refl (LL.lawful O.the-type O′.the-laws 𝓤 H A W .typed (r .outcome) _ (outcome-is r w is) .0)) $
@@ -423,10 +423,10 @@ module _ {M : Type 1} (𝓤 : URA M) (H : Heap 𝓤) (A : Atoms 𝓤) (W : Given
           (λ t₀. skips ! $ exec ! C Λ En body.t-14 (atRet En Post) $
           assigns ! (of-opd ! (load ! (from ! (fld ! step-at-3 (stop !))) (look-in ! 32 (sub ! 3 refl (whole !))))) (from ! (stop !)) (store ! 22 refl (tt, tt)) $
           first ! $ branches ! (load ! (from ! (stop !)) (look ! 22 refl)) (λ t₁.
-          assigns ! (bin ! (load ! (from ! (fld ! step-at-4 (stop !))) (look-in ! 32 (sub ! 4 refl (whole !)))) (lit ! tt) (record { fits = far₁ (r .place) (in-tables e (holds (r .«puts_table») t₁)) })) (from ! (stop !)) (init ! 14 refl (tt, (record { fits = far₁ (r .place) (in-tables e (holds (r .«puts_table») t₁)) }))) $
+          assigns ! (bin ! (load ! (from ! (fld ! step-at-4 (stop !))) (look-in ! 32 (sub ! 4 refl (whole !)))) (lit ! tt) (record { fits = far₁ (r .place) (in-tables _ (e .0) (holds (r .«puts_table») t₁)) })) (from ! (stop !)) (init ! 14 refl (tt, (record { fits = far₁ (r .place) (in-tables _ (e .0) (holds (r .«puts_table») t₁)) }))) $
           assigns ! (addr ! (from ! (hop ! (look ! 46 refl) (fld ! store-at-0 (stop !))))) (from ! (stop !)) (init ! 12 refl (tt, tt)) $
           assigns ! (bin ! (load ! (from ! (stop !)) (look ! 12 refl)) (load ! (from ! (stop !)) (look ! 14 refl)) tt) (from ! (stop !)) (init ! 10 refl (tt, tt)) $
-          assigns-last ! (of-opd ! (load ! (from ! (fld ! step-at-6 (stop !))) (look-in ! 32 (sub ! 6 refl (whole !))))) (from ! (hop ! (look ! 10 refl) (stop !))) (store-in ! 0 (unraw ! (elem ! (vals₁ (h₁ .tables)) (r .place) _ _ (at-mul _ _ (r .place)) (in-tables e (holds (r .«puts_table») t₁)) (vals-len N₁.the-type N₁′.the-laws 8 (h₁ .tables) _ (arr-is₁ h₁ g₁)) refl (sub ! 0 refl (whole !)))) (LL.lawful N₁.the-type N₁′.the-laws 𝓤 H A W .typed (r .table) _ (table-is r w is) .0)) $
+          assigns-last ! (of-opd ! (load ! (from ! (fld ! step-at-6 (stop !))) (look-in ! 32 (sub ! 6 refl (whole !))))) (from ! (hop ! (look ! 10 refl) (stop !))) (store-in ! 0 (unraw ! (elem ! (vals₁ (h₁ .tables)) (r .place) _ _ (at-mul _ _ (r .place)) (in-tables _ (e .0) (holds (r .«puts_table») t₁)) (vals-len N₁.the-type N₁′.the-laws 8 (h₁ .tables) _ (arr-is₁ h₁ g₁)) refl (sub ! 0 refl (whole !)))) (LL.lawful N₁.the-type N₁′.the-laws 𝓤 H A W .typed (r .table) _ (table-is r w is) .0)) $
           exec ! C Λ En body.t-16 (atRet En Post) $
           rewrite ! 0 (λ (us : List Val). ‵ (cellAt fullShare (T.the-row .mir) (vstruct (setV (fieldsOf (stoV h₁)) 0 (arrayVal us)) ∷ []) b₁ o₁)) (vals-put N₁.the-type N₁′.the-laws 8 (h₁ .tables) _ (arr-is₁ h₁ g₁) (r .place) (r .table)) refl $
           assigns ! (of-opd ! (load ! (from ! (fld ! step-at-0 (stop !))) (look-in ! 32 (sub ! 0 refl (whole !))))) (from ! (stop !)) (init ! 50 refl (LL.lawful O.the-type O′.the-laws 𝓤 H A W .typed (r .outcome) _ (outcome-is r w is) .0)) $

@@ -8,7 +8,7 @@ use lib.Seq.{length-take-le}
 use borrow.Author.Needs.{needs}
 use Rattle.session.specs.declared.Session.{Session}
 use Rattle.session.specs.Session.{holding}
-use Rattle.message.specs.declared.Settled.{Settled}
+use Rattle.message.specs.declared.Effect.{Effect as EffectStruct}
 use Rattle.reading.specs.declared.results.StepChange.{StepChange}
 use Rattle.reading.specs.Results.{gives}
 use Rattle.reading.proofs.results.Making.{replied-long, replied-short}
@@ -25,7 +25,7 @@ pub ruleset replying = (needs, prefix-length, prefix-within, replied-long, repli
 
 -- ---- the answer
 
-pub gave : (x : Settled) (s : Session) (count : ℕ) → s ≡ holding (x .connection) []
+pub gave : (x : EffectStruct) (s : Session) (count : ℕ) → s ≡ holding (x .connection) []
     → _≡_ {A = StepChange}
     (record { outcome = record { taken = count; «reply_len» = x .reply .len; answer = x .answer }; session = s; change = x .change })
     (gives count x)

@@ -17,7 +17,7 @@ use Rattle.session.specs.declared.Reply.{Reply}
 use Rattle.session.specs.Answers.{replyOf}
 use Rattle.session.specs.Session.{holding}
 use Rattle.message.specs.declared.Change.{Change}
-use Rattle.message.specs.Settled.{noChange}
+use Rattle.message.specs.Changes.{noChange}
 use Rattle.reading.specs.declared.results.StepChange.{StepChange}
 use Rattle.reading.specs.Results.{stays, waits, replied}
 

@@ -10,9 +10,9 @@ use Rattle.store.specs.declared.Table.{Table}
 use Rattle.store.proofs.TwinLoops.{take-min}
 use Rattle.session.specs.declared.Connection.{Connection}
 use Rattle.message.specs.declared.Asked.{Asked}
-use Rattle.message.specs.Settled.{AsksWith}
+use Rattle.message.specs.Structs.{asked}
 use Rattle.reassembly.specs.declared.Taken.{Taken}
-use Rattle.reassembly.specs.SettleOnStores.{judgeOn}
+use Rattle.reassembly.specs.Judge.{judgeBytes, asksOf}
 use Rattle.reading.specs.Start.{takenBytes}
 
 module _ (x : Taken) (n : ℕ) (q : n ≡ min (x .len) 1028) (z : length (x .bytes) ≡ 1028) where
@@ -25,8 +25,8 @@ module _ (x : Taken) (n : ℕ) (q : n ≡ min (x .len) 1028) (z : length (x .byt
   pub taken-are : take n (x .bytes) ≡ takenBytes x
   taken-are = ap (λ (k : ℕ). take k (x .bytes)) q ∙ take-min (x .bytes) (x .len) 1028 z
 
-  pub taken-asked : (c : Connection) (tables : List Table) (a : Asked) → AsksWith c tables (judgeOn c (take n (x .bytes))) a
-      → AsksWith c tables (judgeOn c (takenBytes x)) a
-  taken-asked c tables a h = subst (λ (u : List ℕ). AsksWith c tables (judgeOn c u) a) taken-are h
+  pub taken-asked : (c : Connection) (tables : List Table) (a : Asked) → a ≡ asked c (asksOf c (judgeBytes c tables (take n (x .bytes))))
+      → a ≡ asked c (asksOf c (judgeBytes c tables (takenBytes x)))
+  taken-asked c tables a h = h ∙ ap (λ (u : List ℕ). asked c (asksOf c (judgeBytes c tables u))) taken-are
 
 pub ruleset asking = (needs, taken-fits, taken-size, taken-asked)

@@ -16,7 +16,10 @@ same-length : tie.Need-same-length
 same-length c = search needs
 
 returns : tie.Need-returns
-returns c = search (needs, ends-read)
+returns c =
+    let p = c .before in
+    let f = p .before .before .before .before .before .before .before .before in
+    ends-read _ _ _ _ _ _ _ _ (f .finish-change .ensures) (p .puts .ensures) (c .puts2 .ensures)
 
 pub finish-read-spec : {M : Type 1} → statement M
 finish-read-spec =

@@ -8,11 +8,11 @@ shorter-requires c κs = search asking
 array-share-prefix-bytes : tie.Need-array-share-prefix-bytes
 array-share-prefix-bytes c = search asking
 
-slice-aggregate-settle : tie.Need-slice-aggregate-settle
-slice-aggregate-settle c = search asking
+slice-aggregate-judge-bytes : tie.Need-slice-aggregate-judge-bytes
+slice-aggregate-judge-bytes c = search asking
 
-settle-requires : tie.Need-settle-requires
-settle-requires c κs = search asking
+judge-bytes-requires : tie.Need-judge-bytes-requires
+judge-bytes-requires c κs = search asking
 
 returns : tie.Need-returns
 returns c = search asking
@@ -23,6 +23,6 @@ ask-taken-spec =
     (tie.spec
     shorter-requires
     array-share-prefix-bytes
-    slice-aggregate-settle
-    settle-requires
+    slice-aggregate-judge-bytes
+    judge-bytes-requires
     returns)
