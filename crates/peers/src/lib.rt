@@ -1,19 +1,20 @@
 // The library for hosts in C and Rust: opening, reading and an empty store, each defined on every input.
 // An enum can't cross the border to C, so an answer goes as its number and values.
-use reading::finish::finish_read;
-use reading::raw::RawOpened;
-use reading::raw::RawOutcome;
-use reading::raw::raw_opened;
-use reading::start::start_read;
+pub mod numbers;
+
+use crate::numbers::RawOpened;
+use crate::numbers::RawOutcome;
+use crate::numbers::raw_opened;
+use crate::numbers::raw_outcome;
+use reading::read_lent;
 use session::Session;
 use store::Store;
-use store_scan::scan;
 ghost use mathlib.Core.Path.{_≡_};
 ghost use lib.ListN.{length};
 ghost use Rattle.store.specs.Store.{emptyStore};
 ghost use Rattle.opening.specs.Opening.{answerer, caller, «open», openRoom, openedOf};
-ghost use Rattle.reading.specs.Raw.{rawOpened};
-ghost use Rattle.reading.specs.Reading.{RawPromise};
+ghost use Rattle.peers.specs.Numbers.{rawOpened};
+ghost use Rattle.peers.specs.Reading.{RawPromise};
 
 // A store without tables and entries.
 #[no_mangle]
@@ -57,17 +58,5 @@ pub extern "C" fn peers_read(
 ) -> RawOutcome
     ensures { λ r. ⌜ RawPromise (now (session .entry)) (now (store .entry)) (record { piece = now (piece .entry); room = now (reply .entry); outcome = r; session = now (session .exit); store = now (store .exit); final = now (reply .exit) }) ⌝ }
 {
-    let tables = store.tables;
-    let started = start_read(*session, tables, piece);
-    let query = started.query;
-    let scanned = scan(store, query);
-    let step = finish_read(*session, started, scanned, reply);
-    *session = step.session;
-    if step.puts_entry {
-        store.entries[step.place] = step.entry;
-    }
-    if step.puts_table {
-        store.tables[step.place] = step.table;
-    }
-    step.outcome
+    raw_outcome(read_lent(session, store, piece, reply))
 }
