@@ -40,191 +40,17 @@ use Rattle.body.proofs.Spans.{span-length}
 use Rattle.body.proofs.Within.{definition-within}
 use Rattle.body.proofs.DefinitionEncoding.{TableRead, definition-encoded, definition-ends, definition-none, definition-absent}
 use Rattle.body.proofs.OneEncoding.{FittingTable, definition-once, body-once}
-use Rattle.message.specs.Effects.{Effect, refuse, note, fieldsThen, control, controlAnswer, peerError, definedTable, defineAt, defineNew, defineNamed, agrees, definition, switchTo, switch, acknowledgement, skipped, updatedEntry, commitAt, commitNew, commitUpdate, withFields, incrementalOf, update, incremental, stickTable}
-use Rattle.reassembly.specs.Judge.{Judged, waiting, settled, frameJudged, judge}
+use Rattle.message.specs.Effects.{Effect, definedTable}
 use Rattle.streams.specs.Calls.{Call}
 use Rattle.receiver.specs.Model.{State}
 use Rattle.receiver.specs.Promise.{Made, ReadPromise, callOf}
 use Rattle.receiver.specs.Corollaries.{messageOf}
 use Rattle.message_bytes.specs.MessageBytes.{tableAt, DefinitionMessage, BytesOfDefinition, OneDefinition}
 use Rattle.receiver.proofs.EffectKinds.{bodyIn}
+use Rattle.receiver.proofs.SettledLaws.{Defined, defined}
 use Rattle.receiver.proofs.Ways.{Way, Judging, staying, waiting-on, judging, ways, answer-is, record-holds}
 use Rattle.receiver.proofs.Acknowledging.{judged, held, bytes}
-use Rattle.message_bytes.proofs.WholeMessage.{StickTable, body-is, message-is, body-most, body-behind, kept, message-ends, by-frame}
-
--- ---- only a definition is answered with a table
-
--- the table at `place` was defined by the body of the message u
-record Defining (c : Connection) (t : Store) (u : List ℕ) (place : ℕ) (e : Effect) : Type 0 where
-  start : ℕ
-  end : ℕ
-  framed : judgeFrame u ≡ frame.Body 130 start end
-  fields : Definition
-  after : ℕ
-  read : definitionFields (bodyIn u start end) ≡ got fields after
-  inside : place < length (t .tables)
-  connection : e .connection ≡ bind c place (fields .id)
-  store : e .store ≡ putTable t place (definedTable (bodyIn u start end) fields)
-
-module _ (c : Connection) (t : Store) (u : List ℕ) where
-  abbrev ByDefinition : Effect → Type 0
-  ByDefinition e = (place : ℕ) → e .answer ≡ answer.Table place → Defining c t u place e
-
-  refuse-by : (n : ℕ) → ByDefinition (refuse c t n)
-  unfolding refuse
-  refuse-by n place q = absurd (let z : _≡_ {A = ℕ} 0 1 = cc in omega arith)
-
-  fields-by : {A : Type 0} (r : Read A) (f : A → Effect) → ((a : A) → ByDefinition (f a)) → ByDefinition (fieldsThen c t r f)
-  unfolding fieldsThen
-  fields-by (got a n) f g = g a
-  fields-by short f g = refuse-by 23
-  fields-by outside f g = refuse-by 24
-
-  commit-by : (table id : ℕ) (e : Entry) (place : ℕ) (how : Commit) → ByDefinition (commitAt c t table id e place how)
-  unfolding commitAt
-  commit-by table id e p how place q = absurd (let z : _≡_ {A = ℕ} 0 1 = cc in omega arith)
-
-  commit-new-by : (table id : ℕ) (e : Entry) (f : Found) → ByDefinition (commitNew c t table id e f)
-  unfolding commitNew
-  commit-new-by table id e (found.At p) = commit-by table id e p commit.New
-  commit-new-by table id e found.Nothing = refuse-by 29
-
-  commit-update-by : (table id : ℕ) (e : Entry) (f : Found) → ByDefinition (commitUpdate c t table id e f)
-  unfolding commitUpdate
-  commit-update-by table id e (found.At p) = commit-by table id e p commit.Replaced
-  commit-update-by table id e found.Nothing = commit-new-by table id e (freeEntry t)
-
-  with-by : (body : List ℕ) (table : ℕ) (r : Read Update) → ByDefinition (withFields c t body table r)
-  unfolding withFields
-  with-by body table r = fields-by r _ (λ x. commit-update-by table (x .id) (updatedEntry body table x) (findEntry t table (spanIn body (x .key))))
-
-  update-by : (body : List ℕ) → ByDefinition (update c t body)
-  unfolding update
-  update-by body = by-test (eqb (c .current) 0) (λ z. rw z (refuse-by 27)) (λ z. rw z (with-by body _ _))
-
-  incremental-by : (body : List ℕ) → ByDefinition (incremental c t body)
-  unfolding incremental incrementalOf
-  incremental-by body =
-      by-test (eqb (c .current) 0)
-      (λ z. rw z (refuse-by 27))
-      (λ z. rw z (by-test (isUpdated (bindingAt c (c .current - 1))) (λ y. rw y (with-by body _ _)) (λ y. rw y (refuse-by 28))))
-
-  switch-by : (body : List ℕ) → ByDefinition (switch c t body)
-  unfolding switch
-  switch-by body = fields-by _ _ (λ id. to (findBound c id))
-    where
-      to : (f : Found) → ByDefinition (switchTo c t f)
-      to (found.At p) place q = unfold switchTo note in absurd (let z : _≡_ {A = ℕ} 0 1 = cc in omega arith)
-      to found.Nothing place q = unfold switchTo in refuse-by 27 place q
-
-  acknowledgement-by : (body : List ℕ) → ByDefinition (acknowledgement c t body)
-  unfolding acknowledgement note
-  acknowledgement-by body = fields-by _ _ (λ a place q. absurd (let z : _≡_ {A = ℕ} 0 1 = cc in omega arith))
-
-  skipped-by : (kind : ℕ) → ByDefinition (skipped c t kind)
-  unfolding skipped note
-  skipped-by kind place q = absurd (let z : _≡_ {A = ℕ} 0 1 = cc in omega arith)
-
-  control-by : (type : ℕ) → ByDefinition (control c t type)
-  unfolding control note controlAnswer
-  control-by type =
-      by-test (eqb type 0)
-      (λ a. rw a (λ place q. absurd (let z : _≡_ {A = ℕ} 0 1 = cc in omega arith)))
-      (λ a.
-      rw a
-      (by-test (eqb type 1)
-      (λ b. rw b (λ place q. absurd (let z : _≡_ {A = ℕ} 0 1 = cc in omega arith)))
-      (λ b.
-      rw b
-      (by-test (eqb type 2)
-      (λ d. rw d (λ place q. absurd (let z : _≡_ {A = ℕ} 0 1 = cc in omega arith)))
-      (λ d. rw d (by-test (eqb type 3) (λ f. rw f (λ place q. absurd (let z : _≡_ {A = ℕ} 0 1 = cc in omega arith))) (λ f. rw f (λ place q. absurd (let z : _≡_ {A = ℕ} 0 1 = cc in omega arith)))))))))
-
-  error-by : (type : ℕ) → ByDefinition (peerError c t type)
-  unfolding peerError
-  error-by type place q = absurd (let z : _≡_ {A = ℕ} 0 1 = cc in omega arith)
-
-  module _ (start end : ℕ) (f : judgeFrame u ≡ frame.Body 130 start end) where
-    abbrev body : List ℕ
-    body = bodyIn u start end
-
-    module _ (d : Definition) (after : ℕ) (r : definitionFields body ≡ got d after) where
-      define-by : (p : ℕ) → p < length (t .tables) → ByDefinition (defineAt c t (d .id) (definedTable body d) p)
-      unfolding defineAt
-      define-by p l place q =
-          let e : p ≡ place = cc in
-          record {
-            start = start;
-            end = end;
-            framed = f;
-            fields = d;
-            after = after;
-            read = r;
-            inside = subst (λ (n : ℕ). n < length (t .tables)) e l;
-            connection = ap (λ (n : ℕ). bind c n (d .id)) e;
-            store = ap (λ (n : ℕ). putTable t n (definedTable body d)) e;
-          }
-
-      new-by : (x : Found) → freeTable t ≡ x → ByDefinition (defineNew c t (d .id) (definedTable body d) x)
-      unfolding defineNew
-      new-by (found.At p) q = define-by p (table-place t p q .inside)
-      new-by found.Nothing q = refuse-by 26
-
-      named-by : (name : List ℕ) (x : Found) → findTable t name ≡ x → ByDefinition (defineNamed c t (d .id) (definedTable body d) x)
-      unfolding defineNamed
-      named-by name (found.At p) q =
-          by-test (agrees (getD (t .tables) p noTable) (definedTable body d))
-          (λ a. rw a (define-by p (table-found t name p q .inside)))
-          (λ a. rw a (refuse-by 25))
-      named-by name found.Nothing q = new-by (freeTable t) refl
-
-    read-by : (r : Read Definition) → definitionFields body ≡ r
-        → ByDefinition (fieldsThen c t r λ d. defineNamed c t (d .id) (definedTable body d) (findTable t (spanIn body (d .name))))
-    unfolding fieldsThen
-    read-by (got d after) r = named-by d after r (spanIn body (d .name)) (findTable t (spanIn body (d .name))) refl
-    read-by short r = refuse-by 23
-    read-by outside r = refuse-by 24
-
-    definition-by : ByDefinition (definition c t body)
-    unfolding definition
-    definition-by = read-by (definitionFields body) refl
-
-  stick-by : (kind start end : ℕ) → judgeFrame u ≡ frame.Body kind start end → ByDefinition (stickTable c t kind (bodyIn u start end))
-  unfolding stickTable
-  stick-by kind start end f =
-      let body = bodyIn u start end in
-      by-test (eqb kind 128)
-      (λ a. rw a (update-by body))
-      (λ a.
-      rw a
-      (by-test (eqb kind 129)
-      (λ b. rw b (incremental-by body))
-      (λ b.
-      rw b
-      (by-test (eqb kind 130)
-      (λ d.
-      let g : judgeFrame u ≡ frame.Body 130 start end = f ∙ ap (λ (k : ℕ). frame.Body k start end) (eqb-true kind 130 d) in
-      rw d (definition-by start end g))
-      (λ d.
-      rw d
-      (by-test (eqb kind 131)
-      (λ h. rw h (switch-by body))
-      (λ h. rw h (by-test (eqb kind 133) (λ k. rw k (acknowledgement-by body)) (λ k. rw k (skipped-by kind))))))))))
-
-  abbrev JudgedBy : Judged → Type 0
-  JudgedBy waiting = Unit {0}
-  JudgedBy (settled e) = ByDefinition e
-
-  frame-by : (f : Frame) → judgeFrame u ≡ f → JudgedBy (frameJudged c t u f)
-  unfolding frameJudged
-  frame-by frame.Waiting q = tt
-  frame-by (frame.Control type) q = control-by type
-  frame-by (frame.Error type) q = error-by type
-  frame-by (frame.Body kind start end) q = stick-by kind start end q
-  frame-by (frame.Refused n) q = refuse-by n
-
-  defining : (e : Effect) → judge c t u ≡ settled e → (place : ℕ) → e .answer ≡ answer.Table place → Defining c t u place e
-  defining e q place a = subst JudgedBy (by-frame c t u e q (subst StickTable (sym a) tt)) (frame-by (judgeFrame u) refl) place a
+use Rattle.message_bytes.proofs.WholeMessage.{StickTable, body-is, message-is, body-most, body-behind, kept, message-ends}
 
 -- ---- the table that was put
 
@@ -251,8 +77,8 @@ module _ (s : Session) (t : Store) (m : Made) (p : ReadPromise s t m) (e : Effec
   abbrev u : List ℕ
   u = messageOf s m
 
-  x : Defining (s .connection) t u place e
-  x = defining (s .connection) t u e (judged s t m p e j) place a
+  x : Defined (s .connection) t u place e
+  x = defined (s .connection) t u place e (judged s t m p e j) a
 
   last : x .end ≡ length u
   last = message-ends s t m p e j (subst StickTable (sym a) tt) 130 (x .start) (x .end) (x .framed)

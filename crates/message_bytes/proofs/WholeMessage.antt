@@ -15,6 +15,7 @@ use Rattle.wire.specs.Integer.{encodeInt, readInt}
 use Rattle.wire.specs.Value.{Bytes}
 use Rattle.wire.proofs.Order.{split}
 use Rattle.wire.proofs.RoundTrip.{one-encoding}
+use Rattle.store.specs.declared.Entry.{Entry}
 use Rattle.store.specs.declared.Store.{Store}
 use Rattle.handshake.specs.declared.Hello.{Hello}
 use Rattle.handshake.specs.declared.Hello.the-variants as hello
@@ -37,9 +38,9 @@ use Rattle.session_soundness.proofs.Records.{sound-session, open-facts}
 use Rattle.session_soundness.proofs.Waiting.{waits-frame, frame-is-waiting}
 use Rattle.body.specs.Encodings.{messageBytes, bodyStart}
 use Rattle.body.proofs.Encoding.{Stands, stands-part}
-use Rattle.message.specs.Effects.{Effect, refuse, note}
+use Rattle.message.specs.Effects.{Effect, refuse, note, done}
 use Rattle.message.proofs.Kept.{Held}
-use Rattle.reassembly.specs.Judge.{Judged, waiting, settled, helloJudged, statusJudged, frameJudged, judge}
+use Rattle.reassembly.specs.Judge.{Judged, waiting, settled, helloJudged, statusJudged, asksNone, judgeBytes, doneOf, judge}
 use Rattle.reassembly.specs.Pieces.{Part, takePiece}
 use Rattle.reassembly.proofs.Taking.{part-bytes}
 use Rattle.streams.specs.Calls.{Call}
@@ -171,7 +172,7 @@ part-last c u (b ∷ bs) w =
     (λ a. rw a (λ z. part-last c (u ++ (b ∷ [])) bs a z))
     (λ a. rw a (λ z. record { before = u; byte = b; whole = refl; waited = w }))
 
-judged-taken : (c : Connection) (t : Store) (u : List ℕ) (n : ℕ) (j : Judged) → judgedCall c t u n j .taken ≡ n
+judged-taken : (c : Connection) (t : Store) (u : List ℕ) (n : ℕ) (j : Judged Effect) → judgedCall c t u n j .taken ≡ n
 unfolding judgedCall
 judged-taken c t u n waiting = refl
 judged-taken c t u n (settled e) = refl
@@ -199,41 +200,42 @@ StickTable (answer.Acknowledgement id update) = ⊥
 StickTable (answer.Skipped kind) = ⊥
 StickTable (answer.Refused n) = ⊥
 
-abbrev Other : Judged → Type 0
+abbrev Other : Judged Effect → Type 0
 Other waiting = Unit {0}
 Other (settled e) = StickTable (e .answer) → ⊥
 
-hello-other : (c : Connection) (t : Store) (h : Hello) → Other (helloJudged c t h)
+hello-other : (c : Connection) (h : Hello) → Other (helloJudged c h)
 unfolding helloJudged note refuse
-hello-other c t hello.Waiting = tt
-hello-other c t (hello.Accepted process relative) = λ k. k
-hello-other c t (hello.Refused n) = λ k. k
+hello-other c hello.Waiting = tt
+hello-other c (hello.Accepted process relative) = λ k. k
+hello-other c (hello.Refused n) = λ k. k
 
-status-other : (c : Connection) (t : Store) (h : Status) → Other (statusJudged c t h)
+status-other : (c : Connection) (h : Status) → Other (statusJudged c h)
 unfolding statusJudged note refuse
-status-other c t status.Waiting = tt
-status-other c t status.Accepted = λ k. k
-status-other c t (status.Refused n) = λ k. k
+status-other c status.Waiting = tt
+status-other c status.Accepted = λ k. k
+status-other c (status.Refused n) = λ k. k
+
+none-other : (c : Connection) (entries : List Entry) (j : Judged Effect) → Other j → Other (doneOf c entries (asksNone j))
+unfolding doneOf asksNone done
+none-other c entries waiting o = tt
+none-other c entries (settled e) o = o
 
 module _ (c : Connection) (t : Store) (u : List ℕ) (e : Effect) (q : judge c t u ≡ settled e) (k : StickTable (e .answer)) where
   no-hello : c .phase ≡ 0 → ⊥
-  unfolding judge
+  unfolding judge judgeBytes
   no-hello z =
-      let h : judge c t u ≡ helloJudged c t (judgeHello (localName c) (remoteName c) u) = rw (eq-eqb (c .phase) 0 z) in
-      subst Other (sym h ∙ q) (hello-other c t (judgeHello (localName c) (remoteName c) u)) k
+      let j = helloJudged c (judgeHello (localName c) (remoteName c) u) in
+      let h : judge c t u ≡ doneOf c (t .entries) (asksNone j) = rw (eq-eqb (c .phase) 0 z) in
+      subst Other (sym h ∙ q) (none-other c (t .entries) j (hello-other c _)) k
 
   no-status : c .phase ≡ 1 → ⊥
-  unfolding judge
+  unfolding judge judgeBytes
   no-status z =
       let n : c .phase ≡ 0 → ⊥ = λ y. omega arith in
-      let h : judge c t u ≡ statusJudged c t (judgeStatus u) = rw (ne-eqb (c .phase) 0 n, eq-eqb (c .phase) 1 z) in
-      subst Other (sym h ∙ q) (status-other c t (judgeStatus u)) k
-
-  pub by-frame : frameJudged c t u (judgeFrame u) ≡ settled e
-  unfolding judge
-  by-frame =
-      let h : judge c t u ≡ frameJudged c t u (judgeFrame u) = rw (ne-eqb (c .phase) 0 no-hello, ne-eqb (c .phase) 1 no-status) in
-      sym h ∙ q
+      let j = statusJudged c (judgeStatus u) in
+      let h : judge c t u ≡ doneOf c (t .entries) (asksNone j) = rw (ne-eqb (c .phase) 0 n, eq-eqb (c .phase) 1 z) in
+      subst Other (sym h ∙ q) (none-other c (t .entries) j (status-other c _)) k
 
   last-ends : (kind start end : ℕ) → judgeFrame u ≡ frame.Body kind start end → Last c u → end ≡ length u
   last-ends kind start end f l =

@@ -16,7 +16,7 @@ use Rattle.lists.proofs.Places.{first-at}
 use Rattle.lists.proofs.Cases.{by-test, cond-true, cond-false}
 use Rattle.store.specs.declared.Table.{Table}
 use Rattle.store.specs.declared.Store.{Store}
-use Rattle.store.specs.Store.{tableFree, entryFree, makeTable, tableHeld, noTable}
+use Rattle.store.specs.Store.{tableFree, tableNamed, entryFree, noTable}
 use Rattle.store.specs.Places.{freeOf, placeOf}
 use Rattle.handshake.specs.declared.Hello.{Hello}
 use Rattle.handshake.specs.declared.Hello.the-variants as hello
@@ -76,11 +76,22 @@ pub record Committing (c : Connection) (t : Store) (u : List ℕ) (fields : Upda
   pub read : fieldsOf c t (c .current - 1) kind body ≡ got fields after
   pub inside : place < length (t .entries)
 
+-- a definition whose fields were read, and the place of its table
+pub record Defining (c : Connection) (t : Store) (u : List ℕ) (fields : Definition) (body : List ℕ) (place : ℕ) : Type 0 where
+  pub start : ℕ
+  pub end : ℕ
+  pub framed : judgeFrame u ≡ frame.Body 130 start end
+  pub body-is : body ≡ bodyIn u start end
+  pub after : ℕ
+  pub read : definitionFields body ≡ got fields after
+  pub inside : place < length (t .tables)
+
 pub data Kind (c : Connection) (t : Store) (u : List ℕ) : Effect → Type 0 where
   refused : (n : ℕ) → closes n ≡ true → Kind c t u (refuse c n)
   noted : (d : Connection) (a : Answer) (reply : List ℕ) → Noted a → Kind c t u (note d a reply)
   failed : (type : ℕ) → Kind c t u (peerError c type)
-  defined : (id : ℕ) (x : Table) (place : ℕ) → tableHeld x ≡ true → Kind c t u (defineAt c id x place)
+  defined : (fields : Definition) (body : List ℕ) (place : ℕ) → Defining c t u fields body place
+      → Kind c t u (defineAt c (fields .id) (definedTable body fields) place)
   committed : (fields : Update) (body : List ℕ) (place : ℕ) (how : Commit) → Committing c t u fields body place
       → Kind c t u (commitAt c (fields .id) (updatedEntry body (c .current - 1) fields) place how)
 
@@ -106,21 +117,6 @@ module _ (c : Connection) (t : Store) (u : List ℕ) where
   fields-kind short f g = refused-with 23 (omega arith) (omega arith)
   fields-kind outside f g = refused-with 24 (omega arith) (omega arith)
 
-  new-kind : (id : ℕ) (x : Table) (f : Found) → tableHeld x ≡ true → Kind c t u (defineNew c id x f)
-  unfolding defineNew
-  new-kind id x (found.At p) k = defined id x p k
-  new-kind id x found.Nothing k = refused-with 26 (omega arith) (omega arith)
-
-  named-kind : (id : ℕ) (x : Table) (f : Found) → tableHeld x ≡ true → Kind c t u (defineNamed c (t .tables) id x f)
-  unfolding defineNamed
-  named-kind id x (found.At p) k =
-      by-test (agrees (getD (t .tables) p noTable) x) (λ a. rw a (defined id x p k)) (λ a. rw a (refused-with 25 (omega arith) (omega arith)))
-  named-kind id x found.Nothing k = new-kind id x (firstPlace tableFree (t .tables)) k
-
-  defined-held : (body : List ℕ) (d : Definition) → tableHeld (definedTable body d) ≡ true
-  unfolding definedTable makeTable tableHeld
-  defined-held body d = refl
-
   switch-kind : (f : Found) → Kind c t u (switchTo c f)
   unfolding switchTo
   switch-kind (found.At p) = noted _ _ [] tt
@@ -129,6 +125,34 @@ module _ (c : Connection) (t : Store) (u : List ℕ) where
   module _ (kind start end : ℕ) (e : judgeFrame u ≡ frame.Body kind start end) where
     abbrev body : List ℕ
     body = bodyIn u start end
+
+    -- a definition
+    module _ (k : kind ≡ 130) (d : Definition) (after : ℕ) (r : definitionFields body ≡ got d after) where
+      define-kind : (p : ℕ) → p < length (t .tables) → Kind c t u (defineAt c (d .id) (definedTable body d) p)
+      define-kind p l =
+          defined d body p
+          (record { start = start; end = end; framed = e ∙ ap (λ (n : ℕ). frame.Body n start end) k; body-is = refl; after = after; read = r; inside = l })
+
+      new-kind : (f : Found) → firstPlace tableFree (t .tables) ≡ f → Kind c t u (defineNew c (d .id) (definedTable body d) f)
+      unfolding defineNew
+      new-kind (found.At p) q = define-kind p (first-at tableFree (t .tables) p q .inside)
+      new-kind found.Nothing q = refused-with 26 (omega arith) (omega arith)
+
+      named-kind : (name : List ℕ) (f : Found) → firstPlace (tableNamed name) (t .tables) ≡ f
+          → Kind c t u (defineNamed c (t .tables) (d .id) (definedTable body d) f)
+      unfolding defineNamed
+      named-kind name (found.At p) q =
+          by-test (agrees (getD (t .tables) p noTable) (definedTable body d))
+          (λ a. rw a (define-kind p (first-at (tableNamed name) (t .tables) p q .inside)))
+          (λ a. rw a (refused-with 25 (omega arith) (omega arith)))
+      named-kind name found.Nothing q = new-kind (firstPlace tableFree (t .tables)) refl
+
+    definition-kind : kind ≡ 130 → (r : Read Definition) → definitionFields body ≡ r
+        → Kind c t u (fieldsThen (refuse c) r λ d. defineNamed c (t .tables) (d .id) (definedTable body d) (firstPlace (tableNamed (spanIn body (d .name))) (t .tables)))
+    unfolding fieldsThen
+    definition-kind k (got d after) r = named-kind k d after r (spanIn body (d .name)) _ refl
+    definition-kind k short r = refused-with 23 (omega arith) (omega arith)
+    definition-kind k outside r = refused-with 24 (omega arith) (omega arith)
 
     abbrev now : ℕ
     now = c .current - 1
@@ -188,7 +212,7 @@ module _ (c : Connection) (t : Store) (u : List ℕ) where
         (λ b.
         rw b
         (by-test (eqb kind 130)
-        (λ d. rw d (unfold definition in fields-kind _ _ (λ x. named-kind _ _ _ (defined-held body x))))
+        (λ d. rw d (unfold definition in definition-kind (eqb-true kind 130 d) (definitionFields body) refl))
         (λ d.
         rw d
         (by-test (eqb kind 131)

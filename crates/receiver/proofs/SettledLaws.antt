@@ -11,20 +11,20 @@ use lib.Dec.{eqb}
 use borrow.Author.Tests.{ne-eqb, eqb-false}
 use Rattle.lists.proofs.Cases.{never}
 use Rattle.store.specs.declared.Store.{Store}
-use Rattle.store.specs.Store.{putTable, putEntry, makeEntry}
+use Rattle.store.specs.Store.{putTable, putEntry, makeTable, makeEntry, tableHeld}
 use Rattle.frame.specs.declared.Frame.the-variants as frame
 use Rattle.frame.specs.Frame.{judgeFrame}
 use Rattle.session.specs.declared.Connection.{Connection}
 use Rattle.session.specs.declared.Commit.{Commit}
 use Rattle.session.specs.declared.Answer.{Answer}
 use Rattle.session.specs.declared.Answer.the-variants as answer
-use Rattle.session.specs.Session.{bindingAt, isUpdated}
+use Rattle.session.specs.Session.{bind, bindingAt, isUpdated}
 use Rattle.session_soundness.proofs.Facts.{heldAt}
 use Rattle.session_soundness.proofs.Keeping.{put-held}
 use Rattle.body.specs.Fields.{got}
-use Rattle.body.specs.Bodies.{Update}
+use Rattle.body.specs.Bodies.{Definition, Update, definitionFields}
 use Rattle.message.specs.Changes.{noChange, tableChange, entryChange, changed}
-use Rattle.message.specs.Effects.{Effect, refuse, note, peerError, defineAt, acknowledge, updatedEntry, commitAt}
+use Rattle.message.specs.Effects.{Effect, refuse, note, peerError, definedTable, defineAt, acknowledge, updatedEntry, commitAt}
 use Rattle.reassembly.specs.Judge.{settled, judge}
 use Rattle.receiver.specs.Model.{ends}
 use Rattle.receiver.specs.Corollaries.{closes, fieldsOf}
@@ -62,12 +62,16 @@ refusal-ends : (n : ℕ) → closes n ≡ true → ends (answer.Refused n) ≡ t
 unfolding ends
 refusal-ends n h = rw (not-closing n 1 (few .0) h, not-closing n 2 (few .1) h, not-closing n 4 (few .2) h)
 
+defined-held : (body : List ℕ) (d : Definition) → tableHeld (definedTable body d) ≡ true
+unfolding definedTable makeTable tableHeld
+defined-held body d = refl
+
 module _ (c : Connection) (t : Store) (u : List ℕ) where
   kind-ends : (e : Effect) → Kind c t u e → ends (e .answer) ≡ true
   kind-ends e (kinds.refused n h) = unfold refuse in refusal-ends n h
   kind-ends e (kinds.noted d a reply h) = unfold note in noted-ends a h
   kind-ends e (kinds.failed type) = unfold peerError note ends in refl
-  kind-ends e (kinds.defined id x place h) = unfold defineAt ends in refl
+  kind-ends e (kinds.defined fields body place k) = unfold defineAt ends in refl
   kind-ends e (kinds.committed fields body place how k) = unfold commitAt ends in refl
 
   pub settled-ends : (e : Effect) → judge c t u ≡ settled e → ends (e .answer) ≡ true
@@ -83,7 +87,7 @@ module _ (c : Connection) (t : Store) (u : List ℕ) where
   kind-refused e n (kinds.refused k h) q = let r : k ≡ n = cc in (subst (λ (x : ℕ). closes x ≡ true) r h, ap (refuse c) r)
   kind-refused e n (kinds.noted d a reply h) q = absurd (noted-refused a n h q)
   kind-refused e n (kinds.failed type) q = absurd (let z : _≡_ {A = ℕ} 0 1 = cc in omega arith)
-  kind-refused e n (kinds.defined id x place h) q = absurd (let z : _≡_ {A = ℕ} 0 1 = cc in omega arith)
+  kind-refused e n (kinds.defined fields body place k) q = absurd (let z : _≡_ {A = ℕ} 0 1 = cc in omega arith)
   kind-refused e n (kinds.committed fields body place how k) q = absurd (let z : _≡_ {A = ℕ} 0 1 = cc in omega arith)
 
   pub settled-refused : (e : Effect) → judge c t u ≡ settled e → (n : ℕ) → e .answer ≡ answer.Refused n → (closes n ≡ true) × (e ≡ refuse c n)
@@ -97,7 +101,7 @@ module _ (c : Connection) (t : Store) (u : List ℕ) where
   kind-stays e (kinds.refused n h) f g = refl
   kind-stays e (kinds.noted d a reply h) f g = refl
   kind-stays e (kinds.failed type) f g = refl
-  kind-stays e (kinds.defined id x place h) f g = absurd (f place refl)
+  kind-stays e (kinds.defined fields body place k) f g = absurd (f place refl)
   kind-stays e (kinds.committed fields body place how k) f g = absurd (g _ _ place how refl)
 
   pub store-stays : (e : Effect) → judge c t u ≡ settled e → ((place : ℕ) → e .answer ≡ answer.Table place → ⊥)
@@ -111,7 +115,7 @@ module _ (c : Connection) (t : Store) (u : List ℕ) where
   kind-grows e (kinds.refused n h) i k = k
   kind-grows e (kinds.noted d a reply h) i k = k
   kind-grows e (kinds.failed type) i k = k
-  kind-grows e (kinds.defined id x place h) i k = put-held (t .tables) place x h i k
+  kind-grows e (kinds.defined fields body place d) i k = put-held (t .tables) place (definedTable body fields) (defined-held body fields) i k
   kind-grows e (kinds.committed fields body place how w) i k = k
 
   pub settled-grows : (e : Effect) → judge c t u ≡ settled e → (i : ℕ) → heldAt (t .tables) i ≡ true → heldAt (changed t (e .change) .tables) i ≡ true
@@ -144,7 +148,7 @@ module _ (c : Connection) (t : Store) (u : List ℕ) (table id place : ℕ) (how
   kind-updated e (kinds.refused n h) q = absurd (let z : _≡_ {A = ℕ} 0 1 = cc in omega arith)
   kind-updated e (kinds.noted d a reply h) q = absurd (noted-update a h q)
   kind-updated e (kinds.failed type) q = absurd (let z : _≡_ {A = ℕ} 0 1 = cc in omega arith)
-  kind-updated e (kinds.defined i x p h) q = absurd (let z : _≡_ {A = ℕ} 0 1 = cc in omega arith)
+  kind-updated e (kinds.defined fields body p k) q = absurd (let z : _≡_ {A = ℕ} 0 1 = cc in omega arith)
   kind-updated e (kinds.committed fields body p h k) q =
       let now = c .current - 1 in
       let a : c .current - 1 ≡ table = cc in
@@ -174,3 +178,44 @@ module _ (c : Connection) (t : Store) (u : List ℕ) (table id place : ℕ) (how
 
   pub updated : (e : Effect) → judge c t u ≡ settled e → e .answer ≡ answer.Update table id place how → Updated c t u table id place e
   updated e q = kind-updated e (kind-of c t u e q)
+
+-- ---- a definition
+
+pub record Defined (c : Connection) (t : Store) (u : List ℕ) (place : ℕ) (e : Effect) : Type 0 where
+  pub start : ℕ
+  pub end : ℕ
+  pub framed : judgeFrame u ≡ frame.Body 130 start end
+  pub fields : Definition
+  pub after : ℕ
+  pub read : definitionFields (bodyIn u start end) ≡ got fields after
+  pub inside : place < length (t .tables)
+  pub connection : e .connection ≡ bind c place (fields .id)
+  pub store : changed t (e .change) ≡ putTable t place (definedTable (bodyIn u start end) fields)
+
+module _ (c : Connection) (t : Store) (u : List ℕ) (place : ℕ) where
+  noted-table : (a : Answer) → Noted a → a ≡ answer.Table place → ⊥
+  noted-table a h q = subst Noted q h
+
+  kind-defined : (e : Effect) → Kind c t u e → e .answer ≡ answer.Table place → Defined c t u place e
+  unfolding refuse note peerError defineAt commitAt changed tableChange
+  kind-defined e (kinds.refused n h) q = absurd (let z : _≡_ {A = ℕ} 0 1 = cc in omega arith)
+  kind-defined e (kinds.noted d a reply h) q = absurd (noted-table a h q)
+  kind-defined e (kinds.failed type) q = absurd (let z : _≡_ {A = ℕ} 0 1 = cc in omega arith)
+  kind-defined e (kinds.defined fields body p k) q =
+      let d : p ≡ place = cc in
+      record {
+        start = k .start;
+        end = k .end;
+        framed = k .framed;
+        fields = fields;
+        after = k .after;
+        read = subst (λ (x : List ℕ). definitionFields x ≡ got fields (k .after)) (k .body-is) (k .read);
+        inside = subst (λ (n : ℕ). n < length (t .tables)) d (k .inside);
+        connection = ap (λ (n : ℕ). bind c n (fields .id)) d;
+        store =
+            ap (λ (n : ℕ). putTable t n (definedTable body fields)) d ∙ ap (λ (x : List ℕ). putTable t place (definedTable x fields)) (k .body-is);
+      }
+  kind-defined e (kinds.committed fields body p how k) q = absurd (let z : _≡_ {A = ℕ} 0 1 = cc in omega arith)
+
+  pub defined : (e : Effect) → judge c t u ≡ settled e → e .answer ≡ answer.Table place → Defined c t u place e
+  defined e q = kind-defined e (kind-of c t u e q)
