@@ -7,7 +7,6 @@ use lib.ListN.{length, take}
 use lib.Seq.{length-take-le}
 use borrow.Author.Needs.{needs}
 use borrow.Author.Tests.{lt-ltb, le-ltb}
-use Rattle.handshake.specs.declared.Hello.the-variants as hello
 use Rattle.handshake.specs.declared.Status.the-variants as status
 use Rattle.lists.specs.Lists.{eqBytes}
 use Rattle.handshake.specs.Bytes.{oneOf, decimalIn, decimal}

@@ -1,9 +1,9 @@
 -- Opening at worked examples.
 use Prim.Native.Nat.{ℕ}
 use mathlib.Core.Path.{_≡_, refl}
-use mathlib.Core.Bool.{Bool, true, false}
+use mathlib.Core.Bool.{true}
 use mathlib.Core.List.{List, [], _∷_}
-use lib.ListN.{length, replicate}
+use lib.ListN.{replicate}
 use Rattle.lists.specs.Lists.{allOf, every, padTo}
 use Rattle.store.specs.Store.{emptyStore}
 use Rattle.handshake.specs.Bytes.{within}
@@ -12,7 +12,7 @@ use Rattle.session.specs.declared.Answer.{Answer}
 use Rattle.session.specs.declared.Answer.the-variants as answer
 use Rattle.session.specs.Session.{noBinding, holding}
 use Rattle.session_soundness.specs.Sound.{refusesOpening, emptyBinding, emptyBuffer, isRefusedOpening, soundSession}
-use Rattle.opening.specs.Opening.{Role, answerer, caller, newConnection, refusedOpening, «open»}
+use Rattle.opening.specs.Opening.{answerer, newConnection, refusedOpening, «open»}
 
 -- `east` and `west`
 abbrev east : List ℕ

@@ -1,16 +1,15 @@
 -- The code that changes a connection: one law for each way to a result, and the loops over the bindings.
-use Prim.Native.Nat.{ℕ, zero, suc, _+_, _-_, _≤_, _<_}
+use Prim.Native.Nat.{ℕ, suc, _+_, _≤_, _<_}
 use native.Mathlib.Omega.{arith}
 use native.Mathlib.Numerals.{add-one}
 use mathlib.Core.Path.{_≡_, refl, sym, ap, _∙_}
-use mathlib.Core.Bool.{Bool, true, false, cond, _&&_}
-use mathlib.Core.List.{List, [], _∷_, _++_, map, append-assoc, append-nil}
-use lib.ListN.{length, take, drop, set, getD, length-map, length-set, drop-of-length-le}
+use mathlib.Core.Bool.{true, false}
+use mathlib.Core.List.{List, _++_, append-nil}
+use lib.ListN.{length, take, drop, set, getD, length-set, drop-of-length-le}
 use lib.Seq.{set-out, take-suc-set, drop-set-lt, drop-cons, append-snoc, take-all}
 use lib.Dec.{eqb, ltb}
 use borrow.Author.Needs.{needs}
 use borrow.Author.Tests.{eq-eqb, ne-eqb, lt-ltb, le-ltb}
-use Rattle.lists.specs.declared.Found.{Found}
 use Rattle.lists.specs.declared.Found.the-variants.{At, Nothing}
 use Rattle.lists.specs.Lists.{firstFrom, firstPlace}
 use Rattle.lists.proofs.Cases.{cond-true, cond-false, and-true, and-false}
@@ -18,7 +17,7 @@ use Rattle.lists.proofs.Places.{place-from, from-here, from-next, from-end}
 use Rattle.session.specs.declared.Binding.{Binding}
 use Rattle.session.specs.declared.Connection.{Connection}
 use Rattle.session.proofs.Basics.{length-mapped, blank, told-true, told-false}
-use Rattle.session.specs.Session.{isBound, boundTo, findBound, noBinding, bindingAt, currentMark, makeCurrent, withTables, unbind, bindTo, rebind, rebindFrom, bind, commitTo, committed}
+use Rattle.session.specs.Session.{isBound, boundTo, findBound, bindingAt, currentMark, makeCurrent, withTables, unbind, bindTo, rebind, rebindFrom, bind, commitTo, committed}
 
 -- ---- the current table
 

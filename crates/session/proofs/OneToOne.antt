@@ -1,17 +1,16 @@
 -- An answer is known from its number and values.
 use Prim.Native.Nat.{ℕ, _<_}
 use mathlib.Core.Path.{_≡_, refl, sym, ap, _∙_}
-use mathlib.Core.Bool.{Bool, true, false, cond}
-use mathlib.Core.List.{List, [], _∷_}
+use mathlib.Core.Bool.{cond}
+use mathlib.Core.List.{List}
 use lib.ListN.{getD}
 use lib.Dec.{ltb, eqb}
 use borrow.Author.Tests.{lt-ltb}
 use Rattle.lists.proofs.Cases.{cond-true}
-use Rattle.session.specs.declared.Commit.{Commit}
 use Rattle.session.specs.declared.Commit.the-variants as commit
 use Rattle.session.specs.declared.Answer.{Answer}
 use Rattle.session.specs.declared.Answer.the-variants as answer
-use Rattle.session.specs.Answers.{answerNumber, answerValues, commitNumber}
+use Rattle.session.specs.Answers.{answerNumber, answerValues}
 
 -- the answer that a number and values stand for
 others : ℕ → List ℕ → Answer

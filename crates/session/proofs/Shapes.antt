@@ -1,19 +1,16 @@
 -- The changes of a connection keep its shape.
-use Prim.Native.Nat.{ℕ, _+_, _^_, _≤_, _<_}
+use Prim.Native.Nat.{ℕ, _^_, _≤_, _<_}
 use native.Mathlib.Omega.{arith}
-use mathlib.Core.Path.{_≡_, refl, sym, ap, _∙_, subst}
+use mathlib.Core.Path.{_≡_, sym, _∙_, subst}
 use mathlib.Core.Logic.{⊎-elim}
-use mathlib.Core.Bool.{Bool, true, false}
-use mathlib.Core.List.{List, []}
+use mathlib.Core.List.{List}
 use lib.ListN.{length, getD, List·getD-eq-default}
 use Rattle.lists.specs.Lists.{padTo}
-use Rattle.lists.proofs.Cases.{by-test, lt-or-le, eq-or-ne}
+use Rattle.lists.proofs.Cases.{lt-or-le}
 use Rattle.lists.proofs.Bytes.{pad-length, pad-at}
-use Rattle.store.specs.Shape.{Cells}
 use Rattle.session.specs.declared.Binding.{Binding}
 use Rattle.session.specs.declared.Connection.{Connection}
-use Rattle.session.specs.declared.Session.{Session}
-use Rattle.session.specs.Session.{boundTo, noBinding, bindingAt, holding, closedWith, establish, withTables, currentMark, makeCurrent, unbind, bindTo, bind, commitTo, committed}
+use Rattle.session.specs.Session.{noBinding, bindingAt, holding, closedWith, establish, withTables, currentMark, makeCurrent, unbind, bindTo, bind, commitTo, committed}
 use Rattle.session.specs.Shape.{BindingShape, ConnectionShape, SessionShape}
 use Rattle.session.proofs.Changing.{mark-of, mark-none}
 use Rattle.session.proofs.Bindings.{bind-length, bind-cases, commit-length, commit-cases}

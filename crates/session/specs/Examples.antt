@@ -1,11 +1,8 @@
 -- Replies, answers and bindings at worked examples.
-use Prim.Native.Nat.{ℕ, _+_}
 use mathlib.Core.Path.{_≡_, refl}
-use mathlib.Core.Bool.{cond}
-use mathlib.Core.List.{List, [], _∷_, map}
+use mathlib.Core.List.{[], _∷_, map}
 use Rattle.handshake.specs.Bytes.{decimal, decimalIn}
 use Rattle.handshake.specs.Handshake.{refusalLine, statusLine, lf}
-use Rattle.session.specs.declared.Binding.{Binding}
 use Rattle.session.specs.declared.Commit.the-variants as commit
 use Rattle.session.specs.declared.Answer.the-variants as answer
 use Rattle.session.specs.Answers.{refusalReply, isSizeLimit, isProtocolError, answerNumber, answerValues}

@@ -1,8 +1,8 @@
 -- The session record: what it says, and how a refusal or an accepted handshake changes it.
-use Prim.Native.Nat.{ℕ, suc, _+_, _-_}
+use Prim.Native.Nat.{ℕ, _+_}
 use mathlib.Core.List.{List, [], _∷_}
-use mathlib.Core.Bool.{Bool, true, false, cond, _&&_}
-use lib.ListN.{length, take, getD, set, replicate}
+use mathlib.Core.Bool.{Bool, cond, _&&_}
+use lib.ListN.{length, take, getD, set}
 use lib.Dec.{eqb, ltb}
 use Rattle.lists.specs.declared.Found.{Found}
 use Rattle.lists.specs.Lists.{padTo, firstPlace}

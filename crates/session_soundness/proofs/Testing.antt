@@ -15,9 +15,7 @@ use Rattle.lists.proofs.Cases.{lt-or-le, and-true, and-false, or-true, or-false
 use Rattle.lists.proofs.Every.{getD-any, drop-step, every-stop, every-next, every-end}
 use Rattle.lists.proofs.Distinct.{distinct-stop, distinct-next, distinct-end}
 use Rattle.store.specs.declared.Table.{Table}
-use Rattle.store.specs.declared.Store.{Store}
 use Rattle.store.specs.Store.{tableHeld, noTable}
-use Rattle.store.specs.Sound.{soundStore}
 use Rattle.handshake.specs.declared.Hello.{Hello}
 use Rattle.handshake.specs.Handshake.{nameOk, judgeHello, judgeStatus}
 use Rattle.frame.specs.Frame.{judgeFrame}
@@ -25,7 +23,7 @@ use Rattle.session.specs.declared.Binding.{Binding}
 use Rattle.session.specs.declared.Connection.{Connection}
 use Rattle.session.specs.declared.Session.{Session}
 use Rattle.session.specs.Session.{unfinished, localName, remoteName, isClosed, isBound, isUpdated, boundTo, noBinding, bindingAt}
-use Rattle.session_soundness.specs.Sound.{refusesOpening, isClosing, numberOk, nameWithin, namesOk, marksOk, unmarked, placesOk, sameId, otherId, currentOk, fieldTests, bindingTests, soundConnection, nameLength, helloWaits, statusWaits, frameWaits, waits, unfinishedOk, bindingZeros, emptyBinding, emptyBuffer, refusedOpeningTests, isRefusedOpening, soundSession, sound}
+use Rattle.session_soundness.specs.Sound.{refusesOpening, isClosing, numberOk, nameWithin, namesOk, marksOk, unmarked, placesOk, sameId, otherId, currentOk, fieldTests, bindingTests, soundConnection, nameLength, helloWaits, statusWaits, frameWaits, waits, unfinishedOk, bindingZeros, emptyBinding, emptyBuffer, refusedOpeningTests, isRefusedOpening, soundSession}
 use Rattle.session_soundness.proofs.Waiting.{waits-hello, waits-status, waits-frame, waits-whole}
 use Rattle.session.proofs.Basics.{length-mapped, blank, told}
 
@@ -435,14 +433,3 @@ module _ (ts : List Table) (s : Session) where
     unfinished-left r f g = g ∙ sym (or-false _ _ (sym e) ∙ and-true _ _ (sym f))
 
 pub ruleset sounding = (needs, told, session-refused, session-unsound, unfinished-left)
-
-module _ (s : Session) (t : Store) where
-  pub store-unsound : false ≡ soundStore t → false ≡ sound s t
-  unfolding sound
-  store-unsound e = sym (and-false _ _ (sym e))
-
-  pub session-left : (r : Bool) → true ≡ soundStore t → r ≡ soundSession (t .tables) s → r ≡ sound s t
-  unfolding sound
-  session-left r e f = f ∙ sym (and-true _ _ (sym e))
-
-pub ruleset together = (needs, told, store-unsound, session-left)

@@ -1,8 +1,7 @@
 -- The tests of a record at worked examples.
-use Prim.Native.Nat.{ℕ}
 use mathlib.Core.Path.{_≡_, refl}
-use mathlib.Core.Bool.{Bool, true, false}
-use mathlib.Core.List.{List, [], _∷_, map}
+use mathlib.Core.Bool.{true, false}
+use mathlib.Core.List.{[], _∷_, map}
 use Rattle.lists.specs.Lists.{every, distinct}
 use Rattle.store.specs.declared.Table.{Table}
 use Rattle.store.specs.Store.{tableHeld, noTable}

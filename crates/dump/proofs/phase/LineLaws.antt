@@ -63,8 +63,6 @@ module _ (c : Connection) {room x : List ℕ} {at k : ℕ} where
   phase-handshake f g w =
       retold (sym (cond-false (eqb (c .closed) 1) _ _ (ne-eqb (c .closed) 1 f) ∙ rw (ne-eqb (c .phase) 2 g))) w
 
-pub ruleset phases = (needs, phase-closed, phase-open, phase-handshake)
-
 -- ---- the unfinished bytes, the current table
 pub unfinished-is : (s : Session) {room x y z : List ℕ} {at k m n : ℕ}
     → Wrote room at (ascii "unfinished") x k → Wrote x k (spaced (hexOrNone (unfinished s) ∷ [])) y m → Wrote y m (10 ∷ []) z n → Wrote room at (unfinishedLine s) z n

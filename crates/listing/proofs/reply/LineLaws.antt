@@ -6,7 +6,7 @@ use mathlib.Core.List.{List, [], _∷_}
 use lib.ListN.{length, take}
 use lib.Seq.{take-all, length-take-le}
 use borrow.Author.Needs.{needs}
-use Rattle.text.specs.Text.{ascii, hex, spaced, line}
+use Rattle.text.specs.Text.{ascii, hex, spaced}
 use Rattle.text.specs.Room.{Wrote}
 use Rattle.text.proofs.Rooms.{retold, nothing}
 use Rattle.text.proofs.Words.{line-of}

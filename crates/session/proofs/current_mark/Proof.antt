@@ -1,5 +1,4 @@
 use Rattle.session.proofs.Changing.{marking}
-use borrow.Author.Needs.{needs}
 use Rattle.session.proofs.current_mark.Statement.{statement}
 use Rattle.session.proofs.current_mark.Tie as tie
 

@@ -2,7 +2,6 @@ use Rattle.handshake.proofs.Putting.{writing-hello, whole-written, whol
 use Prim.Native.Nat.{_≤_}
 use lib.ListN.{length}
 use Rattle.handshake.specs.Handshake.{helloBytes}
-use borrow.Author.Needs.{needs}
 use Rattle.handshake.proofs.writing.write_hello.Statement.{statement}
 use Rattle.handshake.proofs.writing.write_hello.Tie as tie
 
