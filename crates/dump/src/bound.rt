@@ -1,5 +1,4 @@
-// The bound and previous IDs of a session record in a lent room. Each function puts its text into the room from `at` on, as far as the room
-// reaches, and returns the position behind it.
+// The lines of a record's bound IDs and previous IDs.
 use session::Binding;
 use store::TABLES;
 use text::put;

@@ -1,5 +1,4 @@
-// An entry's values in a lent room. Each function puts its text into the room from `at` on, as far as the room
-// reaches, and returns the position behind it.
+// The words of an entry's values.
 use crate::store_words::put_present;
 use store::Entry;
 use store::VALUES;

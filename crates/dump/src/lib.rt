@@ -1,4 +1,4 @@
-// Record and store as lines, for `replay`.
+// Record and store as lines, for the program `replay`.
 pub mod bound;
 pub mod entry;
 pub mod lines;

@@ -1,5 +1,4 @@
-// Tables and entries as lines. Each function puts its text into a lent room from `at` on, as far as the room reaches, and returns the
-// position behind it.
+// The lines of a table and of an entry.
 use crate::entry::put_values;
 use crate::store_words::put_name;
 use crate::table::put_times;

@@ -1,5 +1,4 @@
-// The first line of a session record in a lent room. Each function puts its text into the room from `at` on, as far as the room
-// reaches, and returns the position behind it.
+// The first line of a session record: its phase, or the number it was closed with.
 use session::Connection;
 use session::ESTABLISHED;
 use text::put;

@@ -1,5 +1,4 @@
-// A session record as lines. Each function puts its text into a lent room from `at` on, as far as the room reaches, and returns the
-// position behind it.
+// The lines of a session record.
 use crate::bound::bindings_lines;
 use crate::phase::phase_line;
 use session::Connection;

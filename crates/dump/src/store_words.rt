@@ -1,5 +1,4 @@
-// Words of tables and entries in a lent room. Each function puts its text into the room from `at` on, as far as the room
-// reaches, and returns the position behind it.
+// The words that tables and entries share: a name, and a value if its data type is present.
 use store::NAME_MAX;
 use store::Table;
 use text::spaced::put_hex_word;

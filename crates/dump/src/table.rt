@@ -1,5 +1,4 @@
-// A table's types and times in a lent room. Each function puts its text into the room from `at` on, as far as the room
-// reaches, and returns the position behind it.
+// The words of a table's definition: its types, its expiry and its periods.
 use crate::store_words::put_present;
 use store::RATES;
 use store::Table;

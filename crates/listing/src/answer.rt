@@ -1,5 +1,4 @@
-// The listing's line of an answer. Each function puts its text into a lent room from `at` on, as far as the room reaches, and returns the
-// position behind it.
+// The line of an answer.
 use crate::update::update_line;
 use crate::words::hello_line;
 use crate::words::number_line;

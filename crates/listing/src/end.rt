@@ -1,5 +1,4 @@
-// The listing's last line in a lent room. Each function puts its text into the room from `at` on, as far as the room
-// reaches, and returns the position behind it.
+// The last line.
 use session::Session;
 use text::put;
 use text::spaced::put_number;

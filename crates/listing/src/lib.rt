@@ -1,4 +1,4 @@
-// The lines of one reading call in a lent room, from `at` on, as far as the room reaches.
+// The listing of a session: the lines of one reading call here, each kind of line in a module.
 pub mod answer;
 pub mod end;
 pub mod reply;

@@ -1,5 +1,4 @@
-// The line of an update in a lent room. Each function puts its text into the room from `at` on, as far as the room
-// reaches, and returns the position behind it.
+// The line of an update.
 use crate::words::put_numbers;
 use session::Commit;
 use text::put;

@@ -1,5 +1,4 @@
-// Lines of a word and numbers, of a hello and of a table in a lent room. Each function puts its text into the room from `at` on, as far as the room
-// reaches, and returns the position behind it.
+// Lines of a word and numbers, the line of a hello and that of a table.
 use dump::store_words::put_name;
 use session::Connection;
 use store::NAME_MAX;

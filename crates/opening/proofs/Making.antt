@@ -14,7 +14,7 @@ use Rattle.handshake.specs.Bytes.{roomWith, writtenTo}
 use Rattle.handshake.specs.declared.Written.{Written}
 use Rattle.handshake.specs.declared.Written.the-variants as written
 use Rattle.handshake.specs.Handshake.{nameOk, helloBytes}
-use Rattle.handshake.proofs.Putting.{hello-most}
+use Rattle.handshake.proofs.writing.Putting.{hello-most}
 use Rattle.session.specs.declared.Session.{Session}
 use Rattle.session.specs.declared.Answer.the-variants as answer
 use Rattle.session.specs.Session.{holding}

@@ -14,7 +14,7 @@ use Rattle.lists.proofs.Places.{first-at}
 use Rattle.session.specs.declared.Binding.{Binding}
 use Rattle.session.specs.declared.Connection.{Connection}
 use Rattle.session.specs.Session.{isBound, boundTo, findBound, noBinding, bindingAt, withTables, unbind, bindTo, rebind, rebindFrom, bind, commitTo, committed}
-use Rattle.session.proofs.Changing.{rebind-here, rebind-lost, rebind-kept}
+use Rattle.session.proofs.bound_ids.BindingLoops.{rebind-here, rebind-lost, rebind-kept}
 
 -- ---- each place of the bindings after an ID was bound
 

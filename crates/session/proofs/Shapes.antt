@@ -12,7 +12,7 @@ use Rattle.session.specs.declared.Binding.{Binding}
 use Rattle.session.specs.declared.Connection.{Connection}
 use Rattle.session.specs.Session.{noBinding, bindingAt, holding, closedWith, establish, withTables, currentMark, makeCurrent, unbind, bindTo, bind, commitTo, committed}
 use Rattle.session.specs.Shape.{BindingShape, ConnectionShape, SessionShape}
-use Rattle.session.proofs.Changing.{mark-of, mark-none}
+use Rattle.session.proofs.CurrentTable.{mark-of, mark-none}
 use Rattle.session.proofs.Bindings.{bind-length, bind-cases, commit-length, commit-cases}
 
 pub mark-limit : (place : ℕ) → currentMark place ≤ 8

@@ -1,4 +1,4 @@
-// The tables that a session's IDs are bound to, and their last committed updates.
+// The bindings of a connection: which table an ID is bound to, an ID bound anew, and a table's last committed update.
 use crate::Binding;
 use crate::Connection;
 use crate::current_mark;

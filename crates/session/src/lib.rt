@@ -1,5 +1,5 @@
-// The session record, one for each connection: what reading needs to know between two calls, as plain numbers.
-// The lender of a record can put any number anywhere; `sound_session`, of the crate `session_soundness`, says whether it is one that the rules allow with a store.
+// The session record, one for each connection: what reading needs to know between two calls, as plain numbers; and what a call answers.
+// The lender of a record can put any number anywhere: `session_ok`, of the crate `session_soundness`, says whether it is one that the rules allow with a store.
 pub mod answers;
 pub mod bound_ids;
 pub mod reply_bytes;

@@ -14,7 +14,7 @@ use Rattle.session.specs.declared.Binding.{Binding}
 use Rattle.session.specs.declared.Connection.{Connection}
 use Rattle.session.specs.Session.{isClosed, localName, remoteName, isBound, isUpdated, boundTo, bindingAt, closedWith, establish, makeCurrent, withTables, unbind, bindTo, bind, commitTo, committed}
 use Rattle.session_soundness.specs.Sound.{isClosing}
-use Rattle.session.proofs.Changing.{mark-of}
+use Rattle.session.proofs.CurrentTable.{mark-of}
 use Rattle.session.proofs.Shapes.{mark-limit}
 use Rattle.session.proofs.Bindings.{bound-here, bound-only, bind-cases, commit-cases}
 use Rattle.session_soundness.proofs.Facts.{heldAt, SoundConnection, bound-to-id}

@@ -1,4 +1,4 @@
-// Soundness of bound IDs, previous IDs and the current table.
+// The tests of a connection's bindings together: marks, places, no ID bound twice, and the current table.
 use crate::current::current_ok;
 use crate::places::all_marks_ok;
 use crate::places::places_ok;

@@ -1,4 +1,4 @@
-// Soundness tested: the current table.
+// The test of the current table: it is held and has an ID.
 use session::Connection;
 use store::TABLES;
 use store::Table;

@@ -1,4 +1,4 @@
-// Soundness of a connection's fields: phase, closed mark, closing number and names.
+// The test of a connection's fields: phase, closed or open, closing number and names.
 use handshake::PEER_NAME_MAX;
 use handshake::name_ok;
 use session::Connection;

@@ -1,4 +1,4 @@
-// Soundness tested: the marks of a binding.
+// The test of a binding's marks: whether an ID is bound, and whether there is a previous ID.
 use session::Binding;
 ghost use mathlib.Core.Path.{_≡_};
 ghost use Rattle.session_soundness.specs.Sound.{marksOk, unmarked};

@@ -1,4 +1,4 @@
-// The marks of bound IDs and previous IDs, and the places that they may stand at.
+// The test of the places that bound IDs and previous IDs stand at.
 use crate::marks::is_unmarked;
 use crate::marks::marks_ok;
 use session::Binding;

@@ -1,2 +1,2 @@
+pub mod LineWords
 pub mod Rooms
-pub mod Words

@@ -1,4 +1,4 @@
-use Rattle.session.proofs.Changing.{marking}
+use Rattle.session.proofs.CurrentTable.{marking}
 use Rattle.session.proofs.current_mark.Statement.{statement}
 use Rattle.session.proofs.current_mark.Tie as tie
 

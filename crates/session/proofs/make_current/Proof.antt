@@ -1,4 +1,4 @@
-use Rattle.session.proofs.Changing.{now-current}
+use Rattle.session.proofs.CurrentTable.{now-current}
 use Rattle.session.specs.Session.{withTables}
 use borrow.Author.Needs.{needs}
 use Rattle.session.proofs.make_current.Statement.{statement}

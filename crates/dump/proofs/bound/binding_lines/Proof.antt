@@ -1,4 +1,4 @@
-use Rattle.dump.proofs.phase.LineLaws.{binding-is}
+use Rattle.dump.proofs.bound.BoundWords.{binding-is}
 use borrow.Author.Needs.{needs}
 use Rattle.dump.proofs.bound.binding_lines.Statement.{statement}
 use Rattle.dump.proofs.bound.binding_lines.Tie as tie

@@ -1,4 +1,4 @@
-use Rattle.dump.proofs.phase.LineLaws.{marks}
+use Rattle.dump.proofs.bound.BoundWords.{marks}
 use Rattle.dump.proofs.bound.mark_line.Statement.{statement}
 use Rattle.dump.proofs.bound.mark_line.Tie as tie
 

@@ -1,4 +1,4 @@
-use Rattle.dump.proofs.phase.LineLaws.{prefixes}
+use Rattle.dump.proofs.record_lines.RecordWords.{prefixes}
 use borrow.Author.Needs.{needs}
 use Rattle.dump.proofs.record_lines.put_unfinished.Statement.{statement}
 use Rattle.dump.proofs.record_lines.put_unfinished.Tie as tie

@@ -1,4 +1,4 @@
-use Rattle.dump.proofs.store_words.LineLaws.{prefixes}
+use Rattle.dump.proofs.store_words.TableWords.{prefixes}
 use borrow.Author.Needs.{needs}
 use Rattle.dump.proofs.store_words.put_name.Statement.{statement}
 use Rattle.dump.proofs.store_words.put_name.Tie as tie

@@ -1,4 +1,4 @@
-use Rattle.dump.proofs.store_words.LineLaws.{presences}
+use Rattle.dump.proofs.store_words.TableWords.{presences}
 use borrow.Author.Needs.{needs}
 use Rattle.dump.proofs.store_words.put_present.Statement.{statement}
 use Rattle.dump.proofs.store_words.put_present.Tie as tie

@@ -1,4 +1,4 @@
-use Rattle.handshake.proofs.Putting.{putting-sender}
+use Rattle.handshake.proofs.writing.Putting.{putting-sender}
 use Rattle.handshake.proofs.writing.put_sender.Statement.{statement}
 use Rattle.handshake.proofs.writing.put_sender.Tie as tie
 

@@ -1,4 +1,4 @@
-use Rattle.handshake.proofs.Putting.{writing-hello, whole-written, whole-room, rest-written, rest-room, hello-fits}
+use Rattle.handshake.proofs.writing.Putting.{writing-hello, whole-written, whole-room, rest-written, rest-room, hello-fits}
 use Prim.Native.Nat.{_≤_}
 use lib.ListN.{length}
 use Rattle.handshake.specs.Handshake.{helloBytes}

@@ -1,4 +1,4 @@
-use Rattle.session.proofs.Changing.{now-bound}
+use Rattle.session.proofs.bound_ids.BindingLoops.{now-bound}
 use Rattle.session.specs.Session.{withTables}
 use borrow.Author.Needs.{needs}
 use Rattle.session.proofs.bound_ids.bind_table.Statement.{statement}

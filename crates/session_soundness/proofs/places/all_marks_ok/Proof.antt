@@ -1,6 +1,6 @@
 use Rattle.session_soundness.specs.Sound.{marksOk}
 use Prim.Native.Nat.{_-_}
-use Rattle.session_soundness.proofs.Testing.{walking, Each}
+use Rattle.session_soundness.proofs.EachBinding.{walking, Each}
 use Rattle.session_soundness.proofs.places.all_marks_ok.Statement.{statement}
 use Rattle.session_soundness.proofs.places.all_marks_ok.Tie as tie
 

@@ -1,5 +1,5 @@
 use Prim.Native.Nat.{_-_}
-use Rattle.session_soundness.proofs.Testing.{placing, Placing}
+use Rattle.session_soundness.proofs.places.PlaceTests.{placing, Placing}
 use Rattle.session_soundness.proofs.places.places_ok.Statement.{statement}
 use Rattle.session_soundness.proofs.places.places_ok.Tie as tie
 

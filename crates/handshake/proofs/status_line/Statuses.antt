@@ -1,4 +1,4 @@
--- Each way through the functions on status lines, in the form of what it has to show.
+-- Each way to judge a status.
 use Prim.Native.Nat.{ℕ, _≤_, _<_}
 use mathlib.Core.Path.{_≡_, refl, sym, _∙_}
 use mathlib.Core.List.{List, [], _∷_}

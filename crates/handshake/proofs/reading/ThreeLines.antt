@@ -1,19 +1,48 @@
--- Each way through `judge_hello`, in the form of what it has to show: x, y and z are what the lines come to.
+-- Each way to judge a hello by its three lines, and by where they end.
 use Prim.Native.Nat.{ℕ, _+_, _-_, _^_, _≤_, _<_}
 use native.Mathlib.Omega.{arith}
-use mathlib.Core.Path.{_≡_, sym, _∙_}
-use mathlib.Core.List.{List}
+use mathlib.Core.Path.{_≡_, sym, ap, _∙_}
+use mathlib.Core.List.{List, [], _∷_}
+use mathlib.Core.Bool.{Bool, true, false, not}
 use lib.ListN.{length, take, drop, length-drop}
-use lib.Seq.{length-take-le}
+use lib.Seq.{length-take-le, take-all}
 use borrow.Author.Needs.{needs}
+use borrow.Author.Tests.{lt-ltb, le-ltb, not-true, not-false}
 use mir.Syntax.{w64}
 use mir.Val.{Fits}
-use Rattle.handshake.specs.declared.Line.{Line}
-use Rattle.handshake.specs.declared.Line.the-variants as line
 use Rattle.handshake.specs.declared.Hello.{Hello}
 use Rattle.handshake.specs.declared.Hello.the-variants as hello
-use Rattle.handshake.specs.Handshake.{lineAt, span, judgeLines, fromFirst, fromSecond, fromThird, judgeHello}
+use Rattle.lists.specs.Lists.{eqBytes}
+use Rattle.handshake.specs.Handshake.{greeting, judgeThird, greets, judgeLines, lineAt, span, fromFirst, fromSecond, fromThird, judgeHello}
+use Rattle.handshake.specs.declared.Line.{Line}
+use Rattle.handshake.specs.declared.Line.the-variants as line
 use Rattle.handshake.proofs.LineEnds.{line-ends}
+
+-- ---- the three lines
+module _ (l r a b c : List ℕ) where
+  pub lines-short : length a ≤ 9 → hello.Refused 10 ≡ judgeLines l r a b c
+  unfolding judgeLines greets
+  lines-short h = rw (le-ltb 9 (length a) h)
+
+  module _ (h : 9 < length a) (t : Bool) (e : t ≡ eqBytes (take 9 a) (72 ∷ 65 ∷ 80 ∷ 114 ∷ 111 ∷ 120 ∷ 121 ∷ 83 ∷ 32 ∷ [])) where
+    pub lines-other : not t ≡ true → hello.Refused 10 ≡ judgeLines l r a b c
+    unfolding judgeLines greets greeting
+    lines-other n = rw (lt-ltb 9 (length a) h, ← e, not-true t n)
+
+    pub lines-empty : not t ≡ false → length b < 1 → hello.Refused 10 ≡ judgeLines l r a b c
+    unfolding judgeLines greets greeting
+    lines-empty n k = rw (lt-ltb 9 (length a) h, ← e, not-false t n, le-ltb 0 (length b) (omega arith))
+
+    pub lines-third : (o : Hello) → not t ≡ false → 1 ≤ length b → o ≡ judgeThird l r (take (length a - 9) (drop 9 a)) b c → o ≡ judgeLines l r a b c
+    unfolding judgeLines greets greeting
+    lines-third o n k w =
+        rw (lt-ltb 9 (length a) h, ← e, not-false t n, lt-ltb 0 (length b) (omega arith))
+        (w ∙ ap (λ (x : List ℕ). judgeThird l r x b c) (take-all (length a - 9) (drop 9 a) (omega (arith, length-drop 9 a))))
+
+pub lines-count : (a : List ℕ) → 9 < length a → 9 ≡ length (take 9 a)
+lines-count a h = sym (length-take-le 9 a (omega arith))
+
+pub ruleset judging-lines = (needs, lines-short, lines-other, lines-empty, lines-third, lines-count)
 
 -- ---- positions
 module _ (u : List ℕ) (at p : ℕ) (x : Line) (e : x ≡ lineAt u at) (f : x ≡ line.End p) where

@@ -1,4 +1,4 @@
--- Bytes put into a room one after the other, in the form of what each way has to show.
+-- Bytes put into a room: a loop, then the lines of a hello one after the other.
 use Prim.Native.Nat.{ℕ, _+_, _-_, _^_, _≤_, _<_}
 use native.Mathlib.Omega.{arith}
 use native.Mathlib.Numerals.{add-one}
@@ -13,7 +13,8 @@ use Rattle.handshake.specs.declared.Written.the-variants as written
 use Rattle.lists.specs.Lists.{front, overlay}
 use Rattle.handshake.specs.Bytes.{decimal, digitsOf, roomWith, writtenTo}
 use Rattle.handshake.specs.Handshake.{greeting, version21, space, lf, spaced, senderLine, ended, helloBytes}
-use Rattle.handshake.proofs.Decimals.{digits-start, digits-taken, decimal-few}
+use Rattle.handshake.proofs.writing.DigitArray.{digits-start, digits-taken}
+use Rattle.handshake.proofs.Decimals.{decimal-few}
 
 -- ---- the loop
 pub record Pasting (room bytes : List ℕ) (at : ℕ) (now : List ℕ) (i : ℕ) : Type 0 where

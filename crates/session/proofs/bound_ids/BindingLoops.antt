@@ -1,4 +1,4 @@
--- The code that changes a connection: one law for each way to a result, and the loops over the bindings.
+-- The code that changes bindings: one law for each way to a result, and the loops over the places.
 use Prim.Native.Nat.{ℕ, suc, _+_, _≤_, _<_}
 use native.Mathlib.Omega.{arith}
 use native.Mathlib.Numerals.{add-one}
@@ -7,9 +7,9 @@ use mathlib.Core.Bool.{true, false}
 use mathlib.Core.List.{List, _++_, append-nil}
 use lib.ListN.{length, take, drop, set, getD, length-set, drop-of-length-le}
 use lib.Seq.{set-out, take-suc-set, drop-set-lt, drop-cons, append-snoc, take-all}
-use lib.Dec.{eqb, ltb}
+use lib.Dec.{eqb}
 use borrow.Author.Needs.{needs}
-use borrow.Author.Tests.{eq-eqb, ne-eqb, lt-ltb, le-ltb}
+use borrow.Author.Tests.{eq-eqb, ne-eqb}
 use Rattle.lists.specs.declared.Found.the-variants.{At, Nothing}
 use Rattle.lists.specs.Lists.{firstFrom, firstPlace}
 use Rattle.lists.proofs.Cases.{cond-true, cond-false, and-true, and-false}
@@ -17,30 +17,12 @@ use Rattle.lists.proofs.Places.{place-from, from-here, from-next, from-end}
 use Rattle.session.specs.declared.Binding.{Binding}
 use Rattle.session.specs.declared.Connection.{Connection}
 use Rattle.session.proofs.Basics.{length-mapped, blank, told-true, told-false}
-use Rattle.session.specs.Session.{isBound, boundTo, findBound, bindingAt, currentMark, makeCurrent, withTables, unbind, bindTo, rebind, rebindFrom, bind, commitTo, committed}
-
--- ---- the current table
-
-pub mark-of : (place : ℕ) → place < 8 → place + 1 ≡ currentMark place
-unfolding currentMark
-mark-of place h = sym (cond-true (ltb place 8) (place + 1) 0 (lt-ltb place 8 h))
-
-pub mark-none : (place : ℕ) → 8 ≤ place → 0 ≡ currentMark place
-unfolding currentMark
-mark-none place h = sym (cond-false (ltb place 8) (place + 1) 0 (le-ltb place 8 h))
-
-pub ruleset marking = (needs, mark-of, mark-none)
-
-pub now-current : (c : Connection) (place mark : ℕ) → mark ≡ currentMark place → withTables c mark (c .bindings) ≡ makeCurrent c place
-unfolding makeCurrent
-now-current c place mark e = ap (λ (m : ℕ). withTables c m (c .bindings)) e
+use Rattle.session.specs.Session.{isBound, boundTo, findBound, bindingAt, currentMark, withTables, unbind, bindTo, rebind, rebindFrom, bind, commitTo, committed}
 
 pub now-bound : (c : Connection) (place id mark : ℕ) (bs : List Binding) → mark ≡ currentMark place → bs ≡ rebindFrom 0 place id (c .bindings)
     → withTables c mark bs ≡ bind c place id
 unfolding bind
 now-bound c place id mark bs e f = rw (e, f)
-
--- ---- committing
 
 pub commit-out : (c : Connection) (place update : ℕ) → length (c .bindings) ≡ 8 → 8 ≤ place → c ≡ committed c place update
 unfolding committed withTables
@@ -48,8 +30,6 @@ commit-out c place update l h =
     sym (ap (withTables c (c .current)) (set-out (c .bindings) place (commitTo update (bindingAt c place)) (omega arith)))
 
 pub ruleset committing = (needs, length-mapped, commit-out)
-
--- ---- a binding
 
 pub not-bound : (b : Binding) (id : ℕ) → (b .bound ≡ 1 → ⊥) → false ≡ boundTo id b
 unfolding boundTo isBound
@@ -74,8 +54,6 @@ pub rebind-kept : (i place id : ℕ) (b : Binding) → (i ≡ place → ⊥) →
 unfolding rebind
 rebind-kept i place id b e f =
     sym (cond-false (eqb i place) (bindTo id b) _ (ne-eqb i place e) ∙ cond-false (boundTo id b) (unbind b) b (sym f))
-
--- ---- the loop of `find_bound`
 
 pub record Finding (id : ℕ) (bs : List Binding) (i : ℕ) : Type 0 where
   pub long : length bs ≡ 8
@@ -104,8 +82,6 @@ find-next {id} {i} {bs} f l e =
     }
 
 pub ruleset finding = (needs, length-mapped, find-start, find-here, find-end, find-next, told-true, told-false)
-
--- ---- the loop of `rebind_all`
 
 pub record Rebinding (place id : ℕ) (bs₀ bs : List Binding) (i : ℕ) : Type 0 where
   pub long : length bs ≡ 8

@@ -1,4 +1,4 @@
--- The line of an answer, for each way through the functions that put it.
+-- A name, and the table at a place, for each way through the functions that put them.
 use Prim.Native.Nat.{ℕ, _≤_, _<_}
 use native.Mathlib.Omega.{arith}
 use mathlib.Core.Path.{_≡_, sym, ap, _∙_}
@@ -11,13 +11,10 @@ use Rattle.store.proofs.Typed.{length-mapped}
 use Rattle.store.specs.declared.Table.{Table}
 use Rattle.store.specs.Store.{noTable}
 use Rattle.session.specs.declared.Connection.{Connection}
-use Rattle.session.specs.declared.Commit.{Commit}
-use Rattle.session.specs.declared.Commit.the-variants as commit
 use Rattle.session.specs.Session.{remoteName}
-use Rattle.text.specs.Text.{ascii, spaced}
+use Rattle.text.specs.Text.{spaced}
 use Rattle.text.specs.Room.{Wrote}
 use Rattle.text.proofs.Rooms.{retold}
-use Rattle.listing.specs.WordsLines.{commitWord}
 
 -- ---- a name: the first bytes of an array of 32
 module _ (c : Connection) {room x : List ℕ} {at k : ℕ} where
@@ -39,18 +36,6 @@ pub prefix-within : (xs : List ℕ) (n m : ℕ) → length xs ≡ m → n < m �
 prefix-within xs n m e h = omega arith
 
 pub ruleset names = (needs, peer-part, peer-whole, prefix-length, prefix-within)
-
--- ---- the word of a commit
-module _ {room x : List ℕ} {at k : ℕ} (how : Commit) where
-  pub new-word : how ≡ commit.New → Wrote room at (spaced ((110 ∷ 101 ∷ 119 ∷ []) ∷ [])) x k → Wrote room at (spaced (commitWord how ∷ [])) x k
-  unfolding commitWord
-  new-word e w = rw e w
-
-  pub replaced-word : how ≡ commit.Replaced → Wrote room at (spaced (ascii "replaced" ∷ [])) x k → Wrote room at (spaced (commitWord how ∷ [])) x k
-  unfolding commitWord
-  replaced-word e w = rw e w
-
-pub ruleset commits = (needs, new-word, replaced-word)
 
 -- ---- the table at a place
 module _ (tables : List Table) (place : ℕ) where

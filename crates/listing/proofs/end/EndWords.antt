@@ -1,4 +1,4 @@
--- The last line, for each way through the functions that put it.
+-- The last line, for each way through the function that puts it.
 use Prim.Native.Nat.{ℕ}
 use mathlib.Core.Path.{_≡_, sym}
 use mathlib.Core.List.{List, [], _∷_}

@@ -40,8 +40,6 @@ module _ (n : ℕ) where
   unfolding refusalReply
   line-reply e f = ap replyOf (sym (cond-false (isSizeLimit n) _ _ (sym e) ∙ cond-false (isProtocolError n) _ _ (sym f)))
 
--- ---- the reply to a hello
-
 module _ (h : Hello) (o : Reply) where
   pub reply-waiting : h ≡ hello.Waiting → o ≡ replyOf [] → o ≡ replyOf (helloReply h)
   unfolding helloReply

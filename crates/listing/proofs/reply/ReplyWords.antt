@@ -9,7 +9,7 @@ use borrow.Author.Needs.{needs}
 use Rattle.text.specs.Text.{ascii, hex, spaced}
 use Rattle.text.specs.Room.{Wrote}
 use Rattle.text.proofs.Rooms.{retold, nothing}
-use Rattle.text.proofs.Words.{line-of}
+use Rattle.text.proofs.LineWords.{line-of}
 use Rattle.listing.specs.ReplyLines.{replyLine}
 
 -- ---- the line of a reply
