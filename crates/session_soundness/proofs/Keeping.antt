@@ -107,11 +107,20 @@ module _ {tables : List Table} {c : Connection} (s : SoundConnection tables c) w
         currentBound = s .currentBound;
       }
 
-  -- another current table
-  pub current-keeps : (place : ℕ) → place < 8 → isBound (bindingAt c place) ≡ true → SoundConnection tables (makeCurrent c place)
-  unfolding makeCurrent withTables bindingAt localName remoteName isClosed
-  current-keeps place l b =
-      let m = mark-of place l in
+  -- what is to be shown of another current table and other bindings: all else stays
+  record SoundTables (d : Connection) : Type 0 where
+    boundMark : (i : ℕ) → bindingAt d i .bound ≤ 1
+    updatedMark : (i : ℕ) → bindingAt d i .updated ≤ 1
+    boundHeld : (i : ℕ) → isBound (bindingAt d i) ≡ true → heldAt tables i ≡ true
+    updatedHeld : (i : ℕ) → isUpdated (bindingAt d i) ≡ true → heldAt tables i ≡ true
+    once : (i j n : ℕ) → boundTo n (bindingAt d i) ≡ true → boundTo n (bindingAt d j) ≡ true → i ≡ j
+    currentLimit : d .current ≤ 8
+    currentHeld : (p : ℕ) → d .current ≡ p + 1 → heldAt tables p ≡ true
+    currentBound : (p : ℕ) → d .current ≡ p + 1 → isBound (bindingAt d p) ≡ true
+
+  tables-keep : (n : ℕ) (bs : List Binding) → SoundTables (withTables c n bs) → SoundConnection tables (withTables c n bs)
+  unfolding withTables localName remoteName isClosed
+  tables-keep n bs t =
       record {
         phase = s .phase;
         closed = s .closed;
@@ -121,6 +130,22 @@ module _ {tables : List Table} {c : Connection} (s : SoundConnection tables c) w
         remoteLength = s .remoteLength;
         local = s .local;
         remote = s .remote;
+        boundMark = t .boundMark;
+        updatedMark = t .updatedMark;
+        boundHeld = t .boundHeld;
+        updatedHeld = t .updatedHeld;
+        once = t .once;
+        currentLimit = t .currentLimit;
+        currentHeld = t .currentHeld;
+        currentBound = t .currentBound;
+      }
+
+  -- another current table
+  pub current-keeps : (place : ℕ) → place < 8 → isBound (bindingAt c place) ≡ true → SoundConnection tables (makeCurrent c place)
+  unfolding makeCurrent withTables bindingAt
+  current-keeps place l b =
+      let m = mark-of place l in
+      tables-keep _ _ (record {
         boundMark = s .boundMark;
         updatedMark = s .updatedMark;
         boundHeld = s .boundHeld;
@@ -129,7 +154,7 @@ module _ {tables : List Table} {c : Connection} (s : SoundConnection tables c) w
         currentLimit = mark-limit place;
         currentHeld = λ p e. let q : place ≡ p = omega arith in subst (λ (n : ℕ). heldAt tables n ≡ true) q (s .boundHeld place b);
         currentBound = λ p e. let q : place ≡ p = omega arith in subst (λ (n : ℕ). isBound (bindingAt c n) ≡ true) q b;
-      }
+      })
 
   -- an ID bound to a held table
   module _ (place id : ℕ) (l : place < 8) (long : length (c .bindings) ≡ 8) (held : heldAt tables place ≡ true) where
@@ -202,17 +227,9 @@ module _ {tables : List Table} {c : Connection} (s : SoundConnection tables c) w
     bind-current-bound = ap isBound (bound-here c place id (omega arith))
 
     pub bind-keeps : SoundConnection tables (bind c place id)
-    unfolding bind withTables localName remoteName isClosed
+    unfolding bind withTables
     bind-keeps =
-        record {
-          phase = s .phase;
-          closed = s .closed;
-          closedNumber = s .closedNumber;
-          openNumber = s .openNumber;
-          localLength = s .localLength;
-          remoteLength = s .remoteLength;
-          local = s .local;
-          remote = s .remote;
+        tables-keep _ _ (record {
           boundMark = bind-bound-mark;
           updatedMark = bind-updated-mark;
           boundHeld = bind-bound-held;
@@ -224,7 +241,7 @@ module _ {tables : List Table} {c : Connection} (s : SoundConnection tables c) w
               λ p e.
               let q : place ≡ p = omega (arith, bind-current) in
               subst (λ (n : ℕ). isBound (bindingAt (bind c place id) n) ≡ true) q bind-current-bound;
-        }
+        })
 
   -- an update committed to a held table
   module _ (place update : ℕ) (l : place < length (c .bindings)) (held : heldAt tables place ≡ true) where
@@ -256,17 +273,9 @@ module _ {tables : List Table} {c : Connection} (s : SoundConnection tables c) w
         there (λ (b : Binding). isUpdated b ≡ true → heldAt tables i ≡ true) i (λ e t. ap (heldAt tables) e ∙ held) (λ g. s .updatedHeld i)
 
     pub commit-keeps : SoundConnection tables (committed c place update)
-    unfolding committed withTables localName remoteName isClosed
+    unfolding committed withTables
     commit-keeps =
-        record {
-          phase = s .phase;
-          closed = s .closed;
-          closedNumber = s .closedNumber;
-          openNumber = s .openNumber;
-          localLength = s .localLength;
-          remoteLength = s .remoteLength;
-          local = s .local;
-          remote = s .remote;
+        tables-keep _ _ (record {
           boundMark = commit-bound-mark;
           updatedMark = commit-updated-mark;
           boundHeld = λ i t. s .boundHeld i (sym (commit-bound i) ∙ t);
@@ -275,4 +284,4 @@ module _ {tables : List Table} {c : Connection} (s : SoundConnection tables c) w
           currentLimit = s .currentLimit;
           currentHeld = s .currentHeld;
           currentBound = λ p e. commit-bound p ∙ s .currentBound p e;
-        }
+        })

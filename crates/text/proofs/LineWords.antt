@@ -1,9 +1,7 @@
 -- Words one after the other, and a line of them: its first word, its other words, its LF.
-use Prim.Native.Nat.{ℕ, _≤_}
-use mathlib.Core.Path.{_≡_, refl, sym, ap, _∙_}
+use Prim.Native.Nat.{ℕ}
+use mathlib.Core.Path.{_≡_, refl, ap, _∙_}
 use mathlib.Core.List.{List, [], _∷_, _++_, append-assoc}
-use lib.ListN.{length, take}
-use lib.Seq.{length-take-le}
 use borrow.Author.Needs.{needs}
 use Rattle.text.specs.Text.{spaced, line}
 use Rattle.text.specs.Room.{Wrote}
@@ -51,9 +49,3 @@ pub two-words : {room x y : List ℕ} {at k m : ℕ} (w v : List ℕ) → Wrote 
 two-words w v p q = words (w ∷ []) (v ∷ []) p q
 
 pub ruleset putting-line = (needs, line-0, line-of, line-2, line-1-2, line-2-2, two-words)
-
--- ---- the first bytes of a room
-pub part-length : (xs : List ℕ) (n : ℕ) → n ≤ length xs → n ≡ length (take n xs)
-part-length xs n h = sym (length-take-le n xs h)
-
-pub ruleset parts = (needs, part-length)

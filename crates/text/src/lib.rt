@@ -2,6 +2,7 @@
 // as far as the room reaches, and returns the position behind it.
 pub mod decimal;
 pub mod hex;
+pub mod output;
 pub mod spaced;
 
 ghost use Rattle.text.specs.Room.{Wrote};

@@ -1,7 +1,7 @@
-use Rattle.text.proofs.LineWords.{parts}
+use Rattle.text.proofs.output.Places.{parts}
 use borrow.Author.Needs.{needs}
-use Rattle.cases.proofs.write.Statement.{statement}
-use Rattle.cases.proofs.write.Tie as tie
+use Rattle.text.proofs.output.write.Statement.{statement}
+use Rattle.text.proofs.output.write.Tie as tie
 
 slice-aggregate-write-all : tie.Need-slice-aggregate-write-all
 slice-aggregate-write-all c = search parts
