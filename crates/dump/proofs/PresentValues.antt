@@ -14,7 +14,7 @@ use Rattle.text.specs.Text.{spaced}
 use Rattle.text.specs.Room.{Wrote}
 use Rattle.text.proofs.Rooms.{retold}
 use Rattle.text.proofs.LineWords.{words}
-use Rattle.dump.specs.StoreWordsLines.{presentAmong}
+use Rattle.dump.specs.StoreLines.{presentAmong}
 
 -- ---- one value, if its data type is present
 module _ {A : Type 0} (types t : ℕ) (v : A) where

@@ -9,7 +9,7 @@ ghost use lib.Dec.{eqb};
 ghost use Rattle.handshake.specs.Bytes.{decimal};
 ghost use Rattle.text.specs.Text.{line};
 ghost use Rattle.text.specs.Room.{Wrote};
-ghost use Rattle.dump.specs.Lines.{bindingLines, bindingsLines};
+ghost use Rattle.dump.specs.RecordLines.{bindingLines, bindingsLines};
 
 // A line of a word, a place and an ID, where the mark says that there is one.
 fn mark_line(room: &mut [u8], at: usize, mark: u8, word: &[u8], place: usize, id: u32) -> usize

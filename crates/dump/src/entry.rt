@@ -1,5 +1,5 @@
 // The words of an entry's values.
-use crate::store_words::put_present;
+use crate::present_words::put_present;
 use store::Entry;
 use store::VALUES;
 use text::spaced::put_signed;
@@ -8,7 +8,7 @@ ghost use Rattle.handshake.specs.Bytes.{decimal};
 ghost use Rattle.store.specs.Limits.{slotTypes};
 ghost use Rattle.text.specs.Text.{signed, spaced};
 ghost use Rattle.text.specs.Room.{Wrote};
-ghost use Rattle.dump.specs.StoreWordsLines.{presentAmong, valuesOf};
+ghost use Rattle.dump.specs.StoreLines.{presentAmong, valuesOf};
 
 // The server ID with a space before it, if data type 0 is present.
 fn put_server(room: &mut [u8], at: usize, types: u32, id: i32) -> usize

@@ -3,6 +3,6 @@ pub mod bound;
 pub mod entry;
 pub mod lines;
 pub mod phase;
+pub mod present_words;
 pub mod record_lines;
-pub mod store_words;
 pub mod table;

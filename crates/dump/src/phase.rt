@@ -4,7 +4,7 @@ use session::ESTABLISHED;
 use text::put;
 use text::spaced::put_number;
 ghost use Rattle.text.specs.Room.{Wrote};
-ghost use Rattle.dump.specs.Lines.{phaseLine};
+ghost use Rattle.dump.specs.RecordLines.{phaseLine};
 
 pub fn phase_line(room: &mut [u8], at: usize, c: Connection) -> usize
     ensures { λ r. ⌜ Wrote (now (room .entry)) at (phaseLine c) (now (room .exit)) r ⌝ }

@@ -11,7 +11,7 @@ ghost use mathlib.Core.List.{[], _∷_};
 ghost use Rattle.session.specs.Session.{unfinished};
 ghost use Rattle.text.specs.Text.{hexOrNone, spaced};
 ghost use Rattle.text.specs.Room.{Wrote};
-ghost use Rattle.dump.specs.Lines.{unfinishedLine, currentLine, recordLines};
+ghost use Rattle.dump.specs.RecordLines.{unfinishedLine, currentLine, recordLines};
 
 fn put_unfinished(room: &mut [u8], at: usize, session: Session) -> usize
     ensures { λ r. ⌜ Wrote (now (room .entry)) at (spaced (hexOrNone (unfinished session) ∷ [])) (now (room .exit)) r ⌝ }

@@ -13,8 +13,8 @@ use Rattle.session.specs.Answers.{answerNumber}
 use Rattle.text.specs.Room.{Wrote}
 use Rattle.text.proofs.Rooms.{joined, retold, nothing}
 use Rattle.listing.specs.ReplyLines.{replyLine}
-use Rattle.listing.specs.Lines.{callLines}
-use Rattle.listing.specs.WordsLines.{answerLine}
+use Rattle.listing.specs.CallLines.{callLines}
+use Rattle.listing.specs.AnswerLines.{answerLine}
 
 -- ---- the lines of a call
 more-number : answerNumber answer.More ≡ 100

@@ -11,7 +11,7 @@ use session::Connection;
 use store::TABLES;
 use store::Table;
 ghost use Rattle.text.specs.Room.{Wrote};
-ghost use Rattle.listing.specs.WordsLines.{answerLine};
+ghost use Rattle.listing.specs.AnswerLines.{answerLine};
 
 // The line of an answer: the connection gives a hello's name, the tables that of a table.
 pub fn put_answer(

@@ -13,7 +13,7 @@ use store::TABLES;
 use store::Table;
 ghost use lib.ListN.{take};
 ghost use Rattle.text.specs.Room.{Wrote};
-ghost use Rattle.listing.specs.Lines.{callLines};
+ghost use Rattle.listing.specs.CallLines.{callLines};
 
 // The lines of one reading call. The position behind them is returned.
 pub fn put_call(

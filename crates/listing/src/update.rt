@@ -8,7 +8,7 @@ ghost use mathlib.Core.List.{[], _∷_};
 ghost use Rattle.handshake.specs.Bytes.{decimal};
 ghost use Rattle.text.specs.Text.{ascii, spaced, line};
 ghost use Rattle.text.specs.Room.{Wrote};
-ghost use Rattle.listing.specs.WordsLines.{commitWord};
+ghost use Rattle.listing.specs.AnswerLines.{commitWord};
 
 fn put_commit(room: &mut [u8], at: usize, how: Commit) -> usize
     ensures { λ r. ⌜ Wrote (now (room .entry)) at (spaced (commitWord how ∷ [])) (now (room .exit)) r ⌝ }

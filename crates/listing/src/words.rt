@@ -1,10 +1,11 @@
 // Lines of a word and numbers, the line of a hello and that of a table.
-use dump::store_words::put_name;
+use handshake::PEER_NAME_MAX;
 use session::Connection;
 use store::NAME_MAX;
 use store::TABLES;
 use store::Table;
 use text::put;
+use text::spaced::put_hex_word;
 use text::spaced::put_number;
 use text::spaced::put_word;
 ghost use mathlib.Core.Path.{_≡_};
@@ -53,7 +54,7 @@ fn put_peer(room: &mut [u8], at: usize, c: Connection) -> usize
 {
     let n = c.remote_len;
     let name = c.remote;
-    if n < NAME_MAX {
+    if n < PEER_NAME_MAX {
         return put_word(room, at, &name[..n]);
     }
     put_word(room, at, &name)
@@ -75,6 +76,18 @@ pub fn table_at(tables: [Table; TABLES], place: usize) -> Table
         return store::no_table();
     }
     tables[place]
+}
+
+// A table's name in hex.
+pub fn put_name(room: &mut [u8], at: usize, t: Table) -> usize
+    ensures { λ r. ⌜ Wrote (now (room .entry)) at (spaced (hex (nameOf t) ∷ [])) (now (room .exit)) r ⌝ }
+{
+    let n = t.name_len;
+    let name = t.name;
+    if n < NAME_MAX {
+        return put_hex_word(room, at, &name[..n]);
+    }
+    put_hex_word(room, at, &name)
 }
 
 pub fn table_line(room: &mut [u8], at: usize, place: usize, t: Table) -> usize

@@ -19,7 +19,7 @@ use Rattle.text.specs.Text.{ascii, spaced, line}
 use Rattle.text.specs.Room.{Wrote}
 use Rattle.text.proofs.Rooms.{joined, retold, nothing}
 use Rattle.text.proofs.LineWords.{line-2}
-use Rattle.dump.specs.Lines.{bindingLines, bindingsLines}
+use Rattle.dump.specs.RecordLines.{bindingLines, bindingsLines}
 
 -- ---- bound and previous IDs
 module _ (mark : ℕ) (text : List ℕ) {room : List ℕ} {at : ℕ} where

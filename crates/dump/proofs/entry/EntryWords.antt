@@ -18,7 +18,7 @@ use Rattle.text.specs.Text.{signed, spaced}
 use Rattle.text.specs.Room.{Wrote}
 use Rattle.text.proofs.Rooms.{retold}
 use Rattle.text.proofs.LineWords.{words, no-words}
-use Rattle.dump.specs.StoreWordsLines.{presentAmong, valuesOf}
+use Rattle.dump.specs.StoreLines.{presentAmong, valuesOf}
 use Rattle.dump.proofs.PresentValues.{Along, along-end, along-kept, along-turn, among-nil, among-none, among-one, map-append}
 
 module _ (types : ℕ) (z : ℤ) (b : Bool) (is : b ≡ present types 0) {room : List ℕ} {at : ℕ} where

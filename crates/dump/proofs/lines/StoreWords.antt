@@ -15,8 +15,8 @@ use Rattle.text.specs.Text.{ascii, hex, hexOrNone, signed, spaced}
 use Rattle.text.specs.Room.{Wrote}
 use Rattle.text.proofs.Rooms.{retold, nothing}
 use Rattle.text.proofs.LineWords.{line-of, words}
-use Rattle.dump.specs.StoreWordsLines.{valuesOf, timesWords, tableLine, entryLine}
-use Rattle.dump.proofs.store_words.TableWords.{prefix-length, prefix-within, whole}
+use Rattle.dump.specs.StoreLines.{valuesOf, timesWords, tableLine, entryLine}
+use Rattle.text.proofs.Prefixes.{prefixes, whole}
 
 module _ {room x : List ℕ} {at k : ℕ} where
   pub key-part : (e : Entry) → Wrote room at (spaced (hexOrNone (take (e .«key_len») (e .key)) ∷ [])) x k → Wrote room at (spaced (hexOrNone (keyOf e) ∷ [])) x k
@@ -28,7 +28,7 @@ module _ {room x : List ℕ} {at k : ℕ} where
   unfolding keyOf
   key-whole e l h w = retold (ap (λ (b : List ℕ). spaced (hexOrNone b ∷ [])) (whole (e .key) (e .«key_len») 64 l h)) w
 
-pub ruleset key-prefixes = (needs, prefix-length, prefix-within, key-part, key-whole)
+pub ruleset keys = (prefixes, key-part, key-whole)
 
 module _ (t : Table) {room x : List ℕ} {at k : ℕ} where
   pub definition : (a b c d : List ℕ) {y z : List ℕ} {m n : ℕ} → Wrote room at (spaced (a ∷ [])) x k → Wrote x k (spaced (b ∷ c ∷ d ∷ [])) y m

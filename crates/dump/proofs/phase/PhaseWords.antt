@@ -12,7 +12,7 @@ use Rattle.text.specs.Text.{ascii, spaced, line}
 use Rattle.text.specs.Room.{Wrote}
 use Rattle.text.proofs.Rooms.{retold}
 use Rattle.text.proofs.LineWords.{line-of}
-use Rattle.dump.specs.Lines.{phaseLine}
+use Rattle.dump.specs.RecordLines.{phaseLine}
 
 -- ---- the phase
 module _ (c : Connection) {room x : List ℕ} {at k : ℕ} where

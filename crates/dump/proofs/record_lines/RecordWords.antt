@@ -1,10 +1,9 @@
 -- The lines of a session record, for each way through the functions that put them.
-use Prim.Native.Nat.{ℕ, zero, suc, _-_, _≤_, _<_}
+use Prim.Native.Nat.{ℕ, zero, suc, _-_, _≤_}
 use native.Mathlib.Omega.{arith}
-use mathlib.Core.Path.{_≡_, refl, sym, ap}
+use mathlib.Core.Path.{_≡_, refl, ap}
 use mathlib.Core.List.{List, [], _∷_}
 use lib.ListN.{length, take}
-use lib.Seq.{take-all, length-take-le}
 use borrow.Author.Needs.{needs}
 use borrow.Author.Tests.{eq-eqb, ne-eqb}
 use Rattle.handshake.specs.Bytes.{decimal}
@@ -15,17 +14,8 @@ use Rattle.text.specs.Text.{ascii, hexOrNone, spaced, line}
 use Rattle.text.specs.Room.{Wrote}
 use Rattle.text.proofs.Rooms.{joined, retold}
 use Rattle.text.proofs.LineWords.{line-of}
-use Rattle.dump.specs.Lines.{phaseLine, unfinishedLine, currentLine, bindingsLines, recordLines}
-
--- ---- the first bytes of an array
-pub prefix-length : (xs : List ℕ) (n m : ℕ) → length xs ≡ m → n < m → n ≡ length (take n xs)
-prefix-length xs n m e h = sym (length-take-le n xs (omega arith))
-
-pub prefix-within : (xs : List ℕ) (n m : ℕ) → length xs ≡ m → n < m → n ≤ length xs
-prefix-within xs n m e h = omega arith
-
-whole : (xs : List ℕ) (n m : ℕ) → length xs ≡ m → m ≤ n → xs ≡ take n xs
-whole xs n m e h = let l : length xs ≤ n = omega arith in sym (take-all n xs l)
+use Rattle.text.proofs.Prefixes.{prefixes, whole}
+use Rattle.dump.specs.RecordLines.{phaseLine, unfinishedLine, currentLine, bindingsLines, recordLines}
 
 module _ {room x : List ℕ} {at k : ℕ} where
   pub unfinished-part : (s : Session) → Wrote room at (spaced (hexOrNone (take (s .len) (s .buffer)) ∷ [])) x k → Wrote room at (spaced (hexOrNone (unfinished s) ∷ [])) x k
@@ -37,7 +27,7 @@ module _ {room x : List ℕ} {at k : ℕ} where
   unfolding unfinished
   unfinished-whole s l h w = retold (ap (λ (b : List ℕ). spaced (hexOrNone b ∷ [])) (whole (s .buffer) (s .len) 1027 l h)) w
 
-pub ruleset prefixes = (needs, prefix-length, prefix-within, unfinished-part, unfinished-whole)
+pub ruleset unfinishing = (prefixes, unfinished-part, unfinished-whole)
 
 -- ---- the unfinished bytes, the current table
 pub unfinished-is : (s : Session) {room x y z : List ℕ} {at k m n : ℕ}

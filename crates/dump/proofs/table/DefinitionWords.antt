@@ -14,7 +14,7 @@ use Rattle.text.specs.Text.{ascii, spaced}
 use Rattle.text.specs.Room.{Wrote}
 use Rattle.text.proofs.Rooms.{retold}
 use Rattle.text.proofs.LineWords.{words, no-words}
-use Rattle.dump.specs.StoreWordsLines.{periodsOf, timesWords}
+use Rattle.dump.specs.StoreLines.{periodsOf, timesWords}
 use Rattle.dump.proofs.PresentValues.{Along, along-end, along-kept, along-turn, among-nil}
 
 pub periods-start : (types : ℕ) (vs room : List ℕ) (at : ℕ) → length vs ≡ 8 → Along types 8 rateTypes vs room at room at 0

@@ -7,7 +7,7 @@ use Rattle.session.specs.declared.Commit.{Commit}
 use Rattle.session.specs.declared.Commit.the-variants as commit
 use Rattle.text.specs.Text.{ascii, spaced}
 use Rattle.text.specs.Room.{Wrote}
-use Rattle.listing.specs.WordsLines.{commitWord}
+use Rattle.listing.specs.AnswerLines.{commitWord}
 
 -- ---- the word of a commit
 module _ {room x : List ℕ} {at k : ℕ} (how : Commit) where

@@ -1,13 +1,13 @@
-use Rattle.dump.proofs.store_words.TableWords.{prefixes}
+use Rattle.listing.proofs.words.AnswerWords.{names}
 use borrow.Author.Needs.{needs}
-use Rattle.dump.proofs.store_words.put_name.Statement.{statement}
-use Rattle.dump.proofs.store_words.put_name.Tie as tie
+use Rattle.listing.proofs.words.put_name.Statement.{statement}
+use Rattle.listing.proofs.words.put_name.Tie as tie
 
 array-share-prefix-name : tie.Need-array-share-prefix-name
-array-share-prefix-name c = search prefixes
+array-share-prefix-name c = search names
 
 slice-aggregate-put-hex-word : tie.Need-slice-aggregate-put-hex-word
-slice-aggregate-put-hex-word c = search prefixes
+slice-aggregate-put-hex-word c = search names
 
 put-hex-word-requires : tie.Need-put-hex-word-requires
 put-hex-word-requires c κs = search needs
@@ -16,7 +16,7 @@ same-length : tie.Need-same-length
 same-length c = search needs
 
 returns : tie.Need-returns
-returns c = search prefixes
+returns c = search names
 
 slice-aggregate-put-hex-word-2 : tie.Need-slice-aggregate-put-hex-word-2
 slice-aggregate-put-hex-word-2 c = search needs
@@ -28,7 +28,7 @@ same-length-2 : tie.Need-same-length-2
 same-length-2 c = search needs
 
 returns-2 : tie.Need-returns-2
-returns-2 c = search prefixes
+returns-2 c = search names
 
 pub put-name-spec : {M : Type 1} → statement M
 put-name-spec =

@@ -1,7 +1,7 @@
-use Rattle.dump.proofs.store_words.TableWords.{presences}
+use Rattle.dump.proofs.present_words.PresentWord.{presences}
 use borrow.Author.Needs.{needs}
-use Rattle.dump.proofs.store_words.put_present.Statement.{statement}
-use Rattle.dump.proofs.store_words.put_present.Tie as tie
+use Rattle.dump.proofs.present_words.put_present.Statement.{statement}
+use Rattle.dump.proofs.present_words.put_present.Tie as tie
 
 present-requires : tie.Need-present-requires
 present-requires c κs = search needs

@@ -8,7 +8,7 @@ use Rattle.session.specs.declared.Connection.{Connection}
 use Rattle.session.specs.declared.Answer.{Answer}
 use Rattle.session.specs.declared.Answer.the-variants as answer
 use Rattle.session.specs.Answers.{answerNumber}
-use Rattle.listing.specs.WordsLines.{answerLine}
+use Rattle.listing.specs.AnswerLines.{answerLine}
 use Rattle.listing.specs.ReplyLines.{replyLine}
 
 -- what the listing shows of one call: nothing while more is wanted
