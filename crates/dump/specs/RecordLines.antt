@@ -3,12 +3,12 @@ use Prim.Native.Nat.{ℕ, _+_, _-_}
 use mathlib.Core.List.{List, [], _∷_, _++_}
 use mathlib.Core.Bool.{cond}
 use lib.Dec.{eqb}
-use Rattle.handshake.specs.Bytes.{decimal}
+use Rattle.handshake.specs.Bytes.{ascii, decimal}
 use Rattle.session.specs.declared.Binding.{Binding}
 use Rattle.session.specs.declared.Connection.{Connection}
 use Rattle.session.specs.declared.Session.{Session}
 use Rattle.session.specs.Session.{isClosed, isBound, isUpdated, unfinished, established}
-use Rattle.text.specs.Text.{ascii, hexOrNone, line}
+use Rattle.text.specs.Text.{hexOrNone, line}
 
 -- `session handshake`, `session open` or `session closed N`
 unfoldable pub phaseLine : Connection → List ℕ

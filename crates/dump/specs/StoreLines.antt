@@ -4,12 +4,12 @@ use mathlib.Core.List.{List, [], _∷_, _++_, map}
 use mathlib.Core.Bool.{cond}
 use lib.Dec.{eqb}
 use lib.IntN.{ℤ, pos}
-use Rattle.handshake.specs.Bytes.{decimal}
+use Rattle.handshake.specs.Bytes.{ascii, decimal}
 use Rattle.store.specs.declared.Table.{Table}
 use Rattle.store.specs.declared.Entry.{Entry}
 use Rattle.store.specs.Limits.{present, slotTypes, rateTypes}
 use Rattle.store.specs.Store.{tableHeld, entryHeld, nameOf, keyOf}
-use Rattle.text.specs.Text.{ascii, hex, hexOrNone, signed, line}
+use Rattle.text.specs.Text.{hex, hexOrNone, signed, line}
 
 -- of a list with an element for each of the data types ts, those whose data type is present
 module _ {A : Type 0} where

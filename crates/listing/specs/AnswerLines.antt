@@ -4,14 +4,14 @@ use mathlib.Core.List.{List, [], _∷_}
 use lib.ListN.{getD}
 use Rattle.store.specs.declared.Table.{Table}
 use Rattle.store.specs.Store.{nameOf, noTable}
-use Rattle.handshake.specs.Bytes.{decimal}
+use Rattle.handshake.specs.Bytes.{ascii, decimal}
 use Rattle.session.specs.declared.Connection.{Connection}
 use Rattle.session.specs.declared.Commit.{Commit}
 use Rattle.session.specs.declared.Commit.the-variants as commit
 use Rattle.session.specs.declared.Answer.{Answer}
 use Rattle.session.specs.declared.Answer.the-variants as answer
 use Rattle.session.specs.Session.{remoteName}
-use Rattle.text.specs.Text.{ascii, hex, line}
+use Rattle.text.specs.Text.{hex, line}
 
 -- ".. and new or replaced"
 unfoldable pub commitWord : Commit → List ℕ

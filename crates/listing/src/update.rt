@@ -5,8 +5,8 @@ use text::put;
 use text::spaced::put_number;
 use text::spaced::put_word;
 ghost use mathlib.Core.List.{[], _∷_};
-ghost use Rattle.handshake.specs.Bytes.{decimal};
-ghost use Rattle.text.specs.Text.{ascii, spaced, line};
+ghost use Rattle.handshake.specs.Bytes.{ascii, decimal};
+ghost use Rattle.text.specs.Text.{spaced, line};
 ghost use Rattle.text.specs.Room.{Wrote};
 ghost use Rattle.listing.specs.AnswerLines.{commitWord};
 

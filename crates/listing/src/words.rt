@@ -11,10 +11,10 @@ use text::spaced::put_word;
 ghost use mathlib.Core.Path.{_≡_};
 ghost use mathlib.Core.List.{[], _∷_};
 ghost use lib.ListN.{getD};
-ghost use Rattle.handshake.specs.Bytes.{decimal};
+ghost use Rattle.handshake.specs.Bytes.{ascii, decimal};
 ghost use Rattle.store.specs.Store.{nameOf, noTable};
 ghost use Rattle.session.specs.Session.{remoteName};
-ghost use Rattle.text.specs.Text.{ascii, hex, spaced, line};
+ghost use Rattle.text.specs.Text.{hex, spaced, line};
 ghost use Rattle.text.specs.Room.{Wrote};
 
 pub fn word_line(room: &mut [u8], at: usize, word: &[u8]) -> usize

@@ -1,7 +1,7 @@
 -- Replies, answers and bindings at worked examples.
 use mathlib.Core.Path.{_≡_, refl}
 use mathlib.Core.List.{[], _∷_, map}
-use Rattle.handshake.specs.Bytes.{decimal, decimalIn}
+use Rattle.handshake.specs.Bytes.{ascii, decimal, decimalIn}
 use Rattle.handshake.specs.Handshake.{refusalLine, statusLine, lf}
 use Rattle.session.specs.declared.Commit.the-variants as commit
 use Rattle.session.specs.declared.Answer.the-variants as answer
@@ -15,7 +15,7 @@ no-replies = refl
 
 -- `501`, `502`, `503`, `504`, each with LF
 status-replies : map refusalReply (10 ∷ 11 ∷ 12 ∷ 13 ∷ [])
-    ≡ (53 ∷ 48 ∷ 49 ∷ 10 ∷ []) ∷ (53 ∷ 48 ∷ 50 ∷ 10 ∷ []) ∷ (53 ∷ 48 ∷ 51 ∷ 10 ∷ []) ∷ (53 ∷ 48 ∷ 52 ∷ 10 ∷ []) ∷ []
+    ≡ ascii "501\n" ∷ ascii "502\n" ∷ ascii "503\n" ∷ ascii "504\n" ∷ []
 unfolding refusalReply isSizeLimit isProtocolError refusalLine statusLine decimal decimalIn lf
 status-replies = refl
 

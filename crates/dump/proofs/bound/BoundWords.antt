@@ -11,11 +11,11 @@ use lib.Seq.{take-all, take-suc, length-take-le}
 use borrow.Author.Needs.{needs}
 use borrow.Author.Tests.{eq-eqb, ne-eqb}
 use Rattle.lists.proofs.Cases.{cond-true, cond-false}
-use Rattle.handshake.specs.Bytes.{decimal}
+use Rattle.handshake.specs.Bytes.{ascii, decimal}
 use Rattle.session.specs.declared.Binding.{Binding}
 use Rattle.session.specs.Session.{isBound, isUpdated}
 use Rattle.session.proofs.Basics.{length-mapped}
-use Rattle.text.specs.Text.{ascii, spaced, line}
+use Rattle.text.specs.Text.{spaced, line}
 use Rattle.text.specs.Room.{Wrote}
 use Rattle.text.proofs.Rooms.{joined, retold, nothing}
 use Rattle.text.proofs.LineWords.{line-2}

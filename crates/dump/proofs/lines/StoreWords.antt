@@ -7,11 +7,11 @@ use lib.ListN.{length, take}
 use borrow.Author.Needs.{needs}
 use borrow.Author.Tests.{eq-eqb, ne-eqb}
 use Rattle.lists.proofs.Cases.{cond-true, cond-false}
-use Rattle.handshake.specs.Bytes.{decimal}
+use Rattle.handshake.specs.Bytes.{ascii, decimal}
 use Rattle.store.specs.declared.Table.{Table}
 use Rattle.store.specs.declared.Entry.{Entry}
 use Rattle.store.specs.Store.{tableHeld, entryHeld, nameOf, keyOf}
-use Rattle.text.specs.Text.{ascii, hex, hexOrNone, signed, spaced}
+use Rattle.text.specs.Text.{hex, hexOrNone, signed, spaced}
 use Rattle.text.specs.Room.{Wrote}
 use Rattle.text.proofs.Rooms.{retold, nothing}
 use Rattle.text.proofs.LineWords.{line-of, words}

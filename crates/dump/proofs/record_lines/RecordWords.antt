@@ -6,11 +6,11 @@ use mathlib.Core.List.{List, [], _∷_}
 use lib.ListN.{length, take}
 use borrow.Author.Needs.{needs}
 use borrow.Author.Tests.{eq-eqb, ne-eqb}
-use Rattle.handshake.specs.Bytes.{decimal}
+use Rattle.handshake.specs.Bytes.{ascii, decimal}
 use Rattle.session.specs.declared.Connection.{Connection}
 use Rattle.session.specs.declared.Session.{Session}
 use Rattle.session.specs.Session.{unfinished}
-use Rattle.text.specs.Text.{ascii, hexOrNone, spaced, line}
+use Rattle.text.specs.Text.{hexOrNone, spaced, line}
 use Rattle.text.specs.Room.{Wrote}
 use Rattle.text.proofs.Rooms.{joined, retold}
 use Rattle.text.proofs.LineWords.{line-of}

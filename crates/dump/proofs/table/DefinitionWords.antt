@@ -6,11 +6,11 @@ use mathlib.Core.List.{List, [], _∷_, map}
 use lib.ListN.{length}
 use borrow.Author.Needs.{needs}
 use borrow.Author.Tests.{eq-eqb, ne-eqb}
-use Rattle.handshake.specs.Bytes.{decimal}
+use Rattle.handshake.specs.Bytes.{ascii, decimal}
 use Rattle.store.specs.declared.Table.{Table}
 use Rattle.store.specs.Limits.{rateTypes}
 use Rattle.store.proofs.Rules.{rate-count}
-use Rattle.text.specs.Text.{ascii, spaced}
+use Rattle.text.specs.Text.{spaced}
 use Rattle.text.specs.Room.{Wrote}
 use Rattle.text.proofs.Rooms.{retold}
 use Rattle.text.proofs.LineWords.{words, no-words}

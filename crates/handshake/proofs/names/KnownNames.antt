@@ -7,16 +7,16 @@ use borrow.Author.Needs.{needs}
 use borrow.Author.Tests.{not-true, not-false}
 use Rattle.handshake.specs.declared.Hello.the-variants as hello
 use Rattle.lists.specs.Lists.{eqBytes}
-use Rattle.handshake.specs.Bytes.{oneOf}
+use Rattle.handshake.specs.Bytes.{ascii, oneOf}
 use Rattle.handshake.specs.Handshake.{version20, version21, judgeNames}
 
 -- ---- the version
-module _ (v : List ℕ) (t : Bool) (e : t ≡ eqBytes v (50 ∷ 46 ∷ 48 ∷ [])) where
+module _ (v : List ℕ) (t : Bool) (e : t ≡ eqBytes v (ascii "2.0")) where
   pub version-old : t ≡ true → true ≡ oneOf v (version20 ∷ version21 ∷ [])
   unfolding oneOf version20
   version-old h = rw (← e, h)
 
-  pub version-new : (u : Bool) → t ≡ false → u ≡ eqBytes v (50 ∷ 46 ∷ 49 ∷ []) → u ≡ oneOf v (version20 ∷ version21 ∷ [])
+  pub version-new : (u : Bool) → t ≡ false → u ≡ eqBytes v (ascii "2.1") → u ≡ oneOf v (version20 ∷ version21 ∷ [])
   unfolding oneOf version20 version21
   version-new u h f = rw (← e, h, ← f) (last u)
     where

@@ -10,6 +10,7 @@ use borrow.Author.Needs.{needs}
 use borrow.Author.Tests.{lt-ltb, le-ltb, not-true, not-false}
 use mir.Syntax.{w64}
 use mir.Val.{Fits}
+use Rattle.handshake.specs.Bytes.{ascii}
 use Rattle.handshake.specs.declared.Hello.{Hello}
 use Rattle.handshake.specs.declared.Hello.the-variants as hello
 use Rattle.lists.specs.Lists.{eqBytes}
@@ -24,7 +25,7 @@ module _ (l r a b c : List ℕ) where
   unfolding judgeLines greets
   lines-short h = rw (le-ltb 9 (length a) h)
 
-  module _ (h : 9 < length a) (t : Bool) (e : t ≡ eqBytes (take 9 a) (72 ∷ 65 ∷ 80 ∷ 114 ∷ 111 ∷ 120 ∷ 121 ∷ 83 ∷ 32 ∷ [])) where
+  module _ (h : 9 < length a) (t : Bool) (e : t ≡ eqBytes (take 9 a) (ascii "HAProxyS ")) where
     pub lines-other : not t ≡ true → hello.Refused 10 ≡ judgeLines l r a b c
     unfolding judgeLines greets greeting
     lines-other n = rw (lt-ltb 9 (length a) h, ← e, not-true t n)

@@ -9,7 +9,7 @@ use borrow.Author.Needs.{needs}
 use borrow.Author.Tests.{lt-ltb, le-ltb}
 use Rattle.handshake.specs.declared.Status.the-variants as status
 use Rattle.lists.specs.Lists.{eqBytes}
-use Rattle.handshake.specs.Bytes.{oneOf, decimalIn, decimal}
+use Rattle.handshake.specs.Bytes.{ascii, oneOf, decimalIn, decimal}
 use Rattle.handshake.specs.Handshake.{lf, statusLine, failureLines, judgeFour, judgeStatus}
 
 -- ---- one of the strings listed
@@ -30,27 +30,27 @@ alone s t x e = rw (← e) (same x)
     same false = refl
 
 -- ---- the lines of failure
-module _ (s : List ℕ) (a : Bool) (ea : a ≡ eqBytes s (51 ∷ 48 ∷ 48 ∷ 10 ∷ [])) where
+module _ (s : List ℕ) (a : Bool) (ea : a ≡ eqBytes s (ascii "300\n")) where
   pub failure-300 : a ≡ true → true ≡ oneOf s failureLines
   unfolding failureLines statusLine decimal decimalIn lf
   failure-300 h = found s _ _ a ea h
 
-  module _ (ha : a ≡ false) (b : Bool) (eb : b ≡ eqBytes s (53 ∷ 48 ∷ 49 ∷ 10 ∷ [])) where
+  module _ (ha : a ≡ false) (b : Bool) (eb : b ≡ eqBytes s (ascii "501\n")) where
     pub failure-501 : b ≡ true → true ≡ oneOf s failureLines
     unfolding failureLines statusLine decimal decimalIn lf
     failure-501 h = further s _ _ a ea ha true (found s _ _ b eb h)
 
-    module _ (hb : b ≡ false) (c : Bool) (ec : c ≡ eqBytes s (53 ∷ 48 ∷ 50 ∷ 10 ∷ [])) where
+    module _ (hb : b ≡ false) (c : Bool) (ec : c ≡ eqBytes s (ascii "502\n")) where
       pub failure-502 : c ≡ true → true ≡ oneOf s failureLines
       unfolding failureLines statusLine decimal decimalIn lf
       failure-502 h = further s _ _ a ea ha true (further s _ _ b eb hb true (found s _ _ c ec h))
 
-      module _ (hc : c ≡ false) (d : Bool) (ed : d ≡ eqBytes s (53 ∷ 48 ∷ 51 ∷ 10 ∷ [])) where
+      module _ (hc : c ≡ false) (d : Bool) (ed : d ≡ eqBytes s (ascii "503\n")) where
         pub failure-503 : d ≡ true → true ≡ oneOf s failureLines
         unfolding failureLines statusLine decimal decimalIn lf
         failure-503 h = further s _ _ a ea ha true (further s _ _ b eb hb true (further s _ _ c ec hc true (found s _ _ d ed h)))
 
-        pub failure-504 : (e : Bool) → d ≡ false → e ≡ eqBytes s (53 ∷ 48 ∷ 52 ∷ 10 ∷ []) → e ≡ oneOf s failureLines
+        pub failure-504 : (e : Bool) → d ≡ false → e ≡ eqBytes s (ascii "504\n") → e ≡ oneOf s failureLines
         unfolding failureLines statusLine decimal decimalIn lf
         failure-504 e hd ee =
             further s _ _ a ea ha e (further s _ _ b eb hb e (further s _ _ c ec hc e (further s _ _ d ed hd e (alone s _ e ee))))
@@ -65,7 +65,7 @@ status-waits u h = rw (lt-ltb (length u) 4 h)
 pub status-count : (u : List ℕ) → 4 ≤ length u → 4 ≡ length (take 4 u)
 status-count u h = sym (length-take-le 4 u h)
 
-module _ (u : List ℕ) (h : 4 ≤ length u) (a : Bool) (ea : a ≡ eqBytes (take 4 u) (50 ∷ 48 ∷ 48 ∷ 10 ∷ [])) where
+module _ (u : List ℕ) (h : 4 ≤ length u) (a : Bool) (ea : a ≡ eqBytes (take 4 u) (ascii "200\n")) where
   pub status-accepts : a ≡ true → status.Accepted ≡ judgeStatus u
   unfolding judgeStatus judgeFour oneOf statusLine decimal decimalIn lf
   status-accepts ha = rw (le-ltb (length u) 4 h, ← ea, ha)

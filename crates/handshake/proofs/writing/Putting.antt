@@ -11,7 +11,7 @@ use borrow.Author.Tests.{le-leb, lt-leb}
 use Rattle.handshake.specs.declared.Digits.{Digits}
 use Rattle.handshake.specs.declared.Written.the-variants as written
 use Rattle.lists.specs.Lists.{front, overlay}
-use Rattle.handshake.specs.Bytes.{decimal, digitsOf, roomWith, writtenTo}
+use Rattle.handshake.specs.Bytes.{ascii, decimal, digitsOf, roomWith, writtenTo}
 use Rattle.handshake.specs.Handshake.{greeting, version21, space, lf, spaced, senderLine, ended, helloBytes}
 use Rattle.handshake.proofs.writing.DigitArray.{digits-start, digits-taken}
 use Rattle.handshake.proofs.Decimals.{decimal-few}
@@ -156,7 +156,7 @@ pub ruleset putting-sender = (needs, sender-room, sender-process, sender-relativ
 
 -- ---- the hello: `HAProxyS 2.1` is its first line
 abbrev pub first-line : List ℕ
-first-line = 72 ∷ 65 ∷ 80 ∷ 114 ∷ 111 ∷ 120 ∷ 121 ∷ 83 ∷ 32 ∷ 50 ∷ 46 ∷ 49 ∷ []
+first-line = ascii "HAProxyS 2.1"
 
 hello-length : (r l : List ℕ) (p q : ℕ) → length (helloBytes r l p q) ≡ 14 + (length (ended r) + length (senderLine l p q))
 unfolding helloBytes greeting version21

@@ -6,7 +6,8 @@ use mathlib.Core.List.{List, [], _∷_}
 use lib.ListN.{length, take}
 use lib.Seq.{take-all, length-take-le}
 use borrow.Author.Needs.{needs}
-use Rattle.text.specs.Text.{ascii, hex, spaced}
+use Rattle.handshake.specs.Bytes.{ascii}
+use Rattle.text.specs.Text.{hex, spaced}
 use Rattle.text.specs.Room.{Wrote}
 use Rattle.text.proofs.Rooms.{retold, nothing}
 use Rattle.text.proofs.LineWords.{line-of}

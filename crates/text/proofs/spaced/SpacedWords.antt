@@ -9,7 +9,8 @@ use borrow.Author.Needs.{needs}
 use mir.Syntax.{w32}
 use mir.Facts.{toZ-ofZ}
 use mir.Val.{SFits, toZ, ofZ}
-use Rattle.text.specs.Text.{ascii, hex, hexOrNone, signed, spaced}
+use Rattle.handshake.specs.Bytes.{ascii}
+use Rattle.text.specs.Text.{hex, hexOrNone, signed, spaced}
 use Rattle.text.specs.Room.{Wrote}
 use Rattle.text.proofs.Rooms.{joined, retold}
 
