@@ -35,12 +35,12 @@ fn unfinished_line(room: &mut [u8], at: usize, session: Session) -> usize
 fn current_line(room: &mut [u8], at: usize, c: Connection) -> usize
     ensures { λ r. ⌜ Wrote (now (room .entry)) at (currentLine c) (now (room .exit)) r ⌝ }
 {
-    let mark = c.current;
-    if mark == 0 {
+    let plus_one = c.current;
+    if plus_one == 0 {
         return put(room, at, b"current -\n");
     }
     let a = put(room, at, b"current");
-    let b = put_number(room, a, (mark - 1) as u64);
+    let b = put_number(room, a, (plus_one - 1) as u64);
     put(room, b, b"\n")
 }
 

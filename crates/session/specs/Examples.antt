@@ -6,7 +6,7 @@ use Rattle.handshake.specs.Handshake.{refusalLine, statusLine, lf}
 use Rattle.session.specs.declared.Commit.the-variants as commit
 use Rattle.session.specs.declared.Answer.the-variants as answer
 use Rattle.session.specs.Answers.{refusalReply, isSizeLimit, isProtocolError, answerNumber, answerValues}
-use Rattle.session.specs.Session.{isBound, boundTo, noBinding, unbind, bindTo, rebind, rebindFrom, currentMark}
+use Rattle.session.specs.Session.{isBound, boundTo, noBinding, unbind, bindTo, rebind, rebindFrom, currentOf}
 
 -- the table of refusals
 no-replies : map refusalReply (1 ∷ 2 ∷ 3 ∷ 4 ∷ 14 ∷ 15 ∷ []) ≡ [] ∷ [] ∷ [] ∷ [] ∷ [] ∷ [] ∷ []
@@ -47,6 +47,6 @@ rebinding : rebindFrom 0 1 7
 unfolding rebindFrom rebind bindTo unbind boundTo isBound noBinding
 rebinding = refl
 
-marks : currentMark 0 ∷ currentMark 7 ∷ currentMark 8 ∷ [] ≡ 1 ∷ 8 ∷ 0 ∷ []
-unfolding currentMark
-marks = refl
+current-places : currentOf 0 ∷ currentOf 7 ∷ currentOf 8 ∷ [] ≡ 1 ∷ 8 ∷ 0 ∷ []
+unfolding currentOf
+current-places = refl

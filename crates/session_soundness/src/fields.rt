@@ -80,7 +80,7 @@ fn names_ok(c: Connection) -> bool
     name_within(c.remote_len, remote)
 }
 
-// Phase, closed mark, closing number and names.
+// Phase, closed or open, closing number and names.
 pub fn fields_ok(c: Connection) -> bool
     ensures { λ r. ⌜ r ≡ allOf (fieldTests c) ⌝ }
 {

@@ -2,8 +2,8 @@
 pub mod bindings;
 pub mod current;
 pub mod fields;
-pub mod marks;
-pub mod places;
+pub mod flags;
+pub mod free_places;
 pub mod refused;
 pub mod unfinished;
 

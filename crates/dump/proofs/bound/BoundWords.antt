@@ -22,19 +22,19 @@ use Rattle.text.proofs.LineWords.{line-2}
 use Rattle.dump.specs.RecordLines.{bindingLines, bindingsLines}
 
 -- ---- bound and previous IDs
-module _ (mark : ℕ) (text : List ℕ) {room : List ℕ} {at : ℕ} where
-  pub no-mark : (mark ≡ 1 → ⊥) → Wrote room at (cond (eqb mark 1) text []) room at
-  no-mark f = retold (sym (cond-false (eqb mark 1) text [] (ne-eqb mark 1 f))) (nothing room at)
+module _ (flag : ℕ) (text : List ℕ) {room : List ℕ} {at : ℕ} where
+  pub no-flag : (flag ≡ 1 → ⊥) → Wrote room at (cond (eqb flag 1) text []) room at
+  no-flag f = retold (sym (cond-false (eqb flag 1) text [] (ne-eqb flag 1 f))) (nothing room at)
 
-  pub marked : {x : List ℕ} {k : ℕ} → mark ≡ 1 → Wrote room at text x k → Wrote room at (cond (eqb mark 1) text []) x k
-  marked e w = retold (sym (cond-true (eqb mark 1) text [] (eq-eqb mark 1 e))) w
+  pub flagged : {x : List ℕ} {k : ℕ} → flag ≡ 1 → Wrote room at text x k → Wrote room at (cond (eqb flag 1) text []) x k
+  flagged e w = retold (sym (cond-true (eqb flag 1) text [] (eq-eqb flag 1 e))) w
 
-pub mark-line-is : (mark : ℕ) (first w v : List ℕ) {room x y z u : List ℕ} {at k m n o : ℕ} → mark ≡ 1
+pub flagged-line-is : (flag : ℕ) (first w v : List ℕ) {room x y z u : List ℕ} {at k m n o : ℕ} → flag ≡ 1
     → Wrote room at first x k → Wrote x k (spaced (w ∷ [])) y m → Wrote y m (spaced (v ∷ [])) z n → Wrote z n (10 ∷ []) u o
-    → Wrote room at (cond (eqb mark 1) (line first (w ∷ v ∷ [])) []) u o
-mark-line-is mark first w v e p q r t = marked mark (line first (w ∷ v ∷ [])) e (line-2 first p w q v r t)
+    → Wrote room at (cond (eqb flag 1) (line first (w ∷ v ∷ [])) []) u o
+flagged-line-is flag first w v e p q r t = flagged flag (line first (w ∷ v ∷ [])) e (line-2 first p w q v r t)
 
-pub ruleset marks = (needs, no-mark, mark-line-is)
+pub ruleset flags = (needs, no-flag, flagged-line-is)
 
 module _ (place : ℕ) (b : Binding) {room x y : List ℕ} {at k m : ℕ} where
   pub binding-is : Wrote room at (cond (eqb (b .bound) 1) (line (ascii "bound") (decimal place ∷ decimal (b .id) ∷ [])) []) x k

@@ -17,12 +17,12 @@ use Rattle.lists.proofs.Places.{place-from, from-here, from-next, from-end}
 use Rattle.session.specs.declared.Binding.{Binding}
 use Rattle.session.specs.declared.Connection.{Connection}
 use Rattle.session.proofs.Basics.{length-mapped, blank, told-true, told-false}
-use Rattle.session.specs.Session.{isBound, boundTo, findBound, bindingAt, currentMark, withTables, unbind, bindTo, rebind, rebindFrom, bind, commitTo, committed}
+use Rattle.session.specs.Session.{isBound, boundTo, findBound, bindingAt, currentOf, withTables, unbind, bindTo, rebind, rebindFrom, bind, commitTo, committed}
 
-pub now-bound : (c : Connection) (place id mark : ℕ) (bs : List Binding) → mark ≡ currentMark place → bs ≡ rebindFrom 0 place id (c .bindings)
-    → withTables c mark bs ≡ bind c place id
+pub now-bound : (c : Connection) (place id current : ℕ) (bs : List Binding) → current ≡ currentOf place → bs ≡ rebindFrom 0 place id (c .bindings)
+    → withTables c current bs ≡ bind c place id
 unfolding bind
-now-bound c place id mark bs e f = rw (e, f)
+now-bound c place id current bs e f = rw (e, f)
 
 pub commit-out : (c : Connection) (place update : ℕ) → length (c .bindings) ≡ 8 → 8 ≤ place → c ≡ committed c place update
 unfolding committed withTables

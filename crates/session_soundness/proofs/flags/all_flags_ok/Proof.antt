@@ -1,11 +1,11 @@
-use Rattle.session_soundness.specs.Sound.{marksOk}
+use Rattle.session_soundness.specs.Sound.{flagsOk}
 use Prim.Native.Nat.{_-_}
 use Rattle.session_soundness.proofs.EachBinding.{walking, Each}
-use Rattle.session_soundness.proofs.places.all_marks_ok.Statement.{statement}
-use Rattle.session_soundness.proofs.places.all_marks_ok.Tie as tie
+use Rattle.session_soundness.proofs.flags.all_flags_ok.Statement.{statement}
+use Rattle.session_soundness.proofs.flags.all_flags_ok.Tie as tie
 
 abbrev Inv-loop : tie.InvT-loop
-Inv-loop bindings i₀ i = Each marksOk bindings 0 i
+Inv-loop bindings i₀ i = Each flagsOk bindings 0 i
 
 abbrev μ-loop : tie.MeasureT-loop
 μ-loop bindings i₀ i = 8 - i
@@ -19,8 +19,8 @@ mul-b c = search walking
 array-copy-out-b : tie.Need-array-copy-out-b Inv-loop μ-loop
 array-copy-out-b c = search walking
 
-marks-ok-requires : tie.Need-marks-ok-requires Inv-loop μ-loop
-marks-ok-requires c κs = search walking
+flags-ok-requires : tie.Need-flags-ok-requires Inv-loop μ-loop
+flags-ok-requires c κs = search walking
 
 returns : tie.Need-returns Inv-loop μ-loop
 returns c = search walking
@@ -37,8 +37,8 @@ loop-again c = search walking
 returns-2 : tie.Need-returns-2 Inv-loop μ-loop
 returns-2 c = search walking
 
-pub all-marks-ok-spec : {M : Type 1} → statement M
-all-marks-ok-spec =
+pub all-flags-ok-spec : {M : Type 1} → statement M
+all-flags-ok-spec =
     tie.close
     (tie.spec
     Inv-loop
@@ -46,7 +46,7 @@ all-marks-ok-spec =
     loop-holds
     mul-b
     array-copy-out-b
-    marks-ok-requires
+    flags-ok-requires
     returns
     add-i
     loop-less

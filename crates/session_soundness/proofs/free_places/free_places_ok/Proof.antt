@@ -1,7 +1,7 @@
 use Prim.Native.Nat.{_-_}
-use Rattle.session_soundness.proofs.places.PlaceTests.{placing, Placing}
-use Rattle.session_soundness.proofs.places.places_ok.Statement.{statement}
-use Rattle.session_soundness.proofs.places.places_ok.Tie as tie
+use Rattle.session_soundness.proofs.free_places.PlaceTests.{placing, Placing}
+use Rattle.session_soundness.proofs.free_places.free_places_ok.Statement.{statement}
+use Rattle.session_soundness.proofs.free_places.free_places_ok.Tie as tie
 
 abbrev Inv-loop : tie.InvT-loop
 Inv-loop tables bindings i₀ i = Placing tables bindings i
@@ -42,8 +42,8 @@ loop-again c = search placing
 returns-2 : tie.Need-returns-2 Inv-loop μ-loop
 returns-2 c = search placing
 
-pub places-ok-spec : {M : Type 1} → statement M
-places-ok-spec =
+pub free-places-ok-spec : {M : Type 1} → statement M
+free-places-ok-spec =
     tie.close
     (tie.spec
     Inv-loop
