@@ -15,6 +15,7 @@ use reading::read;
 use session::Answer;
 use session::Session;
 use store::Store;
+use text::output::write;
 
 struct Run {
     session: Session,
@@ -23,12 +24,6 @@ struct Run {
 }
 
 // ---- output
-
-fn write(out: &[u8], n: usize) {
-    if n <= out.len() {
-        io::write_all(STDOUT_FILENO, &out[..n]);
-    }
-}
 
 fn title(text: &[u8]) {
     io::write_all(STDOUT_FILENO, b"# ");

@@ -1,2 +1,2 @@
-pub mod Lines
-pub mod StoreWordsLines
+pub mod RecordLines
+pub mod StoreLines

@@ -1,5 +1,4 @@
-// The bound and previous IDs of a session record in a lent room. Each function puts its text into the room from `at` on, as far as the room
-// reaches, and returns the position behind it.
+// The lines of a record's bound IDs and previous IDs.
 use session::Binding;
 use store::TABLES;
 use text::put;
@@ -10,13 +9,13 @@ ghost use lib.Dec.{eqb};
 ghost use Rattle.handshake.specs.Bytes.{decimal};
 ghost use Rattle.text.specs.Text.{line};
 ghost use Rattle.text.specs.Room.{Wrote};
-ghost use Rattle.dump.specs.Lines.{bindingLines, bindingsLines};
+ghost use Rattle.dump.specs.RecordLines.{bindingLines, bindingsLines};
 
-// A line of a word, a place and an ID, where the mark says that there is one.
-fn mark_line(room: &mut [u8], at: usize, mark: u8, word: &[u8], place: usize, id: u32) -> usize
-    ensures { λ r. ⌜ Wrote (now (room .entry)) at (cond (eqb mark 1) (line (now (word .entry)) (decimal place ∷ decimal id ∷ [])) []) (now (room .exit)) r ⌝ }
+// A line of a word, a place and an ID, where the flag says that there is one.
+fn flagged_line(room: &mut [u8], at: usize, flag: u8, word: &[u8], place: usize, id: u32) -> usize
+    ensures { λ r. ⌜ Wrote (now (room .entry)) at (cond (eqb flag 1) (line (now (word .entry)) (decimal place ∷ decimal id ∷ [])) []) (now (room .exit)) r ⌝ }
 {
-    if mark != 1 {
+    if flag != 1 {
         return at;
     }
     let a = put(room, at, word);
@@ -28,8 +27,8 @@ fn mark_line(room: &mut [u8], at: usize, mark: u8, word: &[u8], place: usize, id
 fn binding_lines(room: &mut [u8], at: usize, place: usize, b: Binding) -> usize
     ensures { λ r. ⌜ Wrote (now (room .entry)) at (bindingLines place b) (now (room .exit)) r ⌝ }
 {
-    let next = mark_line(room, at, b.bound, b"bound", place, b.id);
-    mark_line(room, next, b.updated, b"previous", place, b.previous)
+    let next = flagged_line(room, at, b.bound, b"bound", place, b.id);
+    flagged_line(room, next, b.updated, b"previous", place, b.previous)
 }
 
 pub fn bindings_lines(room: &mut [u8], at: usize, bindings: [Binding; TABLES]) -> usize

@@ -1,6 +1,5 @@
-// An entry's values in a lent room. Each function puts its text into the room from `at` on, as far as the room
-// reaches, and returns the position behind it.
-use crate::store_words::put_present;
+// The words of an entry's values.
+use crate::present_words::put_present;
 use store::Entry;
 use store::VALUES;
 use text::spaced::put_signed;
@@ -9,7 +8,7 @@ ghost use Rattle.handshake.specs.Bytes.{decimal};
 ghost use Rattle.store.specs.Limits.{slotTypes};
 ghost use Rattle.text.specs.Text.{signed, spaced};
 ghost use Rattle.text.specs.Room.{Wrote};
-ghost use Rattle.dump.specs.StoreWordsLines.{presentAmong, valuesOf};
+ghost use Rattle.dump.specs.StoreLines.{presentAmong, valuesOf};
 
 // The server ID with a space before it, if data type 0 is present.
 fn put_server(room: &mut [u8], at: usize, types: u32, id: i32) -> usize

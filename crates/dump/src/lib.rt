@@ -1,8 +1,8 @@
-// Record and store as lines, for `replay`.
+// Record and store as lines, for the program `replay`.
 pub mod bound;
 pub mod entry;
 pub mod lines;
 pub mod phase;
+pub mod present_words;
 pub mod record_lines;
-pub mod store_words;
 pub mod table;

@@ -1,9 +1,8 @@
-// Tables and entries as lines. Each function puts its text into a lent room from `at` on, as far as the room reaches, and returns the
-// position behind it.
+// The lines of a table and of an entry.
 use crate::entry::put_values;
-use crate::store_words::put_name;
 use crate::table::put_times;
 use crate::table::put_types;
+use listing::words::put_name;
 use store::Entry;
 use store::KEY_MAX;
 use store::Table;
@@ -15,7 +14,7 @@ ghost use Rattle.handshake.specs.Bytes.{decimal};
 ghost use Rattle.store.specs.Store.{nameOf, keyOf};
 ghost use Rattle.text.specs.Text.{hex, hexOrNone, signed, spaced};
 ghost use Rattle.text.specs.Room.{Wrote};
-ghost use Rattle.dump.specs.StoreWordsLines.{valuesOf, timesWords, tableLine, entryLine};
+ghost use Rattle.dump.specs.StoreLines.{valuesOf, timesWords, tableLine, entryLine};
 
 fn put_definition(room: &mut [u8], at: usize, t: Table) -> usize
     ensures { λ r. ⌜ Wrote (now (room .entry)) at (spaced (hex (nameOf t) ∷ decimal (t .«key_type») ∷ decimal (t .«key_len») ∷ decimal (t .«data_types») ∷ timesWords t)) (now (room .exit)) r ⌝ }

@@ -1,11 +1,10 @@
-// The first line of a session record in a lent room. Each function puts its text into the room from `at` on, as far as the room
-// reaches, and returns the position behind it.
+// The first line of a session record: its phase, or the number it was closed with.
 use session::Connection;
 use session::ESTABLISHED;
 use text::put;
 use text::spaced::put_number;
 ghost use Rattle.text.specs.Room.{Wrote};
-ghost use Rattle.dump.specs.Lines.{phaseLine};
+ghost use Rattle.dump.specs.RecordLines.{phaseLine};
 
 pub fn phase_line(room: &mut [u8], at: usize, c: Connection) -> usize
     ensures { λ r. ⌜ Wrote (now (room .entry)) at (phaseLine c) (now (room .exit)) r ⌝ }

@@ -1,5 +1,4 @@
-// A session record as lines. Each function puts its text into a lent room from `at` on, as far as the room reaches, and returns the
-// position behind it.
+// The lines of a session record.
 use crate::bound::bindings_lines;
 use crate::phase::phase_line;
 use session::Connection;
@@ -12,7 +11,7 @@ ghost use mathlib.Core.List.{[], _∷_};
 ghost use Rattle.session.specs.Session.{unfinished};
 ghost use Rattle.text.specs.Text.{hexOrNone, spaced};
 ghost use Rattle.text.specs.Room.{Wrote};
-ghost use Rattle.dump.specs.Lines.{unfinishedLine, currentLine, recordLines};
+ghost use Rattle.dump.specs.RecordLines.{unfinishedLine, currentLine, recordLines};
 
 fn put_unfinished(room: &mut [u8], at: usize, session: Session) -> usize
     ensures { λ r. ⌜ Wrote (now (room .entry)) at (spaced (hexOrNone (unfinished session) ∷ [])) (now (room .exit)) r ⌝ }
@@ -36,12 +35,12 @@ fn unfinished_line(room: &mut [u8], at: usize, session: Session) -> usize
 fn current_line(room: &mut [u8], at: usize, c: Connection) -> usize
     ensures { λ r. ⌜ Wrote (now (room .entry)) at (currentLine c) (now (room .exit)) r ⌝ }
 {
-    let mark = c.current;
-    if mark == 0 {
+    let plus_one = c.current;
+    if plus_one == 0 {
         return put(room, at, b"current -\n");
     }
     let a = put(room, at, b"current");
-    let b = put_number(room, a, (mark - 1) as u64);
+    let b = put_number(room, a, (plus_one - 1) as u64);
     put(room, b, b"\n")
 }
 

@@ -1,6 +1,5 @@
-// A table's types and times in a lent room. Each function puts its text into the room from `at` on, as far as the room
-// reaches, and returns the position behind it.
-use crate::store_words::put_present;
+// The words of a table's definition: its types, its expiry and its periods.
+use crate::present_words::put_present;
 use store::RATES;
 use store::Table;
 use text::spaced::put_number;
@@ -9,7 +8,7 @@ ghost use mathlib.Core.List.{[], _∷_, map};
 ghost use Rattle.handshake.specs.Bytes.{decimal};
 ghost use Rattle.text.specs.Text.{spaced};
 ghost use Rattle.text.specs.Room.{Wrote};
-ghost use Rattle.dump.specs.StoreWordsLines.{periodsOf, timesWords};
+ghost use Rattle.dump.specs.StoreLines.{periodsOf, timesWords};
 
 fn put_periods(room: &mut [u8], at: usize, t: Table) -> usize
     ensures { λ r. ⌜ Wrote (now (room .entry)) at (spaced (map decimal (periodsOf t))) (now (room .exit)) r ⌝ }

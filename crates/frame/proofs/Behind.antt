@@ -120,10 +120,6 @@ module _ (u v : List ℕ) where
   unfolding Onward
   waits-or-stays = split (onward u v) (λ q. inl (q .0)) (λ q. inr q)
 
-  -- A judgement that isn't waiting stays with more bytes behind.
-  pub frame-stays : (judgeFrame u ≡ frame.Waiting → ⊥) → judgeFrame (u ++ v) ≡ judgeFrame u
-  frame-stays h = split waits-or-stays (λ e. absurd (h e)) (λ e. e)
-
   -- Every first part of waiting bytes is waiting.
   pub waiting-first-part : judgeFrame (u ++ v) ≡ frame.Waiting → judgeFrame u ≡ frame.Waiting
   waiting-first-part h = split waits-or-stays (λ e. e) (λ e. sym e ∙ h)

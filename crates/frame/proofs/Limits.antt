@@ -10,7 +10,6 @@ use borrow.Author.Tests.{leb-true}
 use Rattle.wire.specs.declared.Int.{Int}
 use Rattle.wire.specs.declared.Int.the-variants as int
 use Rattle.wire.specs.Integer.{readInt}
-use Rattle.wire.specs.Value.{Bytes}
 use Rattle.wire.proofs.Order.{lt-or-le, split}
 use Rattle.wire.proofs.Advance.{advance}
 use Rattle.frame.specs.declared.Header.{Header}
@@ -104,14 +103,6 @@ module _ (u : List ℕ) where
   unfolding FrameFacts
   waiting-short e = subst (FrameFacts u) e (frame-facts u)
 
-  pub control-type : (type : ℕ) → judgeFrame u ≡ frame.Control type → type ≤ 4
-  unfolding FrameFacts
-  control-type type e = subst (FrameFacts u) e (frame-facts u)
-
-  pub error-type : (type : ℕ) → judgeFrame u ≡ frame.Error type → type ≤ 1
-  unfolding FrameFacts
-  error-type type e = subst (FrameFacts u) e (frame-facts u)
-
   pub refused-number : (n : ℕ) → judgeFrame u ≡ frame.Refused n → (20 ≤ n) × (n ≤ 22)
   unfolding FrameFacts
   refused-number n e = subst (FrameFacts u) e (frame-facts u)
@@ -120,6 +111,3 @@ module _ (u : List ℕ) where
     pub whole-facts : Whole u kind start end
     unfolding FrameFacts
     whole-facts = subst (FrameFacts u) e (frame-facts u)
-
-    pub whole-type : Bytes u → kind < 256
-    whole-type h = omega (arith, whole-facts .type, h .byte 1)

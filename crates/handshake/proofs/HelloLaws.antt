@@ -1,8 +1,8 @@
--- Laws of hello and status that layers above cite: what was judged stays with more bytes, a waiting one is short, the numbers of
--- refusals, and that accepted process numbers have 32 bits.
+-- Laws of hello and status that layers above cite: every first part of waiting bytes waits, waiting bytes are few, and the numbers of
+-- refusals.
 use Prim.Native.Nat.{ℕ, zero, suc, _+_, _-_, _^_, _≤_, _<_}
 use native.Mathlib.Omega.{arith}
-use mathlib.Core.Logic.{_⊎_, ⊎-elim}
+use mathlib.Core.Logic.{⊎-elim}
 use mathlib.Core.Path.{_≡_, refl, sym, subst, _∙_}
 use mathlib.Core.List.{List, [], _∷_, _++_}
 use mathlib.Core.Bool.{true, _&&_}
@@ -95,21 +95,11 @@ module _ (l r u v : List ℕ) where
   unfolding judgeHello
   kept-hello = kept-first (lineAt u 0) (lineAt (u ++ v) 0) refl (kept-line u v 0)
 
-stays : (x y : Hello) → KeptHello x y → (x ≡ hello.Waiting → ⊥) → y ≡ x
-unfolding KeptHello
-stays hello.Waiting y k n = absurd (n refl)
-stays (hello.Accepted p q) y k n = k
-stays (hello.Refused m) y k n = k
-
 waited : (x y : Hello) → KeptHello x y → y ≡ hello.Waiting → x ≡ hello.Waiting
 unfolding KeptHello
 waited hello.Waiting y k e = refl
 waited (hello.Accepted p q) y k e = sym k ∙ e
 waited (hello.Refused m) y k e = sym k ∙ e
-
--- a hello that is judged stays so with more bytes
-pub hello-stays : (l r u v : List ℕ) → (judgeHello l r u ≡ hello.Waiting → ⊥) → judgeHello l r (u ++ v) ≡ judgeHello l r u
-hello-stays l r u v n = stays (judgeHello l r u) (judgeHello l r (u ++ v)) (kept-hello l r u v) n
 
 -- each first part of a waiting hello waits
 pub hello-waited : (l r u v : List ℕ) → judgeHello l r (u ++ v) ≡ hello.Waiting → judgeHello l r u ≡ hello.Waiting
@@ -125,14 +115,6 @@ unfolding judgeStatus
 status-judged u v h =
     let k : 4 ≤ length (u ++ v) = omega (arith, length-append u v) in
     rw (le-ltb (length u) 4 h, le-ltb (length (u ++ v)) 4 k, take-append-le 4 u v h)
-
-pub status-stays : (u v : List ℕ) → (judgeStatus u ≡ status.Waiting → ⊥) → judgeStatus (u ++ v) ≡ judgeStatus u
-unfolding judgeStatus
-status-stays u v n =
-    ⊎-elim
-    (λ h. absurd (n (rw (lt-ltb (length u) 4 h))))
-    (λ h. status-judged u v h)
-    (lt-or-le (length u) 4)
 
 pub status-waited : (u v : List ℕ) → judgeStatus (u ++ v) ≡ status.Waiting → judgeStatus u ≡ status.Waiting
 unfolding judgeStatus
@@ -217,11 +199,6 @@ hello-is l r u = is-first l r u (lineAt u 0) refl
 pub hello-short : (l r u : List ℕ) → judgeHello l r u ≡ hello.Waiting → length u ≤ 194
 unfolding HelloIs
 hello-short l r u e = subst (HelloIs (length u)) e (hello-is l r u)
-
--- the process numbers of an accepted one have 32 bits
-pub hello-numbers : (l r u : List ℕ) (p q : ℕ) → judgeHello l r u ≡ hello.Accepted p q → (p < 2 ^ 32) × (q < 2 ^ 32)
-unfolding HelloIs
-hello-numbers l r u p q e = subst (HelloIs (length u)) e (hello-is l r u)
 
 -- the number of a refused one is 10, 11, 12 or 13
 pub hello-refusal : (l r u : List ℕ) (n : ℕ) → judgeHello l r u ≡ hello.Refused n → (10 ≤ n) × (n ≤ 13)

@@ -1,9 +1,5 @@
-pub mod Scans
-pub mod Judging
-pub mod LineEnds
-pub mod JudgingHello
-pub mod Statuses
 pub mod Decimals
-pub mod Putting
 pub mod HelloLaws
+pub mod LineEnds
+pub mod NameBytes
 pub mod RoundTrip

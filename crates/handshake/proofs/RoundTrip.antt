@@ -15,7 +15,7 @@ use Rattle.handshake.specs.Bytes.{oneOf, within, decimal, readDigits}
 use Rattle.handshake.specs.Handshake.{nameOk, greeting, version20, version21, space, lf, spaced, senderLine, ended, helloBytes, lineIn, lineAt, span, untilSpace, word, afterWord, partB, numberB, numbersB, greets, judgeNames, judgeNumbers, judgeThird, judgeLines, fromThird, fromSecond, fromFirst, judgeHello}
 use Rattle.lists.proofs.Cases.{and-first, and-second}
 use Rattle.handshake.proofs.Decimals.{within-append, decimal-some, decimal-few, decimal-within, decimal-reads}
-use Rattle.handshake.proofs.Putting.{first-line}
+use Rattle.handshake.proofs.writing.Putting.{first-line}
 
 -- ---- byte strings
 pub eq-same : (s : List ℕ) → eqBytes s s ≡ true

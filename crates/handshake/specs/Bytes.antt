@@ -1,5 +1,7 @@
--- Byte strings: ranges, decimal numbers, and bytes at the front of a room.
+-- Byte strings: texts, ranges, decimal numbers, and bytes at the front of a room.
 use Prim.Native.Nat.{ℕ, zero, suc, _+_, _*_, _-_, _/_, _%_}
+use Prim.Native.Char.{code}
+use Prim.Native.String.{String, [] as ε, _∷_ as _◃_}
 use mathlib.Core.List.{List, [], _∷_, _++_}
 use mathlib.Core.Bool.{Bool, true, false, cond, _&&_}
 use lib.Dec.{ltb, leb}
@@ -8,6 +10,11 @@ use Rattle.lists.specs.Lists.{eqBytes, front}
 use Rattle.handshake.specs.declared.Digits.{Digits}
 use Rattle.handshake.specs.declared.Written.{Written}
 use Rattle.handshake.specs.declared.Written.the-variants as written
+
+-- the bytes of a text in quotes
+abbrev pub ascii : String → List ℕ
+ascii ε = []
+ascii (c ◃ s) = code c ∷ ascii s
 
 -- s is one of the strings listed
 unfoldable pub oneOf : List ℕ → List (List ℕ) → Bool

@@ -15,7 +15,7 @@ use Rattle.handshake.specs.declared.Part.the-variants as part
 use Rattle.handshake.specs.declared.Number.{Number}
 use Rattle.handshake.specs.declared.Number.the-variants as number
 use Rattle.lists.specs.Lists.{eqBytes}
-use Rattle.handshake.specs.Bytes.{oneOf, within, decimal, readDigits}
+use Rattle.handshake.specs.Bytes.{ascii, oneOf, within, decimal, readDigits}
 
 -- ---- names
 
@@ -28,17 +28,16 @@ nameOk name = leb 1 (length name) && (leb (length name) peerNameMax && within 33
 
 -- ---- the hello
 
--- `HAProxyS` and a space
 unfoldable pub greeting : List ℕ
-greeting = 72 ∷ 65 ∷ 80 ∷ 114 ∷ 111 ∷ 120 ∷ 121 ∷ 83 ∷ 32 ∷ []
+greeting = ascii "HAProxyS "
 
--- `2.0` and `2.1`
 unfoldable pub version20 : List ℕ
-version20 = 50 ∷ 46 ∷ 48 ∷ []
+version20 = ascii "2.0"
 
 unfoldable pub version21 : List ℕ
-version21 = 50 ∷ 46 ∷ 49 ∷ []
+version21 = ascii "2.1"
 
+-- the byte of a space, and of LF
 abbrev pub spaceByte : ℕ
 spaceByte = 32
 
@@ -46,10 +45,10 @@ abbrev pub lfByte : ℕ
 lfByte = 10
 
 unfoldable pub space : List ℕ
-space = spaceByte ∷ []
+space = ascii " "
 
 unfoldable pub lf : List ℕ
-lf = lfByte ∷ []
+lf = ascii "\n"
 
 -- a space and a number
 unfoldable pub spaced : ℕ → List ℕ

@@ -1,4 +1,5 @@
-// Hello and status of the peers protocol: what their bytes come to, and which names may be given at opening.
+// The handshake of the peers protocol: a hello read and written, a status read, and which names may be given at opening.
+// The types that the modules share stand here.
 pub mod lines;
 pub mod names;
 pub mod reading;

@@ -1,4 +1,4 @@
-// A hello's version and names judged.
+// A hello's version and names judged, its form being right.
 use crate::Hello;
 use lists::same;
 ghost use mathlib.Core.Path.{_≡_};

@@ -1,4 +1,4 @@
-// Judging the unfinished bytes of a hello.
+// A hello judged: its three lines found, and their form tested.
 use crate::Hello;
 use crate::Line;
 use crate::Number;

@@ -1,4 +1,4 @@
-// The parts of the sender's line: bytes before a space, and decimal numbers.
+// The parts of the sender's line: the bytes before a space, and a decimal number read.
 ghost use mathlib.Core.Path.{_≡_};
 ghost use mathlib.Core.Bool.{true};
 ghost use Prim.Native.Nat.{_≤_, _<_};

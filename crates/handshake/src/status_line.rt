@@ -1,4 +1,4 @@
-// Judging the bytes of a status.
+// A status judged.
 ghost use mathlib.Core.Path.{_≡_};
 ghost use Rattle.handshake.specs.Bytes.{oneOf};
 ghost use Rattle.handshake.specs.Handshake.{failureLines, judgeStatus};

@@ -1,4 +1,4 @@
-// Writing the hello of a caller.
+// The hello of a caller written, and the decimal digits of a number.
 ghost use mathlib.Core.Path.{_≡_};
 ghost use Prim.Native.Nat.{_+_, _≤_};
 ghost use lib.ListN.{length};

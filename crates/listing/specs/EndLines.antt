@@ -2,10 +2,10 @@
 use Prim.Native.Nat.{ℕ}
 use mathlib.Core.List.{List, [], _∷_}
 use mathlib.Core.Bool.{cond}
-use Rattle.handshake.specs.Bytes.{decimal}
+use Rattle.handshake.specs.Bytes.{ascii, decimal}
 use Rattle.session.specs.declared.Session.{Session}
 use Rattle.session.specs.Session.{isClosed}
-use Rattle.text.specs.Text.{ascii, line}
+use Rattle.text.specs.Text.{line}
 
 -- "end open 0": "The last number counts unfinished bytes." "A closed session ends with `end closed` and its number."
 unfoldable pub endLine : Session → List ℕ

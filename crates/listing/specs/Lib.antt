@@ -1,4 +1,4 @@
-pub mod Lines
-pub mod WordsLines
+pub mod CallLines
+pub mod AnswerLines
 pub mod ReplyLines
 pub mod EndLines

@@ -1,5 +1,4 @@
-// The listing's line of an answer. Each function puts its text into a lent room from `at` on, as far as the room reaches, and returns the
-// position behind it.
+// The line of an answer.
 use crate::update::update_line;
 use crate::words::hello_line;
 use crate::words::number_line;
@@ -12,7 +11,7 @@ use session::Connection;
 use store::TABLES;
 use store::Table;
 ghost use Rattle.text.specs.Room.{Wrote};
-ghost use Rattle.listing.specs.WordsLines.{answerLine};
+ghost use Rattle.listing.specs.AnswerLines.{answerLine};
 
 // The line of an answer: the connection gives a hello's name, the tables that of a table.
 pub fn put_answer(

@@ -1,12 +1,11 @@
-// The listing's last line in a lent room. Each function puts its text into the room from `at` on, as far as the room
-// reaches, and returns the position behind it.
+// The last line.
 use session::Session;
 use text::put;
 use text::spaced::put_number;
 use text::spaced::put_word;
 ghost use mathlib.Core.List.{[], _∷_};
-ghost use Rattle.handshake.specs.Bytes.{decimal};
-ghost use Rattle.text.specs.Text.{ascii, line};
+ghost use Rattle.handshake.specs.Bytes.{ascii, decimal};
+ghost use Rattle.text.specs.Text.{line};
 ghost use Rattle.text.specs.Room.{Wrote};
 ghost use Rattle.listing.specs.EndLines.{endLine};
 

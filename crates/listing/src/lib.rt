@@ -1,4 +1,4 @@
-// The lines of one reading call in a lent room, from `at` on, as far as the room reaches.
+// The listing of a session: the lines of one reading call here, each kind of line in a module.
 pub mod answer;
 pub mod end;
 pub mod reply;
@@ -13,7 +13,7 @@ use store::TABLES;
 use store::Table;
 ghost use lib.ListN.{take};
 ghost use Rattle.text.specs.Room.{Wrote};
-ghost use Rattle.listing.specs.Lines.{callLines};
+ghost use Rattle.listing.specs.CallLines.{callLines};
 
 // The lines of one reading call. The position behind them is returned.
 pub fn put_call(

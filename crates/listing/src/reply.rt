@@ -1,5 +1,4 @@
-// The line of a reply in a lent room. Each function puts its text into the room from `at` on, as far as the room
-// reaches, and returns the position behind it.
+// The line of a reply.
 use text::put;
 use text::spaced::put_hex_word;
 ghost use lib.ListN.{take};

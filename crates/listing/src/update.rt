@@ -1,15 +1,14 @@
-// The line of an update in a lent room. Each function puts its text into the room from `at` on, as far as the room
-// reaches, and returns the position behind it.
+// The line of an update.
 use crate::words::put_numbers;
 use session::Commit;
 use text::put;
 use text::spaced::put_number;
 use text::spaced::put_word;
 ghost use mathlib.Core.List.{[], _∷_};
-ghost use Rattle.handshake.specs.Bytes.{decimal};
-ghost use Rattle.text.specs.Text.{ascii, spaced, line};
+ghost use Rattle.handshake.specs.Bytes.{ascii, decimal};
+ghost use Rattle.text.specs.Text.{spaced, line};
 ghost use Rattle.text.specs.Room.{Wrote};
-ghost use Rattle.listing.specs.WordsLines.{commitWord};
+ghost use Rattle.listing.specs.AnswerLines.{commitWord};
 
 fn put_commit(room: &mut [u8], at: usize, how: Commit) -> usize
     ensures { λ r. ⌜ Wrote (now (room .entry)) at (spaced (commitWord how ∷ [])) (now (room .exit)) r ⌝ }

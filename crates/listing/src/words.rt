@@ -1,20 +1,20 @@
-// Lines of a word and numbers, of a hello and of a table in a lent room. Each function puts its text into the room from `at` on, as far as the room
-// reaches, and returns the position behind it.
-use dump::store_words::put_name;
+// Lines of a word and numbers, the line of a hello and that of a table.
+use handshake::PEER_NAME_MAX;
 use session::Connection;
 use store::NAME_MAX;
 use store::TABLES;
 use store::Table;
 use text::put;
+use text::spaced::put_hex_word;
 use text::spaced::put_number;
 use text::spaced::put_word;
 ghost use mathlib.Core.Path.{_≡_};
 ghost use mathlib.Core.List.{[], _∷_};
 ghost use lib.ListN.{getD};
-ghost use Rattle.handshake.specs.Bytes.{decimal};
+ghost use Rattle.handshake.specs.Bytes.{ascii, decimal};
 ghost use Rattle.store.specs.Store.{nameOf, noTable};
 ghost use Rattle.session.specs.Session.{remoteName};
-ghost use Rattle.text.specs.Text.{ascii, hex, spaced, line};
+ghost use Rattle.text.specs.Text.{hex, spaced, line};
 ghost use Rattle.text.specs.Room.{Wrote};
 
 pub fn word_line(room: &mut [u8], at: usize, word: &[u8]) -> usize
@@ -54,7 +54,7 @@ fn put_peer(room: &mut [u8], at: usize, c: Connection) -> usize
 {
     let n = c.remote_len;
     let name = c.remote;
-    if n < NAME_MAX {
+    if n < PEER_NAME_MAX {
         return put_word(room, at, &name[..n]);
     }
     put_word(room, at, &name)
@@ -76,6 +76,18 @@ pub fn table_at(tables: [Table; TABLES], place: usize) -> Table
         return store::no_table();
     }
     tables[place]
+}
+
+// A table's name in hex.
+pub fn put_name(room: &mut [u8], at: usize, t: Table) -> usize
+    ensures { λ r. ⌜ Wrote (now (room .entry)) at (spaced (hex (nameOf t) ∷ [])) (now (room .exit)) r ⌝ }
+{
+    let n = t.name_len;
+    let name = t.name;
+    if n < NAME_MAX {
+        return put_hex_word(room, at, &name[..n]);
+    }
+    put_hex_word(room, at, &name)
 }
 
 pub fn table_line(room: &mut [u8], at: usize, place: usize, t: Table) -> usize

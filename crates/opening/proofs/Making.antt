@@ -1,27 +1,24 @@
 -- The code of opening: one law for each way to a result.
 use Prim.Native.Nat.{ℕ, _^_, _≤_, _<_}
 use native.Mathlib.Omega.{arith}
-use mathlib.Core.Path.{_≡_, refl, sym, ap, _∙_}
-use mathlib.Core.Bool.{Bool, true, false, cond, _&&_}
-use mathlib.Core.List.{List, [], _∷_, _++_}
-use lib.ListN.{length, replicate, drop}
+use mathlib.Core.Path.{_≡_, sym, ap, _∙_}
+use mathlib.Core.Bool.{true, false, _&&_}
+use mathlib.Core.List.{List, [], _++_}
+use lib.ListN.{length, drop}
 use lib.Dec.{ltb, leb}
 use borrow.Author.Needs.{needs}
 use borrow.Author.Tests.{lt-ltb, le-ltb, le-leb, leb-true}
-use Rattle.lists.specs.Lists.{padTo, front}
-use Rattle.lists.proofs.Cases.{and-first, and-second, and-true, and-false, cond-true, cond-false}
-use Rattle.lists.proofs.Bytes.{pad-nil}
+use Rattle.lists.specs.Lists.{front}
+use Rattle.lists.proofs.Cases.{and-first, and-second, cond-true, cond-false}
 use Rattle.handshake.specs.Bytes.{roomWith, writtenTo}
 use Rattle.handshake.specs.declared.Written.{Written}
 use Rattle.handshake.specs.declared.Written.the-variants as written
 use Rattle.handshake.specs.Handshake.{nameOk, helloBytes}
-use Rattle.handshake.proofs.Putting.{hello-most}
-use Rattle.session.specs.declared.Connection.{Connection}
+use Rattle.handshake.proofs.writing.Putting.{hello-most}
 use Rattle.session.specs.declared.Session.{Session}
-use Rattle.session.specs.declared.Answer.{Answer}
 use Rattle.session.specs.declared.Answer.the-variants as answer
-use Rattle.session.specs.Session.{holding, noBinding}
-use Rattle.session.proofs.Basics.{blank, told}
+use Rattle.session.specs.Session.{holding}
+use Rattle.session.proofs.Basics.{told}
 use Rattle.opening.specs.declared.Opened.{Opened}
 use Rattle.opening.specs.Opening.{Role, answerer, caller, openingReply, newConnection, opened, refusedOpening, refuseOpening, Opening, «open», openRoom, openedOf}
 

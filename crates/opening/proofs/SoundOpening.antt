@@ -61,13 +61,13 @@ module _ (phase : ℕ) (local remote : List ℕ) where
   unfolding isUpdated noBinding
   new-not-updated i t = never (sym (ap isUpdated (new-binding i)) ∙ t) refl
 
-  new-bound-mark : (i : ℕ) → bindingAt new i .bound ≤ 1
+  new-bound-flag : (i : ℕ) → bindingAt new i .bound ≤ 1
   unfolding noBinding
-  new-bound-mark i = subst (λ (b : Binding). b .bound ≤ 1) (sym (new-binding i)) (omega arith)
+  new-bound-flag i = subst (λ (b : Binding). b .bound ≤ 1) (sym (new-binding i)) (omega arith)
 
-  new-updated-mark : (i : ℕ) → bindingAt new i .updated ≤ 1
+  new-updated-flag : (i : ℕ) → bindingAt new i .updated ≤ 1
   unfolding noBinding
-  new-updated-mark i = subst (λ (b : Binding). b .updated ≤ 1) (sym (new-binding i)) (omega arith)
+  new-updated-flag i = subst (λ (b : Binding). b .updated ≤ 1) (sym (new-binding i)) (omega arith)
 
   pub new-facts : (ts : List Table) → phase ≤ 2 → nameOk local ≡ true → nameOk remote ≡ true → SoundConnection ts new
   unfolding newConnection
@@ -81,8 +81,8 @@ module _ (phase : ℕ) (local remote : List ℕ) where
         remoteLength = name-most remote b;
         local = ap nameOk (new-local (name-most local a)) ∙ a;
         remote = ap nameOk (new-remote (name-most remote b)) ∙ b;
-        boundMark = new-bound-mark;
-        updatedMark = new-updated-mark;
+        boundFlag = new-bound-flag;
+        updatedFlag = new-updated-flag;
         boundHeld = λ i t. absurd (new-unbound i t);
         updatedHeld = λ i t. absurd (new-not-updated i t);
         once = λ i j id t u. never (sym (ap (boundTo id) (new-binding i)) ∙ t) (unbound-past id);

@@ -1,25 +1,25 @@
 -- Opening at worked examples.
 use Prim.Native.Nat.{ℕ}
 use mathlib.Core.Path.{_≡_, refl}
-use mathlib.Core.Bool.{Bool, true, false}
+use mathlib.Core.Bool.{true}
 use mathlib.Core.List.{List, [], _∷_}
-use lib.ListN.{length, replicate}
+use lib.ListN.{replicate}
 use Rattle.lists.specs.Lists.{allOf, every, padTo}
 use Rattle.store.specs.Store.{emptyStore}
-use Rattle.handshake.specs.Bytes.{within}
+use Rattle.handshake.specs.Bytes.{ascii, within}
 use Rattle.handshake.specs.Handshake.{nameOk}
 use Rattle.session.specs.declared.Answer.{Answer}
 use Rattle.session.specs.declared.Answer.the-variants as answer
 use Rattle.session.specs.Session.{noBinding, holding}
 use Rattle.session_soundness.specs.Sound.{refusesOpening, emptyBinding, emptyBuffer, isRefusedOpening, soundSession}
-use Rattle.opening.specs.Opening.{Role, answerer, caller, newConnection, refusedOpening, «open»}
+use Rattle.opening.specs.Opening.{answerer, newConnection, refusedOpening, «open»}
 
 -- `east` and `west`
 abbrev east : List ℕ
-east = 101 ∷ 97 ∷ 115 ∷ 116 ∷ []
+east = ascii "east"
 
 abbrev west : List ℕ
-west = 119 ∷ 101 ∷ 115 ∷ 116 ∷ []
+west = ascii "west"
 
 -- the answers of an answerer with a name of our own and so much room
 abbrev answered : List ℕ → ℕ → Answer

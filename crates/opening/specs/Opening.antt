@@ -1,18 +1,16 @@
 -- Opening a session as answerer or caller.
 use Prim.Native.Nat.{ℕ}
-use mathlib.Core.List.{List, [], _∷_, _++_}
-use mathlib.Core.Bool.{Bool, true, false, cond, _&&_}
-use lib.ListN.{length, replicate}
+use mathlib.Core.List.{List, []}
+use mathlib.Core.Bool.{cond, _&&_}
+use lib.ListN.{length}
 use lib.Dec.{ltb}
-use Rattle.lists.specs.Lists.{padTo, front}
-use Rattle.store.specs.Limits.{tablePlaces}
-use Rattle.handshake.specs.Handshake.{nameOk, peerNameMax, helloBytes}
-use Rattle.session.specs.declared.Connection.{Connection}
+use Rattle.lists.specs.Lists.{front}
+use Rattle.handshake.specs.Handshake.{nameOk, helloBytes}
 use Rattle.session.specs.declared.Session.{Session}
 use Rattle.session.specs.declared.Answer.{Answer}
 use Rattle.session.specs.declared.Answer.the-variants as answer
 use Rattle.opening.specs.declared.Opened.{Opened}
-use Rattle.session.specs.Session.{holding, noBinding, awaitingHello, awaitingStatus}
+use Rattle.session.specs.Session.{holding, awaitingHello, awaitingStatus}
 -- a connection with these names: nothing bound, no current table
 unfoldable pub use Rattle.opening.specs.New.{newConnection}
 

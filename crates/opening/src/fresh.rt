@@ -1,4 +1,4 @@
-// A session record with names, nothing bound and nothing unfinished.
+// The names given at opening tested, and a session record with them, nothing bound and nothing unfinished.
 use handshake::PEER_NAME_MAX;
 use handshake::name_ok;
 use lists::pad;

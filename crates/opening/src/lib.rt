@@ -1,4 +1,4 @@
-// Opening a session as answerer or caller.
+// Opening a session as answerer or caller, and the record of a refused opening.
 pub mod fresh;
 
 use crate::fresh::names_given;

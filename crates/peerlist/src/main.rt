@@ -1,6 +1,5 @@
 // Lists what a peer sends: standard input is read as answerer `east`, which accepts `west`, in pieces as they come.
 use libc::STDIN_FILENO;
-use libc::STDOUT_FILENO;
 use listing::end::put_end;
 use listing::put_call;
 use opening::OPENING_ROOM;
@@ -9,6 +8,8 @@ use reading::REPLY_ROOM;
 use reading::read;
 use session::Session;
 use store::Store;
+use text::output::room_at;
+use text::output::write;
 
 // More than any call's lines need.
 const MARGIN: usize = 1024;
@@ -21,24 +22,6 @@ struct Run {
     taken: usize,
 }
 
-// Writes the first n bytes.
-fn write(out: &[u8], n: usize) {
-    if n <= out.len() {
-        io::write_all(STDOUT_FILENO, &out[..n]);
-    }
-}
-
-// The position for the next lines, where there is room for them.
-fn room_at(out: &[u8], next: usize) -> usize {
-    if next < out.len() {
-        if MARGIN <= out.len() - next {
-            return next;
-        }
-    }
-    write(out, next);
-    0
-}
-
 // One reading call, and its lines.
 fn list_call(run: Run, piece: &[u8], out: &mut [u8]) -> Run {
     let mut reply = [0u8; REPLY_ROOM];
@@ -49,7 +32,7 @@ fn list_call(run: Run, piece: &[u8], out: &mut [u8]) -> Run {
     let connection = session.connection;
     let tables = store.tables;
     let answer = outcome.answer;
-    let at = room_at(out, run.next);
+    let at = room_at(out, run.next, MARGIN);
     let next = put_call(
         out,
         at,

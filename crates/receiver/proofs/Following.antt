@@ -23,8 +23,8 @@ use Rattle.session.specs.declared.Commit.{Commit}
 use Rattle.session.specs.declared.Answer.{Answer}
 use Rattle.session.specs.declared.Answer.the-variants as answer
 use Rattle.session.specs.Answers.{refusalReply, isSizeLimit, isProtocolError}
-use Rattle.session.specs.Session.{bindingAt, noBinding, isBound, isUpdated, boundTo, closedWith, establish, makeCurrent, currentMark, withTables, bind, bindTo, unbind, committed, commitTo}
-use Rattle.session.proofs.Changing.{mark-of}
+use Rattle.session.specs.Session.{bindingAt, noBinding, isBound, isUpdated, boundTo, closedWith, establish, makeCurrent, currentOf, withTables, bind, bindTo, unbind, committed, commitTo}
+use Rattle.session.proofs.CurrentTable.{current-within}
 use Rattle.session.proofs.Bindings.{bound-here, bound-lost, bound-kept, bind-cases, commit-cases, committed-here, committed-other}
 use Rattle.message.specs.Effects.{Effect, refuse, note, peerError, control, controlAnswer, controlReply, defineAt, switchTo, commitAt, acknowledge}
 use Rattle.streams.specs.Model.{Ended}
@@ -180,7 +180,7 @@ current-some c place e =
 
 made-current : (c : Connection) (place : ℕ) → place < 8 → makeCurrent c place .current ≡ place + 1
 unfolding makeCurrent withTables
-made-current c place h = sym (mark-of place h)
+made-current c place h = sym (current-within place h)
 
 pub switch-follow : (c : Connection) (place : ℕ) (m : List ℕ) → place < 8 → Follow c m (note (makeCurrent c place) (answer.Switch place) [])
 unfolding note post switches
@@ -241,7 +241,7 @@ kept-id id b h =
 
 bound-current : (c : Connection) (place id : ℕ) → place < 8 → bind c place id .current ≡ place + 1
 unfolding bind withTables
-bound-current c place id h = sym (mark-of place h)
+bound-current c place id h = sym (current-within place h)
 
 module _ (c : Connection) (place id : ℕ) (h : place < 8) (long : length (c .bindings) ≡ 8) (l : Ledger) (f : Follows c l) where
   defines-bound : (p : ℕ) → defines l place id .bound p ≡ startLedger (bind c place id) .bound p

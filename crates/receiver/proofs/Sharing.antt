@@ -16,7 +16,7 @@ use Rattle.session.specs.declared.Connection.{Connection}
 use Rattle.session.specs.declared.Session.{Session}
 use Rattle.session.specs.declared.Answer.{Answer}
 use Rattle.session.specs.declared.Answer.the-variants as answer
-use Rattle.session.proofs.OneToOne.{RefusedBelow, answers-one-to-one}
+use Rattle.session.proofs.answers.OneToOne.{RefusedBelow, answers-one-to-one}
 use Rattle.session_soundness.specs.Sound.{sound, soundSession, soundConnection, unfinishedOk, isRefusedOpening}
 use Rattle.session_soundness.proofs.Facts.{heldAt, connection-facts, facts-connection}
 use Rattle.session_soundness.proofs.Keeping.{held-keeps}

@@ -9,7 +9,6 @@ use dump::lines::put_entry;
 use dump::lines::put_table;
 use dump::record_lines::put_record;
 use libc::STDIN_FILENO;
-use libc::STDOUT_FILENO;
 use listing::answer::put_answer;
 use listing::reply::put_reply;
 use opening::OPENING_ROOM;
@@ -23,6 +22,8 @@ use store::ENTRIES;
 use store::Store;
 use store::TABLES;
 use store::Table;
+use text::output::room_at;
+use text::output::write;
 use text::put;
 use text::spaced::put_number;
 
@@ -37,24 +38,6 @@ struct Run {
     session: Session,
     store: Store,
     next: usize,
-}
-
-// Writes the first n bytes.
-fn write(out: &[u8], n: usize) {
-    if n <= out.len() {
-        io::write_all(STDOUT_FILENO, &out[..n]);
-    }
-}
-
-// The position for the next lines, where there is room for them.
-fn room_at(out: &[u8], next: usize) -> usize {
-    if next < out.len() {
-        if MARGIN <= out.len() - next {
-            return next;
-        }
-    }
-    write(out, next);
-    0
 }
 
 // The next byte of the script, if it hasn't ended.
@@ -98,7 +81,7 @@ fn open_session(run: Run, store: Store, out: &mut [u8]) -> Run {
     let opened = open(role, &mut room);
     let session = opened.session;
     let outcome = opened.outcome;
-    let a = room_at(out, run.next);
+    let a = room_at(out, run.next, MARGIN);
     let b = put(out, a, b"open\n");
     let next = put_reply(out, b, &room, outcome.reply_len);
     Run {
@@ -140,7 +123,7 @@ fn call(run: Run, room: u8, piece: &[u8], out: &mut [u8]) -> Run {
     let store = step.store;
     let connection = session.connection;
     let tables = store.tables;
-    let a = room_at(out, run.next);
+    let a = room_at(out, run.next, MARGIN);
     let answer = outcome.answer;
     let b = put(out, a, b"took");
     let c = put_number(out, b, outcome.taken as u64);
@@ -208,7 +191,7 @@ fn dump_tables(next: usize, tables: [Table; TABLES], out: &mut [u8]) -> usize {
     let mut place = 0;
     while place < TABLES {
         let t = tables[place];
-        at = room_at(out, at);
+        at = room_at(out, at, MARGIN);
         at = put_table(out, at, place, t);
         place += 1;
     }
@@ -231,7 +214,7 @@ fn dump_entries(next: usize, store: Store, out: &mut [u8]) -> usize {
     while place < ENTRIES {
         let e = entries[place];
         let types = types_of(tables, e.table);
-        at = room_at(out, at);
+        at = room_at(out, at, MARGIN);
         at = put_entry(out, at, place, types, e);
         place += 1;
     }
@@ -241,7 +224,7 @@ fn dump_entries(next: usize, store: Store, out: &mut [u8]) -> usize {
 fn show(run: Run, out: &mut [u8]) -> Run {
     let store = run.store;
     let tables = store.tables;
-    let a = room_at(out, run.next);
+    let a = room_at(out, run.next, MARGIN);
     let b = put_record(out, a, run.session);
     let c = dump_tables(b, tables, out);
     let next = dump_entries(c, store, out);
@@ -303,7 +286,7 @@ fn main() {
     };
     let mut out = io::large_buffer();
     let a = run_all(run, &mut out);
-    let b = room_at(&out, a);
+    let b = room_at(&out, a, MARGIN);
     let n = put(&mut out, b, b"end\n");
     write(&out, n);
 }

@@ -3,20 +3,18 @@ use Prim.Native.Nat.{ℕ, zero, suc, _+_, _≤_, _<_}
 use native.Mathlib.Omega.{arith}
 use mathlib.Core.Path.{_≡_, refl, sym, ap, _∙_, subst}
 use mathlib.Core.Logic.{⊎-elim}
-use mathlib.Core.Bool.{Bool, true, false, cond, _&&_}
+use mathlib.Core.Bool.{true, false}
 use mathlib.Core.List.{List, [], _∷_}
-use lib.ListN.{length, set, getD, length-set, List·getD-eq-default}
+use lib.ListN.{length, getD, length-set, List·getD-eq-default}
 use lib.Seq.{getD-set-same, getD-set-other}
-use lib.Dec.{eqb}
-use borrow.Author.Tests.{eq-eqb, ne-eqb}
-use Rattle.lists.specs.declared.Found.the-variants.{At, Nothing}
-use Rattle.lists.proofs.Cases.{by-test, never, cond-true, cond-false, and-false, and-first, lt-or-le, eq-or-ne}
+use Rattle.lists.specs.declared.Found.the-variants.{At}
+use Rattle.lists.proofs.Cases.{by-test, never, lt-or-le, eq-or-ne}
 use Rattle.lists.proofs.Every.{getD-any}
-use Rattle.lists.proofs.Places.{First, first-is, first-at}
+use Rattle.lists.proofs.Places.{first-at}
 use Rattle.session.specs.declared.Binding.{Binding}
 use Rattle.session.specs.declared.Connection.{Connection}
 use Rattle.session.specs.Session.{isBound, boundTo, findBound, noBinding, bindingAt, withTables, unbind, bindTo, rebind, rebindFrom, bind, commitTo, committed}
-use Rattle.session.proofs.Changing.{rebind-here, rebind-lost, rebind-kept}
+use Rattle.session.proofs.bound_ids.BindingLoops.{rebind-here, rebind-lost, rebind-kept}
 
 -- ---- each place of the bindings after an ID was bound
 
@@ -97,10 +95,6 @@ module _ (c : Connection) (place id : ℕ) where
       (λ t. subst P (sym (bound-kept i g t)) (kept g)))
       (eq-or-ne i place)
 
-  here-bound : boundTo id (bindTo id (bindingAt c place)) ≡ true
-  unfolding boundTo isBound bindTo
-  here-bound = eq-eqb id id refl
-
   lost-unbound : (n : ℕ) (b : Binding) → boundTo n (unbind b) ≡ false
   unfolding boundTo isBound unbind
   lost-unbound n b = refl
@@ -111,21 +105,6 @@ module _ (c : Connection) (place id : ℕ) where
       by-test (boundTo id (bindingAt c i))
       (λ t. ap (boundTo id) (bound-lost i g t) ∙ lost-unbound id (bindingAt c i))
       (λ t. ap (boundTo id) (bound-kept i g t) ∙ t)
-
-  -- so the ID leads to this table
-  pub bound-found : place < length (c .bindings) → findBound (bind c place id) id ≡ At place
-  unfolding findBound
-  bound-found h =
-      first-is (boundTo id) (bind c place id .bindings) place
-      (record {
-        inside = omega (arith, bind-length);
-        passes = λ d. at place d (omega (arith, bind-length)) ∙ ap (boundTo id) (bound-here h) ∙ here-bound;
-        lower = λ j d l. let g : j ≡ place → ⊥ = λ e. omega arith in at j d (omega (arith, bind-length)) ∙ bound-only j g;
-      })
-    where
-      at : (i : ℕ) (d : Binding) → i < length (bind c place id .bindings)
-          → boundTo id (getD (bind c place id .bindings) i d) ≡ boundTo id (bindingAt (bind c place id) i)
-      at i d l = ap (boundTo id) (any-default (bind c place id) i d l)
 
 -- ---- the table that an ID leads to
 
@@ -163,7 +142,3 @@ module _ (c : Connection) (place update : ℕ) where
   pub committed-previous : place < length (c .bindings) → bindingAt (committed c place update) place .previous ≡ update
   unfolding commitTo
   committed-previous h = ap (λ (b : Binding). b .previous) (committed-here h)
-
-  pub committed-id : place < length (c .bindings) → bindingAt (committed c place update) place .id ≡ bindingAt c place .id
-  unfolding commitTo
-  committed-id h = ap (λ (b : Binding). b .id) (committed-here h)

@@ -1,6 +1,6 @@
 -- A record with given unfinished bytes.
 use Prim.Native.Nat.{ℕ, _≤_}
-use mathlib.Core.Path.{_≡_, refl}
+use mathlib.Core.Path.{_≡_}
 use mathlib.Core.List.{List}
 use lib.ListN.{length}
 use Rattle.lists.proofs.Bytes.{pad-take}
@@ -12,11 +12,3 @@ module _ (c : Connection) (u : List ℕ) where
   pub unfinished-held : length u ≤ 1027 → unfinished (holding c u) ≡ u
   unfolding unfinished holding
   unfinished-held l = pad-take 1027 u l
-
-  pub connection-held : holding c u .connection ≡ c
-  unfolding holding
-  connection-held = refl
-
-  pub length-held : holding c u .len ≡ length u
-  unfolding holding
-  length-held = refl

@@ -1,28 +1,25 @@
 -- The changes of a connection keep its shape.
-use Prim.Native.Nat.{ℕ, _+_, _^_, _≤_, _<_}
+use Prim.Native.Nat.{ℕ, _^_, _≤_, _<_}
 use native.Mathlib.Omega.{arith}
-use mathlib.Core.Path.{_≡_, refl, sym, ap, _∙_, subst}
+use mathlib.Core.Path.{_≡_, sym, _∙_, subst}
 use mathlib.Core.Logic.{⊎-elim}
-use mathlib.Core.Bool.{Bool, true, false}
-use mathlib.Core.List.{List, []}
+use mathlib.Core.List.{List}
 use lib.ListN.{length, getD, List·getD-eq-default}
 use Rattle.lists.specs.Lists.{padTo}
-use Rattle.lists.proofs.Cases.{by-test, lt-or-le, eq-or-ne}
+use Rattle.lists.proofs.Cases.{lt-or-le}
 use Rattle.lists.proofs.Bytes.{pad-length, pad-at}
-use Rattle.store.specs.Shape.{Cells}
 use Rattle.session.specs.declared.Binding.{Binding}
 use Rattle.session.specs.declared.Connection.{Connection}
-use Rattle.session.specs.declared.Session.{Session}
-use Rattle.session.specs.Session.{boundTo, noBinding, bindingAt, holding, closedWith, establish, withTables, currentMark, makeCurrent, unbind, bindTo, bind, commitTo, committed}
+use Rattle.session.specs.Session.{noBinding, bindingAt, holding, closedWith, establish, withTables, currentOf, makeCurrent, unbind, bindTo, bind, commitTo, committed}
 use Rattle.session.specs.Shape.{BindingShape, ConnectionShape, SessionShape}
-use Rattle.session.proofs.Changing.{mark-of, mark-none}
+use Rattle.session.proofs.CurrentTable.{current-within, current-past-last}
 use Rattle.session.proofs.Bindings.{bind-length, bind-cases, commit-length, commit-cases}
 
-pub mark-limit : (place : ℕ) → currentMark place ≤ 8
-mark-limit place = ⊎-elim (λ l. omega (arith, mark-of place l)) (λ l. omega (arith, mark-none place l)) (lt-or-le place 8)
+pub current-limit : (place : ℕ) → currentOf place ≤ 8
+current-limit place = ⊎-elim (λ l. omega (arith, current-within place l)) (λ l. omega (arith, current-past-last place l)) (lt-or-le place 8)
 
-mark-small : (place : ℕ) → currentMark place < 2 ^ 64
-mark-small place = omega (arith, mark-limit place)
+current-small : (place : ℕ) → currentOf place < 2 ^ 64
+current-small place = omega (arith, current-limit place)
 
 -- ---- a connection
 
@@ -59,10 +56,10 @@ module _ {c : Connection} (h : ConnectionShape c) where
         binding = h .binding;
       }
 
-  tables-shape : (mark : ℕ) (bs : List Binding) → mark < 2 ^ 64 → length bs ≡ 8 → ((i : ℕ) → i < 8 → BindingShape (getD bs i noBinding))
-      → ConnectionShape (withTables c mark bs)
+  tables-shape : (current : ℕ) (bs : List Binding) → current < 2 ^ 64 → length bs ≡ 8 → ((i : ℕ) → i < 8 → BindingShape (getD bs i noBinding))
+      → ConnectionShape (withTables c current bs)
   unfolding withTables bindingAt
-  tables-shape mark bs m l f =
+  tables-shape current bs m l f =
       record {
         phase = h .phase;
         closed = h .closed;
@@ -78,7 +75,7 @@ module _ {c : Connection} (h : ConnectionShape c) where
 
   pub current-shape : (place : ℕ) → ConnectionShape (makeCurrent c place)
   unfolding makeCurrent bindingAt
-  current-shape place = tables-shape (currentMark place) (c .bindings) (mark-small place) (h .places) (h .binding)
+  current-shape place = tables-shape (currentOf place) (c .bindings) (current-small place) (h .places) (h .binding)
 
   bind-to-shape : {b : Binding} {id : ℕ} → BindingShape b → id < 2 ^ 32 → BindingShape (bindTo id b)
   unfolding bindTo
@@ -102,7 +99,7 @@ module _ {c : Connection} (h : ConnectionShape c) where
   pub bind-shape : (place : ℕ) {id : ℕ} → id < 2 ^ 32 → ConnectionShape (bind c place id)
   unfolding bind withTables bindingAt
   bind-shape place {id} l =
-      tables-shape (currentMark place) (bind c place id .bindings) (mark-small place) (bind-length c place id ∙ h .places) (bind-each place l)
+      tables-shape (currentOf place) (bind c place id .bindings) (current-small place) (bind-length c place id ∙ h .places) (bind-each place l)
 
   commit-each : (place : ℕ) {update : ℕ} → update < 2 ^ 32 → (i : ℕ) → i < 8 → BindingShape (bindingAt (committed c place update) i)
   commit-each place {update} l i m =

@@ -1,15 +1,12 @@
 -- What the types of the code say of a binding, a connection and a session.
-use Prim.Native.Nat.{ℕ, _^_, _<_}
-use mathlib.Core.Path.{_≡_}
 use mathlib.Core.List.{List}
-use lib.ListN.{length, getD}
+use lib.ListN.{getD}
 use mir.Val.{Val, Fits}
 use mir.Syntax.{w8}
 use borrow.Author.Needs.{needs}
 use denote.Laws.{Is}
 use denote.Struct.Declared.{row}
 use Rattle.lists.proofs.Elements.{each-in-field}
-use Rattle.store.specs.Shape.{Cells}
 use Rattle.session.specs.declared.Binding.{Binding}
 use Rattle.session.specs.declared.Connection.{Connection}
 use Rattle.session.specs.declared.Session.{Session}

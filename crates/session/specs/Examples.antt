@@ -1,15 +1,12 @@
 -- Replies, answers and bindings at worked examples.
-use Prim.Native.Nat.{ℕ, _+_}
 use mathlib.Core.Path.{_≡_, refl}
-use mathlib.Core.Bool.{cond}
-use mathlib.Core.List.{List, [], _∷_, map}
-use Rattle.handshake.specs.Bytes.{decimal, decimalIn}
+use mathlib.Core.List.{[], _∷_, map}
+use Rattle.handshake.specs.Bytes.{ascii, decimal, decimalIn}
 use Rattle.handshake.specs.Handshake.{refusalLine, statusLine, lf}
-use Rattle.session.specs.declared.Binding.{Binding}
 use Rattle.session.specs.declared.Commit.the-variants as commit
 use Rattle.session.specs.declared.Answer.the-variants as answer
 use Rattle.session.specs.Answers.{refusalReply, isSizeLimit, isProtocolError, answerNumber, answerValues}
-use Rattle.session.specs.Session.{isBound, boundTo, noBinding, unbind, bindTo, rebind, rebindFrom, currentMark}
+use Rattle.session.specs.Session.{isBound, boundTo, noBinding, unbind, bindTo, rebind, rebindFrom, currentOf}
 
 -- the table of refusals
 no-replies : map refusalReply (1 ∷ 2 ∷ 3 ∷ 4 ∷ 14 ∷ 15 ∷ []) ≡ [] ∷ [] ∷ [] ∷ [] ∷ [] ∷ [] ∷ []
@@ -18,7 +15,7 @@ no-replies = refl
 
 -- `501`, `502`, `503`, `504`, each with LF
 status-replies : map refusalReply (10 ∷ 11 ∷ 12 ∷ 13 ∷ [])
-    ≡ (53 ∷ 48 ∷ 49 ∷ 10 ∷ []) ∷ (53 ∷ 48 ∷ 50 ∷ 10 ∷ []) ∷ (53 ∷ 48 ∷ 51 ∷ 10 ∷ []) ∷ (53 ∷ 48 ∷ 52 ∷ 10 ∷ []) ∷ []
+    ≡ ascii "501\n" ∷ ascii "502\n" ∷ ascii "503\n" ∷ ascii "504\n" ∷ []
 unfolding refusalReply isSizeLimit isProtocolError refusalLine statusLine decimal decimalIn lf
 status-replies = refl
 
@@ -50,6 +47,6 @@ rebinding : rebindFrom 0 1 7
 unfolding rebindFrom rebind bindTo unbind boundTo isBound noBinding
 rebinding = refl
 
-marks : currentMark 0 ∷ currentMark 7 ∷ currentMark 8 ∷ [] ≡ 1 ∷ 8 ∷ 0 ∷ []
-unfolding currentMark
-marks = refl
+current-places : currentOf 0 ∷ currentOf 7 ∷ currentOf 8 ∷ [] ≡ 1 ∷ 8 ∷ 0 ∷ []
+unfolding currentOf
+current-places = refl

@@ -1,8 +1,8 @@
 -- The session record: what it says, and how a refusal or an accepted handshake changes it.
-use Prim.Native.Nat.{ℕ, suc, _+_, _-_}
+use Prim.Native.Nat.{ℕ, _+_}
 use mathlib.Core.List.{List, [], _∷_}
-use mathlib.Core.Bool.{Bool, true, false, cond, _&&_}
-use lib.ListN.{length, take, getD, set, replicate}
+use mathlib.Core.Bool.{Bool, cond, _&&_}
+use lib.ListN.{length, take, getD, set}
 use lib.Dec.{eqb, ltb}
 use Rattle.lists.specs.declared.Found.{Found}
 use Rattle.lists.specs.Lists.{padTo, firstPlace}
@@ -107,13 +107,13 @@ withTables c current bindings = record {
   bindings = bindings;
 }
 
--- the mark of a current table: its place plus 1; a number past the last place marks none
-unfoldable pub currentMark : ℕ → ℕ
-currentMark place = cond (ltb place tablePlaces) (place + 1) 0
+-- what `current` holds for the table at a place: its place plus 1, and 0 past the last place
+unfoldable pub currentOf : ℕ → ℕ
+currentOf place = cond (ltb place tablePlaces) (place + 1) 0
 
 -- "this table becomes current"
 unfoldable pub makeCurrent : Connection → ℕ → Connection
-makeCurrent c place = withTables c (currentMark place) (c .bindings)
+makeCurrent c place = withTables c (currentOf place) (c .bindings)
 
 -- the place without its ID; its previous ID stays
 unfoldable pub unbind : Binding → Binding
@@ -133,7 +133,7 @@ rebindFrom i place id (b ∷ bs) = rebind i place id b ∷ rebindFrom (i + 1) pl
 
 -- ".. and this table becomes current."
 unfoldable pub bind : Connection → ℕ → ℕ → Connection
-bind c place id = withTables c (currentMark place) (rebindFrom 0 place id (c .bindings))
+bind c place id = withTables c (currentOf place) (rebindFrom 0 place id (c .bindings))
 
 -- "its last committed update ID"
 unfoldable pub commitTo : ℕ → Binding → Binding

@@ -1,7 +1,7 @@
 -- The shape of Rattle's values: how many elements each array has, and how large each number can be.
 use Prim.Native.Nat.{ℕ, _^_, _<_}
 use mathlib.Core.Path.{_≡_}
-use lib.ListN.{length, getD}
+use lib.ListN.{length}
 use Rattle.handshake.specs.Handshake.{peerNameMax}
 use Rattle.store.specs.Limits.{tablePlaces}
 use Rattle.store.specs.Shape.{Cells}

@@ -1,4 +1,4 @@
-// Numbers and values of answers.
+// The number and the values of an answer, as they go to hosts in C.
 use crate::Answer;
 use crate::Commit;
 use crate::Values;

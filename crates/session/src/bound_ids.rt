@@ -1,7 +1,7 @@
-// The tables that a session's IDs are bound to, and their last committed updates.
+// The bindings of a connection: which table an ID is bound to, an ID bound anew, and a table's last committed update.
 use crate::Binding;
 use crate::Connection;
-use crate::current_mark;
+use crate::current_of;
 use lists::Found;
 use store::TABLES;
 ghost use mathlib.Core.Path.{_≡_};
@@ -70,7 +70,7 @@ pub fn bind_table(c: Connection, place: usize, id: u32) -> Connection
     let bindings = c.bindings;
     let bs = rebind_all(bindings, place, id);
     let mut d = c;
-    d.current = current_mark(place);
+    d.current = current_of(place);
     d.bindings = bs;
     d
 }

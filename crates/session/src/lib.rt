@@ -1,5 +1,5 @@
-// The session record, one for each connection: what reading needs to know between two calls, as plain numbers.
-// The lender of a record can put any number anywhere; `sound_session`, of the crate `session_soundness`, says whether it is one that the rules allow with a store.
+// The session record, one for each connection: what reading needs to know between two calls, as plain numbers; and what a call answers.
+// The lender of a record can put any number anywhere: `session_ok`, of the crate `session_soundness`, says whether it is one that the rules allow with a store.
 pub mod answers;
 pub mod bound_ids;
 pub mod reply_bytes;
@@ -7,7 +7,7 @@ pub mod reply_bytes;
 use handshake::PEER_NAME_MAX;
 use store::TABLES;
 ghost use mathlib.Core.Path.{_≡_};
-ghost use Rattle.session.specs.Session.{closedWith, establish, currentMark, makeCurrent};
+ghost use Rattle.session.specs.Session.{closedWith, establish, currentOf, makeCurrent};
 
 // ---- limits
 
@@ -132,8 +132,9 @@ pub fn establish_connection(c: Connection) -> Connection
     d
 }
 
-pub fn current_mark(place: usize) -> usize
-    ensures { λ r. ⌜ r ≡ currentMark place ⌝ }
+// What `current` holds for the table at a place: its place plus 1, and 0 past the last place.
+pub fn current_of(place: usize) -> usize
+    ensures { λ r. ⌜ r ≡ currentOf place ⌝ }
 {
     if place < TABLES { place + 1 } else { 0 }
 }
@@ -143,6 +144,6 @@ pub fn make_current(c: Connection, place: usize) -> Connection
     ensures { λ r. ⌜ r ≡ makeCurrent c place ⌝ }
 {
     let mut d = c;
-    d.current = current_mark(place);
+    d.current = current_of(place);
     d
 }

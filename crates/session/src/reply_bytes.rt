@@ -1,4 +1,4 @@
-// Replies: to a hello, and to refusals.
+// The bytes of the replies to a hello and to refusals.
 use crate::Reply;
 use handshake::Hello;
 ghost use mathlib.Core.Path.{_≡_};

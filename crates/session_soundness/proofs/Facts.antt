@@ -18,7 +18,7 @@ use Rattle.handshake.specs.Handshake.{nameOk}
 use Rattle.session.specs.declared.Binding.{Binding}
 use Rattle.session.specs.declared.Connection.{Connection}
 use Rattle.session.specs.Session.{isClosed, localName, remoteName, isBound, isUpdated, boundTo, noBinding, bindingAt}
-use Rattle.session_soundness.specs.Sound.{phaseOk, closedOk, isClosing, numberOk, nameWithin, namesOk, marksOk, unmarked, placesOk, sameId, currentOk, soundConnection}
+use Rattle.session_soundness.specs.Sound.{phaseOk, closedOk, isClosing, numberOk, nameWithin, namesOk, flagsOk, noIds, freePlacesOk, sameId, currentOk, soundConnection}
 use Rattle.session.proofs.Bindings.{past-last, unbound-past, any-default}
 
 -- the table at a place is held; past the last none is
@@ -34,8 +34,8 @@ pub record SoundConnection (tables : List Table) (c : Connection) : Type 0 where
   pub remoteLength : c .«remote_len» ≤ 32
   pub local : nameOk (localName c) ≡ true
   pub remote : nameOk (remoteName c) ≡ true
-  pub boundMark : (i : ℕ) → bindingAt c i .bound ≤ 1
-  pub updatedMark : (i : ℕ) → bindingAt c i .updated ≤ 1
+  pub boundFlag : (i : ℕ) → bindingAt c i .bound ≤ 1
+  pub updatedFlag : (i : ℕ) → bindingAt c i .updated ≤ 1
   pub boundHeld : (i : ℕ) → isBound (bindingAt c i) ≡ true → heldAt tables i ≡ true
   pub updatedHeld : (i : ℕ) → isUpdated (bindingAt c i) ≡ true → heldAt tables i ≡ true
   pub once : (i j id : ℕ) → boundTo id (bindingAt c i) ≡ true → boundTo id (bindingAt c j) ≡ true → i ≡ j
@@ -43,7 +43,7 @@ pub record SoundConnection (tables : List Table) (c : Connection) : Type 0 where
   pub currentHeld : (p : ℕ) → c .current ≡ p + 1 → heldAt tables p ≡ true
   pub currentBound : (p : ℕ) → c .current ≡ p + 1 → isBound (bindingAt c p) ≡ true
 
--- ---- a place past the last binding has no marks
+-- ---- a place past the last binding has no flag set
 
 none-bound : isBound noBinding ≡ false
 unfolding isBound noBinding
@@ -53,9 +53,9 @@ none-updated : isUpdated noBinding ≡ false
 unfolding isUpdated noBinding
 none-updated = refl
 
-none-marks : marksOk noBinding ≡ true
-unfolding marksOk noBinding
-none-marks = refl
+none-flags : flagsOk noBinding ≡ true
+unfolding flagsOk noBinding
+none-flags = refl
 
 -- ---- an ID bound to a table
 
@@ -71,79 +71,79 @@ pub bound-to-own : (b : Binding) → isBound b ≡ true → boundTo (b .id) b �
 unfolding boundTo
 bound-to-own b h = and-intro (isBound b) (eqb (b .id) (b .id)) h (eq-eqb (b .id) (b .id) refl)
 
--- ---- marks
+-- ---- flags
 
 module _ (c : Connection) where
-  marks-at : every marksOk (c .bindings) ≡ true → (i : ℕ) → marksOk (bindingAt c i) ≡ true
-  marks-at h i =
+  flags-at : every flagsOk (c .bindings) ≡ true → (i : ℕ) → flagsOk (bindingAt c i) ≡ true
+  flags-at h i =
       ⊎-elim
-      (λ l. ap marksOk (sym (any-default c i noBinding l)) ∙ every-at marksOk (c .bindings) noBinding i h l)
-      (λ l. ap marksOk (past-last c i l) ∙ none-marks)
+      (λ l. ap flagsOk (sym (any-default c i noBinding l)) ∙ every-at flagsOk (c .bindings) noBinding i h l)
+      (λ l. ap flagsOk (past-last c i l) ∙ none-flags)
       (lt-or-le i (length (c .bindings)))
 
-  marks-from : ((i : ℕ) → marksOk (bindingAt c i) ≡ true) → every marksOk (c .bindings) ≡ true
-  marks-from f = every-from marksOk (c .bindings) noBinding (λ i l. ap marksOk (any-default c i noBinding l) ∙ f i)
+  flags-from : ((i : ℕ) → flagsOk (bindingAt c i) ≡ true) → every flagsOk (c .bindings) ≡ true
+  flags-from f = every-from flagsOk (c .bindings) noBinding (λ i l. ap flagsOk (any-default c i noBinding l) ∙ f i)
 
-marks-bound : (b : Binding) → marksOk b ≡ true → b .bound ≤ 1
-unfolding marksOk
-marks-bound b h = leb-true (b .bound) 1 (and-first (leb (b .bound) 1) (leb (b .updated) 1) h)
+flags-bound : (b : Binding) → flagsOk b ≡ true → b .bound ≤ 1
+unfolding flagsOk
+flags-bound b h = leb-true (b .bound) 1 (and-first (leb (b .bound) 1) (leb (b .updated) 1) h)
 
-marks-updated : (b : Binding) → marksOk b ≡ true → b .updated ≤ 1
-unfolding marksOk
-marks-updated b h = leb-true (b .updated) 1 (and-second (leb (b .bound) 1) (leb (b .updated) 1) h)
+flags-updated : (b : Binding) → flagsOk b ≡ true → b .updated ≤ 1
+unfolding flagsOk
+flags-updated b h = leb-true (b .updated) 1 (and-second (leb (b .bound) 1) (leb (b .updated) 1) h)
 
-marks-both : (b : Binding) → b .bound ≤ 1 → b .updated ≤ 1 → marksOk b ≡ true
-unfolding marksOk
-marks-both b p q = and-intro (leb (b .bound) 1) (leb (b .updated) 1) (le-leb (b .bound) 1 p) (le-leb (b .updated) 1 q)
+flags-both : (b : Binding) → b .bound ≤ 1 → b .updated ≤ 1 → flagsOk b ≡ true
+unfolding flagsOk
+flags-both b p q = and-intro (leb (b .bound) 1) (leb (b .updated) 1) (le-leb (b .bound) 1 p) (le-leb (b .updated) 1 q)
 
--- ---- places
+-- ---- free places
 
-unmarked-bound : (b : Binding) → unmarked b ≡ true → isBound b ≡ false
-unfolding unmarked
-unmarked-bound b h = not-true (isBound b) (and-first (not (isBound b)) (not (isUpdated b)) h)
+no-ids-bound : (b : Binding) → noIds b ≡ true → isBound b ≡ false
+unfolding noIds
+no-ids-bound b h = not-true (isBound b) (and-first (not (isBound b)) (not (isUpdated b)) h)
 
-unmarked-updated : (b : Binding) → unmarked b ≡ true → isUpdated b ≡ false
-unfolding unmarked
-unmarked-updated b h = not-true (isUpdated b) (and-second (not (isBound b)) (not (isUpdated b)) h)
+no-ids-updated : (b : Binding) → noIds b ≡ true → isUpdated b ≡ false
+unfolding noIds
+no-ids-updated b h = not-true (isUpdated b) (and-second (not (isBound b)) (not (isUpdated b)) h)
 
-unmarked-both : (b : Binding) → isBound b ≡ false → isUpdated b ≡ false → unmarked b ≡ true
-unfolding unmarked
-unmarked-both b p q = and-intro (not (isBound b)) (not (isUpdated b)) (ap not p) (ap not q)
+no-ids-both : (b : Binding) → isBound b ≡ false → isUpdated b ≡ false → noIds b ≡ true
+unfolding noIds
+no-ids-both b p q = and-intro (not (isBound b)) (not (isUpdated b)) (ap not p) (ap not q)
 
-none-unmarked : unmarked noBinding ≡ true
-none-unmarked = unmarked-both noBinding none-bound none-updated
+none-no-ids : noIds noBinding ≡ true
+none-no-ids = no-ids-both noBinding none-bound none-updated
 
-places-at : (ts : List Table) (bs : List Binding) (i : ℕ) → placesOk ts bs ≡ true → (heldAt ts i || unmarked (getD bs i noBinding)) ≡ true
-unfolding placesOk
-places-at ts [] i h = by-test (heldAt ts i) (λ t. or-true _ _ t) (λ t. or-false _ _ t ∙ none-unmarked)
+places-at : (ts : List Table) (bs : List Binding) (i : ℕ) → freePlacesOk ts bs ≡ true → (heldAt ts i || noIds (getD bs i noBinding)) ≡ true
+unfolding freePlacesOk
+places-at ts [] i h = by-test (heldAt ts i) (λ t. or-true _ _ t) (λ t. or-false _ _ t ∙ none-no-ids)
 places-at [] (b ∷ bs) zero h =
-    by-test (tableHeld noTable) (λ t. or-true _ _ t) (λ t. or-false _ _ t ∙ and-first (unmarked b) (placesOk [] bs) h)
-places-at [] (b ∷ bs) (suc i) h = places-at [] bs i (and-second (unmarked b) (placesOk [] bs) h)
-places-at (t ∷ ts) (b ∷ bs) zero h = and-first (tableHeld t || unmarked b) (placesOk ts bs) h
-places-at (t ∷ ts) (b ∷ bs) (suc i) h = places-at ts bs i (and-second (tableHeld t || unmarked b) (placesOk ts bs) h)
+    by-test (tableHeld noTable) (λ t. or-true _ _ t) (λ t. or-false _ _ t ∙ and-first (noIds b) (freePlacesOk [] bs) h)
+places-at [] (b ∷ bs) (suc i) h = places-at [] bs i (and-second (noIds b) (freePlacesOk [] bs) h)
+places-at (t ∷ ts) (b ∷ bs) zero h = and-first (tableHeld t || noIds b) (freePlacesOk ts bs) h
+places-at (t ∷ ts) (b ∷ bs) (suc i) h = places-at ts bs i (and-second (tableHeld t || noIds b) (freePlacesOk ts bs) h)
 
 none-held : tableHeld noTable ≡ false
 unfolding tableHeld noTable
 none-held = refl
 
-places-from : (ts : List Table) (bs : List Binding) → ((i : ℕ) → (heldAt ts i || unmarked (getD bs i noBinding)) ≡ true) → placesOk ts bs ≡ true
-unfolding placesOk
+places-from : (ts : List Table) (bs : List Binding) → ((i : ℕ) → (heldAt ts i || noIds (getD bs i noBinding)) ≡ true) → freePlacesOk ts bs ≡ true
+unfolding freePlacesOk
 places-from ts [] f = refl
 places-from [] (b ∷ bs) f =
-    and-intro (unmarked b) (placesOk [] bs) (sym (or-false (tableHeld noTable) (unmarked b) none-held) ∙ f 0) (places-from [] bs (λ i. f (suc i)))
-places-from (t ∷ ts) (b ∷ bs) f = and-intro (tableHeld t || unmarked b) (placesOk ts bs) (f 0) (places-from ts bs (λ i. f (suc i)))
+    and-intro (noIds b) (freePlacesOk [] bs) (sym (or-false (tableHeld noTable) (noIds b) none-held) ∙ f 0) (places-from [] bs (λ i. f (suc i)))
+places-from (t ∷ ts) (b ∷ bs) f = and-intro (tableHeld t || noIds b) (freePlacesOk ts bs) (f 0) (places-from ts bs (λ i. f (suc i)))
 
--- a mark asks for a held table
-held-for : (held : Bool) (b : Binding) → (held || unmarked b) ≡ true → (unmarked b ≡ true → ⊥) → held ≡ true
-held-for held b h g = by-test held (λ t. t) (λ t. absurd (g (sym (or-false held (unmarked b) t) ∙ h)))
+-- an ID asks for a held table
+held-for : (held : Bool) (b : Binding) → (held || noIds b) ≡ true → (noIds b ≡ true → ⊥) → held ≡ true
+held-for held b h g = by-test held (λ t. t) (λ t. absurd (g (sym (or-false held (noIds b) t) ∙ h)))
 
-held-or : (held : Bool) (b : Binding) → (isBound b ≡ true → held ≡ true) → (isUpdated b ≡ true → held ≡ true) → (held || unmarked b) ≡ true
+held-or : (held : Bool) (b : Binding) → (isBound b ≡ true → held ≡ true) → (isUpdated b ≡ true → held ≡ true) → (held || noIds b) ≡ true
 held-or held b f g =
     by-test held
-    (λ t. or-true held (unmarked b) t)
+    (λ t. or-true held (noIds b) t)
     (λ t.
-    or-false held (unmarked b) t
-    ∙ unmarked-both b (not-passed (isBound b) (λ e. never (f e) t)) (not-passed (isUpdated b) (λ e. never (g e) t)))
+    or-false held (noIds b) t
+    ∙ no-ids-both b (not-passed (isBound b) (λ e. never (f e) t)) (not-passed (isUpdated b) (λ e. never (g e) t)))
 
 -- ---- IDs bound twice
 
@@ -305,8 +305,8 @@ connection-facts tables c h₁ =
     let h₈ = all-rest _ _ h₇ in
     let number = all-first _ _ h₃ in
     let names = names-at c (all-first _ _ h₄) in
-    let marks = marks-at c (all-first _ _ h₅) in
-    let places : (i : ℕ) → (heldAt tables i || unmarked (bindingAt c i)) ≡ true = λ i. places-at tables (c .bindings) i (all-first _ _ h₆) in
+    let flags = flags-at c (all-first _ _ h₅) in
+    let places : (i : ℕ) → (heldAt tables i || noIds (bindingAt c i)) ≡ true = λ i. places-at tables (c .bindings) i (all-first _ _ h₆) in
     let current = current-at tables c (all-first _ _ h₈) in
     record {
       phase = phase-at c (all-first _ _ h₁);
@@ -317,10 +317,10 @@ connection-facts tables c h₁ =
       remoteLength = names .remoteLength;
       local = names .local;
       remote = names .remote;
-      boundMark = λ i. marks-bound (bindingAt c i) (marks i);
-      updatedMark = λ i. marks-updated (bindingAt c i) (marks i);
-      boundHeld = λ i t. held-for (heldAt tables i) (bindingAt c i) (places i) (λ u. never t (unmarked-bound (bindingAt c i) u));
-      updatedHeld = λ i t. held-for (heldAt tables i) (bindingAt c i) (places i) (λ u. never t (unmarked-updated (bindingAt c i) u));
+      boundFlag = λ i. flags-bound (bindingAt c i) (flags i);
+      updatedFlag = λ i. flags-updated (bindingAt c i) (flags i);
+      boundHeld = λ i t. held-for (heldAt tables i) (bindingAt c i) (places i) (λ u. never t (no-ids-bound (bindingAt c i) u));
+      updatedHeld = λ i t. held-for (heldAt tables i) (bindingAt c i) (places i) (λ u. never t (no-ids-updated (bindingAt c i) u));
       once = once-at c (all-first _ _ h₇);
       currentLimit = current .limit;
       currentHeld = current .held;
@@ -335,7 +335,7 @@ facts-connection {tables} {c} s =
     (all-intro _ _ (number-from c (s .closedNumber) (s .openNumber))
     (all-intro _ _
     (names-from c (record { localLength = s .localLength; remoteLength = s .remoteLength; local = s .local; remote = s .remote }))
-    (all-intro _ _ (marks-from c (λ i. marks-both (bindingAt c i) (s .boundMark i) (s .updatedMark i)))
+    (all-intro _ _ (flags-from c (λ i. flags-both (bindingAt c i) (s .boundFlag i) (s .updatedFlag i)))
     (all-intro _ _ (places-from tables (c .bindings) (λ i. held-or (heldAt tables i) (bindingAt c i) (s .boundHeld i) (s .updatedHeld i)))
     (all-intro _ _ (once-from c (s .once))
     (all-intro _ _ (current-from tables c (record { limit = s .currentLimit; held = s .currentHeld; bound = s .currentBound }))

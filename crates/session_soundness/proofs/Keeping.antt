@@ -14,8 +14,8 @@ use Rattle.session.specs.declared.Binding.{Binding}
 use Rattle.session.specs.declared.Connection.{Connection}
 use Rattle.session.specs.Session.{isClosed, localName, remoteName, isBound, isUpdated, boundTo, bindingAt, closedWith, establish, makeCurrent, withTables, unbind, bindTo, bind, commitTo, committed}
 use Rattle.session_soundness.specs.Sound.{isClosing}
-use Rattle.session.proofs.Changing.{mark-of}
-use Rattle.session.proofs.Shapes.{mark-limit}
+use Rattle.session.proofs.CurrentTable.{current-within}
+use Rattle.session.proofs.Shapes.{current-limit}
 use Rattle.session.proofs.Bindings.{bound-here, bound-only, bind-cases, commit-cases}
 use Rattle.session_soundness.proofs.Facts.{heldAt, SoundConnection, bound-to-id}
 
@@ -34,8 +34,8 @@ held-keeps f s =
       remoteLength = s .remoteLength;
       local = s .local;
       remote = s .remote;
-      boundMark = s .boundMark;
-      updatedMark = s .updatedMark;
+      boundFlag = s .boundFlag;
+      updatedFlag = s .updatedFlag;
       boundHeld = λ i t. f i (s .boundHeld i t);
       updatedHeld = λ i t. f i (s .updatedHeld i t);
       once = s .once;
@@ -75,8 +75,8 @@ module _ {tables : List Table} {c : Connection} (s : SoundConnection tables c) w
         remoteLength = s .remoteLength;
         local = s .local;
         remote = s .remote;
-        boundMark = s .boundMark;
-        updatedMark = s .updatedMark;
+        boundFlag = s .boundFlag;
+        updatedFlag = s .updatedFlag;
         boundHeld = s .boundHeld;
         updatedHeld = s .updatedHeld;
         once = s .once;
@@ -97,8 +97,8 @@ module _ {tables : List Table} {c : Connection} (s : SoundConnection tables c) w
         remoteLength = s .remoteLength;
         local = s .local;
         remote = s .remote;
-        boundMark = s .boundMark;
-        updatedMark = s .updatedMark;
+        boundFlag = s .boundFlag;
+        updatedFlag = s .updatedFlag;
         boundHeld = s .boundHeld;
         updatedHeld = s .updatedHeld;
         once = s .once;
@@ -107,11 +107,20 @@ module _ {tables : List Table} {c : Connection} (s : SoundConnection tables c) w
         currentBound = s .currentBound;
       }
 
-  -- another current table
-  pub current-keeps : (place : ℕ) → place < 8 → isBound (bindingAt c place) ≡ true → SoundConnection tables (makeCurrent c place)
-  unfolding makeCurrent withTables bindingAt localName remoteName isClosed
-  current-keeps place l b =
-      let m = mark-of place l in
+  -- what is to be shown of another current table and other bindings: all else stays
+  record SoundTables (d : Connection) : Type 0 where
+    boundFlag : (i : ℕ) → bindingAt d i .bound ≤ 1
+    updatedFlag : (i : ℕ) → bindingAt d i .updated ≤ 1
+    boundHeld : (i : ℕ) → isBound (bindingAt d i) ≡ true → heldAt tables i ≡ true
+    updatedHeld : (i : ℕ) → isUpdated (bindingAt d i) ≡ true → heldAt tables i ≡ true
+    once : (i j n : ℕ) → boundTo n (bindingAt d i) ≡ true → boundTo n (bindingAt d j) ≡ true → i ≡ j
+    currentLimit : d .current ≤ 8
+    currentHeld : (p : ℕ) → d .current ≡ p + 1 → heldAt tables p ≡ true
+    currentBound : (p : ℕ) → d .current ≡ p + 1 → isBound (bindingAt d p) ≡ true
+
+  tables-keep : (n : ℕ) (bs : List Binding) → SoundTables (withTables c n bs) → SoundConnection tables (withTables c n bs)
+  unfolding withTables localName remoteName isClosed
+  tables-keep n bs t =
       record {
         phase = s .phase;
         closed = s .closed;
@@ -121,15 +130,31 @@ module _ {tables : List Table} {c : Connection} (s : SoundConnection tables c) w
         remoteLength = s .remoteLength;
         local = s .local;
         remote = s .remote;
-        boundMark = s .boundMark;
-        updatedMark = s .updatedMark;
+        boundFlag = t .boundFlag;
+        updatedFlag = t .updatedFlag;
+        boundHeld = t .boundHeld;
+        updatedHeld = t .updatedHeld;
+        once = t .once;
+        currentLimit = t .currentLimit;
+        currentHeld = t .currentHeld;
+        currentBound = t .currentBound;
+      }
+
+  -- another current table
+  pub current-keeps : (place : ℕ) → place < 8 → isBound (bindingAt c place) ≡ true → SoundConnection tables (makeCurrent c place)
+  unfolding makeCurrent withTables bindingAt
+  current-keeps place l b =
+      let m = current-within place l in
+      tables-keep _ _ (record {
+        boundFlag = s .boundFlag;
+        updatedFlag = s .updatedFlag;
         boundHeld = s .boundHeld;
         updatedHeld = s .updatedHeld;
         once = s .once;
-        currentLimit = mark-limit place;
+        currentLimit = current-limit place;
         currentHeld = λ p e. let q : place ≡ p = omega arith in subst (λ (n : ℕ). heldAt tables n ≡ true) q (s .boundHeld place b);
         currentBound = λ p e. let q : place ≡ p = omega arith in subst (λ (n : ℕ). isBound (bindingAt c n) ≡ true) q b;
-      }
+      })
 
   -- an ID bound to a held table
   module _ (place id : ℕ) (l : place < 8) (long : length (c .bindings) ≡ 8) (held : heldAt tables place ≡ true) where
@@ -143,13 +168,13 @@ module _ {tables : List Table} {c : Connection} (s : SoundConnection tables c) w
     here-held : (i : ℕ) → i ≡ place → heldAt tables i ≡ true
     here-held i e = ap (heldAt tables) e ∙ held
 
-    bind-bound-mark : (i : ℕ) → bindingAt (bind c place id) i .bound ≤ 1
+    bind-bound-flag : (i : ℕ) → bindingAt (bind c place id) i .bound ≤ 1
     unfolding bindTo unbind
-    bind-bound-mark i = at (λ (b : Binding). b .bound ≤ 1) i (λ e. omega arith) (λ g. omega arith) (λ g. s .boundMark i)
+    bind-bound-flag i = at (λ (b : Binding). b .bound ≤ 1) i (λ e. omega arith) (λ g. omega arith) (λ g. s .boundFlag i)
 
-    bind-updated-mark : (i : ℕ) → bindingAt (bind c place id) i .updated ≤ 1
+    bind-updated-flag : (i : ℕ) → bindingAt (bind c place id) i .updated ≤ 1
     unfolding bindTo unbind
-    bind-updated-mark i = at (λ (b : Binding). b .updated ≤ 1) i (λ e. s .updatedMark place) (λ g. s .updatedMark i) (λ g. s .updatedMark i)
+    bind-updated-flag i = at (λ (b : Binding). b .updated ≤ 1) i (λ e. s .updatedFlag place) (λ g. s .updatedFlag i) (λ g. s .updatedFlag i)
 
     bind-bound-held : (i : ℕ) → isBound (bindingAt (bind c place id) i) ≡ true → heldAt tables i ≡ true
     unfolding isBound unbind
@@ -195,36 +220,28 @@ module _ {tables : List Table} {c : Connection} (s : SoundConnection tables c) w
 
     bind-current : bind c place id .current ≡ place + 1
     unfolding bind withTables
-    bind-current = sym (mark-of place l)
+    bind-current = sym (current-within place l)
 
     bind-current-bound : isBound (bindingAt (bind c place id) place) ≡ true
     unfolding isBound bindTo
     bind-current-bound = ap isBound (bound-here c place id (omega arith))
 
     pub bind-keeps : SoundConnection tables (bind c place id)
-    unfolding bind withTables localName remoteName isClosed
+    unfolding bind withTables
     bind-keeps =
-        record {
-          phase = s .phase;
-          closed = s .closed;
-          closedNumber = s .closedNumber;
-          openNumber = s .openNumber;
-          localLength = s .localLength;
-          remoteLength = s .remoteLength;
-          local = s .local;
-          remote = s .remote;
-          boundMark = bind-bound-mark;
-          updatedMark = bind-updated-mark;
+        tables-keep _ _ (record {
+          boundFlag = bind-bound-flag;
+          updatedFlag = bind-updated-flag;
           boundHeld = bind-bound-held;
           updatedHeld = bind-updated-held;
           once = bind-once;
-          currentLimit = mark-limit place;
+          currentLimit = current-limit place;
           currentHeld = λ p e. let q : place ≡ p = omega (arith, bind-current) in subst (λ (n : ℕ). heldAt tables n ≡ true) q held;
           currentBound =
               λ p e.
               let q : place ≡ p = omega (arith, bind-current) in
               subst (λ (n : ℕ). isBound (bindingAt (bind c place id) n) ≡ true) q bind-current-bound;
-        }
+        })
 
   -- an update committed to a held table
   module _ (place update : ℕ) (l : place < length (c .bindings)) (held : heldAt tables place ≡ true) where
@@ -232,13 +249,13 @@ module _ {tables : List Table} {c : Connection} (s : SoundConnection tables c) w
         → P (bindingAt (committed c place update) i)
     there P i = commit-cases c place update P i (λ e. l)
 
-    commit-bound-mark : (i : ℕ) → bindingAt (committed c place update) i .bound ≤ 1
+    commit-bound-flag : (i : ℕ) → bindingAt (committed c place update) i .bound ≤ 1
     unfolding commitTo
-    commit-bound-mark i = there (λ (b : Binding). b .bound ≤ 1) i (λ e. s .boundMark place) (λ g. s .boundMark i)
+    commit-bound-flag i = there (λ (b : Binding). b .bound ≤ 1) i (λ e. s .boundFlag place) (λ g. s .boundFlag i)
 
-    commit-updated-mark : (i : ℕ) → bindingAt (committed c place update) i .updated ≤ 1
+    commit-updated-flag : (i : ℕ) → bindingAt (committed c place update) i .updated ≤ 1
     unfolding commitTo
-    commit-updated-mark i = there (λ (b : Binding). b .updated ≤ 1) i (λ e. omega arith) (λ g. s .updatedMark i)
+    commit-updated-flag i = there (λ (b : Binding). b .updated ≤ 1) i (λ e. omega arith) (λ g. s .updatedFlag i)
 
     -- a bound ID stays where it was
     commit-had : (n i : ℕ) → boundTo n (bindingAt (committed c place update) i) ≡ boundTo n (bindingAt c i)
@@ -256,23 +273,15 @@ module _ {tables : List Table} {c : Connection} (s : SoundConnection tables c) w
         there (λ (b : Binding). isUpdated b ≡ true → heldAt tables i ≡ true) i (λ e t. ap (heldAt tables) e ∙ held) (λ g. s .updatedHeld i)
 
     pub commit-keeps : SoundConnection tables (committed c place update)
-    unfolding committed withTables localName remoteName isClosed
+    unfolding committed withTables
     commit-keeps =
-        record {
-          phase = s .phase;
-          closed = s .closed;
-          closedNumber = s .closedNumber;
-          openNumber = s .openNumber;
-          localLength = s .localLength;
-          remoteLength = s .remoteLength;
-          local = s .local;
-          remote = s .remote;
-          boundMark = commit-bound-mark;
-          updatedMark = commit-updated-mark;
+        tables-keep _ _ (record {
+          boundFlag = commit-bound-flag;
+          updatedFlag = commit-updated-flag;
           boundHeld = λ i t. s .boundHeld i (sym (commit-bound i) ∙ t);
           updatedHeld = commit-updated-held;
           once = λ i j n t u. s .once i j n (sym (commit-had n i) ∙ t) (sym (commit-had n j) ∙ u);
           currentLimit = s .currentLimit;
           currentHeld = s .currentHeld;
           currentBound = λ p e. commit-bound p ∙ s .currentBound p e;
-        }
+        })

@@ -1,5 +1,8 @@
+pub mod ArrayParts
+pub mod EachBinding
 pub mod Facts
+pub mod FourTests
 pub mod Keeping
-pub mod Waiting
-pub mod Testing
 pub mod Records
+pub mod RecordTests
+pub mod Waiting

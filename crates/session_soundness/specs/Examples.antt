@@ -1,14 +1,13 @@
 -- The tests of a record at worked examples.
-use Prim.Native.Nat.{ℕ}
 use mathlib.Core.Path.{_≡_, refl}
-use mathlib.Core.Bool.{Bool, true, false}
-use mathlib.Core.List.{List, [], _∷_, map}
+use mathlib.Core.Bool.{true, false}
+use mathlib.Core.List.{[], _∷_, map}
 use Rattle.lists.specs.Lists.{every, distinct}
 use Rattle.store.specs.declared.Table.{Table}
 use Rattle.store.specs.Store.{tableHeld, noTable}
 use Rattle.session.specs.declared.Binding.{Binding}
 use Rattle.session.specs.Session.{isBound, isUpdated, boundTo, noBinding}
-use Rattle.session_soundness.specs.Sound.{refusesOpening, isClosing, marksOk, unmarked, placesOk, sameId, firstParts}
+use Rattle.session_soundness.specs.Sound.{refusesOpening, isClosing, flagsOk, noIds, freePlacesOk, sameId, firstParts}
 
 -- which numbers close a session
 closing : map isClosing (0 ∷ 1 ∷ 2 ∷ 3 ∷ 4 ∷ 9 ∷ 10 ∷ 15 ∷ 16 ∷ 19 ∷ 20 ∷ 29 ∷ 30 ∷ [])
@@ -37,14 +36,14 @@ held = record {
 }
 
 -- at a held table, at a free place and past the last place
-places : placesOk (held ∷ []) (withId ∷ [])
-    ∷ placesOk (noTable ∷ []) (withId ∷ [])
-    ∷ placesOk (noTable ∷ []) (withPrevious ∷ [])
-    ∷ placesOk [] (withPrevious ∷ [])
-    ∷ placesOk (noTable ∷ []) (noBinding ∷ [])
+places : freePlacesOk (held ∷ []) (withId ∷ [])
+    ∷ freePlacesOk (noTable ∷ []) (withId ∷ [])
+    ∷ freePlacesOk (noTable ∷ []) (withPrevious ∷ [])
+    ∷ freePlacesOk [] (withPrevious ∷ [])
+    ∷ freePlacesOk (noTable ∷ []) (noBinding ∷ [])
     ∷ []
     ≡ true ∷ false ∷ false ∷ false ∷ true ∷ []
-unfolding placesOk unmarked tableHeld noTable isBound isUpdated noBinding
+unfolding freePlacesOk noIds tableHeld noTable isBound isUpdated noBinding
 places = refl
 
 -- one ID at two tables; places without ID don't count
@@ -52,9 +51,9 @@ ids : distinct sameId (withId ∷ noBinding ∷ withId ∷ []) ∷ distinct same
 unfolding distinct every sameId boundTo isBound noBinding
 ids = refl
 
-mark-values : every marksOk (record { bound = 2; updated = 0; id = 0; previous = 0 } ∷ []) ≡ false
-unfolding every marksOk
-mark-values = refl
+flag-values : every flagsOk (record { bound = 2; updated = 0; id = 0; previous = 0 } ∷ []) ≡ false
+unfolding every flagsOk
+flag-values = refl
 
 parts : firstParts (1 ∷ 2 ∷ []) ≡ [] ∷ (1 ∷ []) ∷ (1 ∷ 2 ∷ []) ∷ []
 unfolding firstParts

@@ -56,20 +56,21 @@ nameWithin n bytes = leb n peerNameMax && nameOk (take n bytes)
 unfoldable pub namesOk : Connection → Bool
 namesOk c = nameWithin (c .«local_len») (c .local) && nameWithin (c .«remote_len») (c .remote)
 
-unfoldable pub marksOk : Binding → Bool
-marksOk b = leb (b .bound) 1 && leb (b .updated) 1
+-- the flags of a binding are 0 or 1
+unfoldable pub flagsOk : Binding → Bool
+flagsOk b = leb (b .bound) 1 && leb (b .updated) 1
 
 -- ---- "an entry, bound ID, previous ID or current mark whose table isn't held"
 
 -- neither a bound ID nor a previous ID
-unfoldable pub unmarked : Binding → Bool
-unmarked b = not (isBound b) && not (isUpdated b)
+unfoldable pub noIds : Binding → Bool
+noIds b = not (isBound b) && not (isUpdated b)
 
 -- bound IDs and previous IDs stand at places of held tables alone
-unfoldable pub placesOk : List Table → List Binding → Bool
-placesOk ts [] = true
-placesOk [] (b ∷ bs) = unmarked b && placesOk [] bs
-placesOk (t ∷ ts) (b ∷ bs) = (tableHeld t || unmarked b) && placesOk ts bs
+unfoldable pub freePlacesOk : List Table → List Binding → Bool
+freePlacesOk ts [] = true
+freePlacesOk [] (b ∷ bs) = noIds b && freePlacesOk [] bs
+freePlacesOk (t ∷ ts) (b ∷ bs) = (tableHeld t || noIds b) && freePlacesOk ts bs
 
 -- "two tables with .. one bound ID"
 unfoldable pub sameId : Binding → Binding → Bool
@@ -127,7 +128,7 @@ fieldTests c = phaseOk c ∷ closedOk c ∷ numberOk c ∷ namesOk c ∷ []
 
 abbrev pub bindingTests : List Table → Connection → List Bool
 bindingTests tables c =
-    every marksOk (c .bindings) ∷ placesOk tables (c .bindings) ∷ distinct sameId (c .bindings) ∷ currentOk tables c ∷ []
+    every flagsOk (c .bindings) ∷ freePlacesOk tables (c .bindings) ∷ distinct sameId (c .bindings) ∷ currentOk tables c ∷ []
 
 unfoldable pub soundConnection : List Table → Connection → Bool
 soundConnection tables c = allOf (fieldTests c ++ bindingTests tables c)

@@ -1,7 +1,7 @@
-// Soundness of bound IDs, previous IDs and the current table.
+// The tests of a connection's bindings together: flags, free places, no ID bound twice, and the current table.
 use crate::current::current_ok;
-use crate::places::all_marks_ok;
-use crate::places::places_ok;
+use crate::flags::all_flags_ok;
+use crate::free_places::free_places_ok;
 use session::Binding;
 use session::Connection;
 use session::bound_ids::bound_to;
@@ -53,15 +53,15 @@ fn ids_apart(bindings: [Binding; TABLES]) -> bool
     true
 }
 
-// Marks, places, IDs bound twice and the current table.
+// Flags, free places, IDs bound twice and the current table.
 pub fn bindings_ok(tables: [Table; TABLES], c: Connection) -> bool
     ensures { λ r. ⌜ r ≡ allOf (bindingTests tables c) ⌝ }
 {
     let bindings = c.bindings;
-    if !all_marks_ok(bindings) {
+    if !all_flags_ok(bindings) {
         return false;
     }
-    if !places_ok(tables, bindings) {
+    if !free_places_ok(tables, bindings) {
         return false;
     }
     if !ids_apart(bindings) {

@@ -1,4 +1,4 @@
-// Soundness tested: the current table.
+// The test of the current table: it is held and has an ID.
 use session::Connection;
 use store::TABLES;
 use store::Table;
@@ -8,14 +8,14 @@ ghost use Rattle.session_soundness.specs.Sound.{currentOk};
 pub fn current_ok(tables: [Table; TABLES], c: Connection) -> bool
     ensures { λ r. ⌜ r ≡ currentOk tables c ⌝ }
 {
-    let mark = c.current;
-    if mark == 0 {
+    let plus_one = c.current;
+    if plus_one == 0 {
         return true;
     }
-    if TABLES < mark {
+    if TABLES < plus_one {
         return false;
     }
-    let place = mark - 1;
+    let place = plus_one - 1;
     let t = tables[place];
     if t.held != 1 {
         return false;

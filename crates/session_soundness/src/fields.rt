@@ -1,4 +1,4 @@
-// Soundness of a connection's fields: phase, closed mark, closing number and names.
+// The test of a connection's fields: phase, closed or open, closing number and names.
 use handshake::PEER_NAME_MAX;
 use handshake::name_ok;
 use session::Connection;
@@ -80,7 +80,7 @@ fn names_ok(c: Connection) -> bool
     name_within(c.remote_len, remote)
 }
 
-// Phase, closed mark, closing number and names.
+// Phase, closed or open, closing number and names.
 pub fn fields_ok(c: Connection) -> bool
     ensures { λ r. ⌜ r ≡ allOf (fieldTests c) ⌝ }
 {

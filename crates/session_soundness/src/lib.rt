@@ -1,9 +1,9 @@
-// Soundness of a session record with a store.
+// Whether the rules allow a session record with a store: "Not sound means", as far as it concerns the record. A module for each kind of fault.
 pub mod bindings;
 pub mod current;
 pub mod fields;
-pub mod marks;
-pub mod places;
+pub mod flags;
+pub mod free_places;
 pub mod refused;
 pub mod unfinished;
 

@@ -1,4 +1,4 @@
-// Whether a record is the one that a refused opening returns.
+// The test whether a record is the one that a refused opening returns.
 use crate::fields::refuses_opening;
 use lists::all_zero;
 use session::Binding;

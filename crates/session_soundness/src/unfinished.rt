@@ -1,4 +1,4 @@
-// Whether unfinished bytes end nothing and show no refusal, as a hello, a status or a message.
+// The test of unfinished bytes: as a hello, a status or a message they end nothing and show no refusal.
 use frame::Frame;
 use frame::judge_frame;
 use handshake::Hello;

@@ -1,2 +1,3 @@
+pub mod LineWords
+pub mod Prefixes
 pub mod Rooms
-pub mod Words

@@ -34,14 +34,6 @@ reached-next x b room text =
     let f : length room - 0 ≡ length room = omega arith in
     rw (e, f, suc-min-suc (length text) (length room)) (omega arith)
 
--- ---- a room has as many places afterwards
-pub filled-length : (room : List ℕ) (at : ℕ) (text : List ℕ) → length (filled room at text) ≡ length room
-unfolding filled
-filled-length [] at text = refl
-filled-length (x ∷ room) (suc at) text = ap suc (filled-length room at text)
-filled-length (x ∷ room) zero [] = refl
-filled-length (x ∷ room) zero (b ∷ text) = ap suc (filled-length room zero text)
-
 -- ---- two texts one after the other
 filled-twice : (room : List ℕ) (at : ℕ) (s t : List ℕ) → filled (filled room at s) (reached room at s) t ≡ filled room at (s ++ t)
 unfolding filled

@@ -2,6 +2,8 @@
 use Prim.Native.Nat.{ℕ, zero, suc, _+_, _-_, min}
 use mathlib.Core.Path.{_≡_}
 use mathlib.Core.List.{List, [], _∷_}
+use mathlib.Core.Bool.{Bool, cond, _&&_}
+use lib.Dec.{ltb, leb}
 use lib.ListN.{length}
 
 -- the text in the room from a position on, as far as the room reaches, and the rest of the room as it came
@@ -19,3 +21,11 @@ reached room at text = at + min (length text) (length room - at)
 pub record Wrote (room : List ℕ) (at : ℕ) (text final : List ℕ) (next : ℕ) : Type 0 where
   pub content : final ≡ filled room at text
   pub position : next ≡ reached room at text
+
+-- a text of at most so many bytes fits behind a position, in a room of some size
+unfoldable pub fitsBehind : ℕ → ℕ → ℕ → Bool
+fitsBehind size next most = ltb next size && leb most (size - next)
+
+-- the position for such a text: `next` where it fits behind, else the start
+unfoldable pub placeFor : ℕ → ℕ → ℕ → ℕ
+placeFor size next most = cond (fitsBehind size next most) next 0

@@ -1,17 +1,10 @@
 -- Numbers, bytes and lines as text.
 use Prim.Native.Nat.{ℕ, suc, _+_, _/_, _%_}
-use Prim.Native.Char.{code}
-use Prim.Native.String.{String, [] as ε, _∷_ as _◃_}
 use mathlib.Core.List.{List, [], _∷_, _++_}
 use mathlib.Core.Bool.{cond}
 use lib.Dec.{ltb}
 use lib.IntN.{ℤ, pos, negsuc}
-use Rattle.handshake.specs.Bytes.{decimal}
-
--- the bytes of a word in quotes
-abbrev pub ascii : String → List ℕ
-ascii ε = []
-ascii (c ◃ s) = code c ∷ ascii s
+use Rattle.handshake.specs.Bytes.{ascii, decimal}
 
 -- hex digits, in capitals: 0 to 9 are bytes 48 to 57, A to F bytes 65 to 70
 unfoldable pub hexDigit : ℕ → ℕ

@@ -1,5 +1,4 @@
-// Decimal numbers in a lent room. Each function puts its text into the room from `at` on, as far as the room reaches,
-// and returns the position behind it.
+// Decimal numbers, without a sign or with one.
 use crate::put;
 ghost use Rattle.handshake.specs.Bytes.{decimal};
 ghost use Rattle.text.specs.Text.{signed};

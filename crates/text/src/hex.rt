@@ -1,5 +1,4 @@
-// Hex digits in a lent room. Each function puts its text into the room from `at` on, as far as the room reaches,
-// and returns the position behind it.
+// Bytes in hex.
 use crate::put;
 ghost use mathlib.Core.Path.{_≡_};
 ghost use Prim.Native.Nat.{_<_, _/_, _%_};

@@ -1,7 +1,8 @@
-// Text in a lent room. Each function puts its text into the room from `at` on, as far as the room reaches,
-// and returns the position behind it.
+// Text in a lent room. Each function here and in the crates `listing` and `dump` that takes a room puts its text there from `at` on,
+// as far as the room reaches, and returns the position behind it.
 pub mod decimal;
 pub mod hex;
+pub mod output;
 pub mod spaced;
 
 ghost use Rattle.text.specs.Room.{Wrote};

@@ -1,5 +1,4 @@
-// Words of a line in a lent room, each with a space before it. Each function puts its text into the room from `at` on, as far as the room reaches,
-// and returns the position behind it.
+// The words of a line, each with a space before it.
 use crate::decimal::put_decimal;
 use crate::decimal::put_integer;
 use crate::hex::put_hex;

@@ -1,6 +1,6 @@
 use Prim.Native.Nat.{_-_}
 use lib.ListN.{length}
-use Rattle.handshake.proofs.Scans.{passing, Passing}
+use Rattle.handshake.proofs.NameBytes.{passing, Passing}
 use Rattle.handshake.proofs.bytes_within.Statement.{statement}
 use Rattle.handshake.proofs.bytes_within.Tie as tie
 

@@ -1,5 +1,4 @@
-use Rattle.handshake.proofs.Judging.{naming}
-use borrow.Author.Needs.{needs}
+use Rattle.handshake.proofs.NameBytes.{naming}
 use Rattle.handshake.proofs.name_ok.Statement.{statement}
 use Rattle.handshake.proofs.name_ok.Tie as tie
 

@@ -1,4 +1,4 @@
-use Rattle.listing.proofs.LineLaws.{call-more, call-lines}
+use Rattle.listing.proofs.CallLines.{call-more, call-lines}
 use borrow.Author.Needs.{needs}
 use Rattle.listing.proofs.put_call.Statement.{statement}
 use Rattle.listing.proofs.put_call.Tie as tie

@@ -1,6 +1,5 @@
 use Rattle.session.proofs.Basics.{told-not-true, told-not-false}
 use Rattle.opening.proofs.Making.{answering, small-result, small-room, name-result, name-room, answerer-result, answerer-room}
-use borrow.Author.Needs.{needs}
 use Rattle.opening.proofs.open_answerer.Statement.{statement}
 use Rattle.opening.proofs.open_answerer.Tie as tie
 

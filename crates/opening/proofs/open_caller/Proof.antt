@@ -2,7 +2,6 @@ use Prim.Native.Nat.{_^_, _<_}
 use native.Mathlib.Omega.{arith}
 use Rattle.session.proofs.Basics.{told-not-true, told-not-false}
 use Rattle.opening.proofs.Making.{calling, small-result, small-room, name-result, name-room, caller-result, caller-room, never-full}
-use borrow.Author.Needs.{needs}
 use Rattle.opening.proofs.open_caller.Statement.{statement}
 use Rattle.opening.proofs.open_caller.Tie as tie
 

@@ -1,4 +1,4 @@
-use Rattle.session_soundness.proofs.Testing.{connecting}
+use Rattle.session_soundness.proofs.RecordTests.{connecting}
 use Rattle.session_soundness.proofs.connection_ok.Statement.{statement}
 use Rattle.session_soundness.proofs.connection_ok.Tie as tie
 

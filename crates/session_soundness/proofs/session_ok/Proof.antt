@@ -1,4 +1,4 @@
-use Rattle.session_soundness.proofs.Testing.{sounding}
+use Rattle.session_soundness.proofs.RecordTests.{sounding}
 use Rattle.session_soundness.proofs.session_ok.Statement.{statement}
 use Rattle.session_soundness.proofs.session_ok.Tie as tie
 

@@ -1,4 +1,4 @@
-use Rattle.session_soundness.proofs.Testing.{unfinishing}
+use Rattle.session_soundness.proofs.RecordTests.{unfinishing}
 use Rattle.session_soundness.proofs.unfinished_ok.Statement.{statement}
 use Rattle.session_soundness.proofs.unfinished_ok.Tie as tie
 

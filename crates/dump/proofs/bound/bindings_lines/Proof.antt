@@ -1,5 +1,5 @@
 use Prim.Native.Nat.{_-_}
-use Rattle.dump.proofs.phase.LineLaws.{bounds, Bound}
+use Rattle.dump.proofs.bound.BoundWords.{bounds, Bound}
 use Rattle.dump.proofs.bound.bindings_lines.Statement.{statement}
 use Rattle.dump.proofs.bound.bindings_lines.Tie as tie
 

@@ -1,4 +1,4 @@
-use Rattle.dump.proofs.store_words.LineLaws.{servers}
+use Rattle.dump.proofs.entry.EntryWords.{servers}
 use Rattle.dump.proofs.entry.put_server.Statement.{statement}
 use Rattle.dump.proofs.entry.put_server.Tie as tie
 

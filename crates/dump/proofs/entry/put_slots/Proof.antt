@@ -2,7 +2,8 @@ use Prim.Native.Nat.{_-_}
 use native.Mathlib.Omega.{arith}
 use borrow.Author.Needs.{needs}
 use Rattle.store.specs.Limits.{slotTypes}
-use Rattle.dump.proofs.store_words.LineLaws.{along-slots, along-turn, Along}
+use Rattle.dump.proofs.entry.EntryWords.{along-slots}
+use Rattle.dump.proofs.PresentValues.{along-turn, Along}
 use Rattle.dump.proofs.entry.put_slots.Statement.{statement}
 use Rattle.dump.proofs.entry.put_slots.Tie as tie
 

@@ -1,4 +1,4 @@
-use Rattle.dump.proofs.store_words.LineLaws.{entry-words}
+use Rattle.dump.proofs.entry.EntryWords.{entry-values}
 use borrow.Author.Needs.{needs}
 use Rattle.dump.proofs.entry.put_values.Statement.{statement}
 use Rattle.dump.proofs.entry.put_values.Tie as tie
@@ -13,7 +13,7 @@ same-length : tie.Need-same-length
 same-length c = search needs
 
 returns : tie.Need-returns
-returns c = search entry-words
+returns c = search entry-values
 
 pub put-values-spec : {M : Type 1} → statement M
 put-values-spec = tie.close (tie.spec put-server-requires put-slots-requires same-length returns)

@@ -1,4 +1,4 @@
-use Rattle.dump.proofs.store_words.LineLaws.{entry-words}
+use Rattle.dump.proofs.lines.StoreWords.{entry-words}
 use borrow.Author.Needs.{needs}
 use Rattle.dump.proofs.lines.put_content.Statement.{statement}
 use Rattle.dump.proofs.lines.put_content.Tie as tie

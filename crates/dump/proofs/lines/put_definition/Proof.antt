@@ -1,4 +1,4 @@
-use Rattle.dump.proofs.store_words.LineLaws.{definitions}
+use Rattle.dump.proofs.lines.StoreWords.{definitions}
 use borrow.Author.Needs.{needs}
 use Rattle.dump.proofs.lines.put_definition.Statement.{statement}
 use Rattle.dump.proofs.lines.put_definition.Tie as tie

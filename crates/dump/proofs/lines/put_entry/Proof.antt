@@ -1,4 +1,4 @@
-use Rattle.dump.proofs.store_words.LineLaws.{store-lines}
+use Rattle.dump.proofs.lines.StoreWords.{store-lines}
 use borrow.Author.Needs.{needs}
 use Rattle.dump.proofs.lines.put_entry.Statement.{statement}
 use Rattle.dump.proofs.lines.put_entry.Tie as tie

@@ -1,4 +1,4 @@
-use Rattle.dump.proofs.phase.LineLaws.{phase-closed, phase-open, phase-handshake}
+use Rattle.dump.proofs.phase.PhaseWords.{phase-closed, phase-open, phase-handshake}
 use borrow.Author.Needs.{needs}
 use Rattle.dump.proofs.phase.phase_line.Statement.{statement}
 use Rattle.dump.proofs.phase.phase_line.Tie as tie

@@ -1,4 +1,4 @@
-use Rattle.dump.proofs.phase.LineLaws.{records}
+use Rattle.dump.proofs.record_lines.RecordWords.{records}
 use borrow.Author.Needs.{needs}
 use Rattle.dump.proofs.record_lines.put_record.Statement.{statement}
 use Rattle.dump.proofs.record_lines.put_record.Tie as tie

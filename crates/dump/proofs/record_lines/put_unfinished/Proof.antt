@@ -1,13 +1,13 @@
-use Rattle.dump.proofs.phase.LineLaws.{prefixes}
+use Rattle.dump.proofs.record_lines.RecordWords.{unfinishing}
 use borrow.Author.Needs.{needs}
 use Rattle.dump.proofs.record_lines.put_unfinished.Statement.{statement}
 use Rattle.dump.proofs.record_lines.put_unfinished.Tie as tie
 
 array-share-prefix-buffer : tie.Need-array-share-prefix-buffer
-array-share-prefix-buffer c = search prefixes
+array-share-prefix-buffer c = search unfinishing
 
 slice-aggregate-put-bytes : tie.Need-slice-aggregate-put-bytes
-slice-aggregate-put-bytes c = search prefixes
+slice-aggregate-put-bytes c = search unfinishing
 
 put-bytes-requires : tie.Need-put-bytes-requires
 put-bytes-requires c κs = search needs
@@ -16,7 +16,7 @@ same-length : tie.Need-same-length
 same-length c = search needs
 
 returns : tie.Need-returns
-returns c = search prefixes
+returns c = search unfinishing
 
 slice-aggregate-put-bytes-2 : tie.Need-slice-aggregate-put-bytes-2
 slice-aggregate-put-bytes-2 c = search needs
@@ -28,7 +28,7 @@ same-length-2 : tie.Need-same-length-2
 same-length-2 c = search needs
 
 returns-2 : tie.Need-returns-2
-returns-2 c = search prefixes
+returns-2 c = search unfinishing
 
 pub put-unfinished-spec : {M : Type 1} → statement M
 put-unfinished-spec =

@@ -2,7 +2,8 @@ use Prim.Native.Nat.{_-_}
 use native.Mathlib.Omega.{arith}
 use borrow.Author.Needs.{needs}
 use Rattle.store.specs.Limits.{rateTypes}
-use Rattle.dump.proofs.store_words.LineLaws.{along-periods, along-turn, Along}
+use Rattle.dump.proofs.table.DefinitionWords.{along-periods}
+use Rattle.dump.proofs.PresentValues.{along-turn, Along}
 use Rattle.dump.proofs.table.put_periods.Statement.{statement}
 use Rattle.dump.proofs.table.put_periods.Tie as tie
 

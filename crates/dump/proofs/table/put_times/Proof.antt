@@ -1,4 +1,4 @@
-use Rattle.dump.proofs.store_words.LineLaws.{no-times, times}
+use Rattle.dump.proofs.table.DefinitionWords.{no-times, times}
 use borrow.Author.Needs.{needs}
 use Rattle.dump.proofs.table.put_times.Statement.{statement}
 use Rattle.dump.proofs.table.put_times.Tie as tie

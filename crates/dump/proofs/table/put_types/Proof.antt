@@ -1,4 +1,4 @@
-use Rattle.dump.proofs.store_words.LineLaws.{types-words, three-words}
+use Rattle.dump.proofs.table.DefinitionWords.{types-words, three-words}
 use Rattle.dump.proofs.table.put_types.Statement.{statement}
 use Rattle.dump.proofs.table.put_types.Tie as tie
 

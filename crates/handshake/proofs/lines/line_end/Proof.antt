@@ -1,6 +1,6 @@
 use Prim.Native.Nat.{_-_}
 use lib.ListN.{length}
-use Rattle.handshake.proofs.Scans.{walking, Walking}
+use Rattle.handshake.proofs.lines.LineLoop.{walking, Walking}
 use Rattle.handshake.proofs.lines.line_end.Statement.{statement}
 use Rattle.handshake.proofs.lines.line_end.Tie as tie
 

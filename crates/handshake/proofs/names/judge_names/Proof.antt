@@ -1,5 +1,4 @@
-use Rattle.handshake.proofs.Judging.{judging-names}
-use borrow.Author.Needs.{needs}
+use Rattle.handshake.proofs.names.KnownNames.{judging-names}
 use Rattle.handshake.proofs.names.judge_names.Statement.{statement}
 use Rattle.handshake.proofs.names.judge_names.Tie as tie
 

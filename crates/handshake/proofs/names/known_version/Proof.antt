@@ -1,5 +1,4 @@
-use Rattle.handshake.proofs.Judging.{versions}
-use borrow.Author.Needs.{needs}
+use Rattle.handshake.proofs.names.KnownNames.{versions}
 use Rattle.handshake.proofs.names.known_version.Statement.{statement}
 use Rattle.handshake.proofs.names.known_version.Tie as tie
 

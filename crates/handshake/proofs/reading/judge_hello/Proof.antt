@@ -1,5 +1,4 @@
-use Rattle.handshake.proofs.JudgingHello.{judging-hello}
-use borrow.Author.Needs.{needs}
+use Rattle.handshake.proofs.reading.ThreeLines.{judging-hello}
 use Rattle.handshake.proofs.reading.judge_hello.Statement.{statement}
 use Rattle.handshake.proofs.reading.judge_hello.Tie as tie
 

@@ -1,5 +1,4 @@
-use Rattle.handshake.proofs.Judging.{judging-lines}
-use borrow.Author.Needs.{needs}
+use Rattle.handshake.proofs.reading.ThreeLines.{judging-lines}
 use Rattle.handshake.proofs.reading.judge_lines.Statement.{statement}
 use Rattle.handshake.proofs.reading.judge_lines.Tie as tie
 

@@ -1,5 +1,4 @@
-use Rattle.handshake.proofs.Judging.{judging-numbers}
-use borrow.Author.Needs.{needs}
+use Rattle.handshake.proofs.reading.ThirdLine.{judging-numbers}
 use Rattle.handshake.proofs.reading.judge_numbers.Statement.{statement}
 use Rattle.handshake.proofs.reading.judge_numbers.Tie as tie
 

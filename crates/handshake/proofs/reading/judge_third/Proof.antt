@@ -1,5 +1,4 @@
-use Rattle.handshake.proofs.Judging.{judging-third}
-use borrow.Author.Needs.{needs}
+use Rattle.handshake.proofs.reading.ThirdLine.{judging-third}
 use Rattle.handshake.proofs.reading.judge_third.Statement.{statement}
 use Rattle.handshake.proofs.reading.judge_third.Tie as tie
 

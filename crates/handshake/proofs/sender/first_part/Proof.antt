@@ -1,5 +1,4 @@
-use Rattle.handshake.proofs.Judging.{parting}
-use borrow.Author.Needs.{needs}
+use Rattle.handshake.proofs.sender.Spaces.{parting}
 use Rattle.handshake.proofs.sender.first_part.Statement.{statement}
 use Rattle.handshake.proofs.sender.first_part.Tie as tie
 

@@ -1,6 +1,6 @@
 use Prim.Native.Nat.{_-_}
 use lib.ListN.{length}
-use Rattle.handshake.proofs.Scans.{summing, Summing}
+use Rattle.handshake.proofs.sender.Numbers.{summing, Summing}
 use Rattle.handshake.proofs.sender.read_digits.Statement.{statement}
 use Rattle.handshake.proofs.sender.read_digits.Tie as tie
 

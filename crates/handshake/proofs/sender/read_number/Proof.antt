@@ -1,5 +1,4 @@
-use Rattle.handshake.proofs.Judging.{numbering}
-use borrow.Author.Needs.{needs}
+use Rattle.handshake.proofs.sender.Numbers.{numbering}
 use Rattle.handshake.proofs.sender.read_number.Statement.{statement}
 use Rattle.handshake.proofs.sender.read_number.Tie as tie
 

@@ -1,6 +1,6 @@
 use Prim.Native.Nat.{_-_}
 use lib.ListN.{length}
-use Rattle.handshake.proofs.Scans.{seeking, Seeking}
+use Rattle.handshake.proofs.sender.Spaces.{seeking, Seeking}
 use Rattle.handshake.proofs.sender.until_space.Statement.{statement}
 use Rattle.handshake.proofs.sender.until_space.Tie as tie
 

@@ -1,5 +1,4 @@
-use Rattle.handshake.proofs.Statuses.{judging-status}
-use borrow.Author.Needs.{needs}
+use Rattle.handshake.proofs.status_line.Statuses.{judging-status}
 use Rattle.handshake.proofs.status_line.judge_status.Statement.{statement}
 use Rattle.handshake.proofs.status_line.judge_status.Tie as tie
 

@@ -1,5 +1,4 @@
-use Rattle.handshake.proofs.Statuses.{failures}
-use borrow.Author.Needs.{needs}
+use Rattle.handshake.proofs.status_line.Statuses.{failures}
 use Rattle.handshake.proofs.status_line.known_failure.Statement.{statement}
 use Rattle.handshake.proofs.status_line.known_failure.Tie as tie
 

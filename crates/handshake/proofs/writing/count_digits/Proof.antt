@@ -1,5 +1,4 @@
-use Rattle.handshake.proofs.Decimals.{counting}
-use borrow.Author.Needs.{needs}
+use Rattle.handshake.proofs.writing.DigitArray.{counting}
 use Rattle.handshake.proofs.writing.count_digits.Statement.{statement}
 use Rattle.handshake.proofs.writing.count_digits.Tie as tie
 

@@ -1,4 +1,4 @@
-use Rattle.handshake.proofs.Decimals.{filling, Filling}
+use Rattle.handshake.proofs.writing.DigitArray.{filling, Filling}
 use Rattle.handshake.proofs.writing.decimal_digits.Statement.{statement}
 use Rattle.handshake.proofs.writing.decimal_digits.Tie as tie
 

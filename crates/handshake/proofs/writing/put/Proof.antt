@@ -1,6 +1,6 @@
 use Prim.Native.Nat.{_-_}
 use lib.ListN.{length}
-use Rattle.handshake.proofs.Putting.{pasting, Pasting}
+use Rattle.handshake.proofs.writing.Putting.{pasting, Pasting}
 use Rattle.handshake.proofs.writing.put.Statement.{statement}
 use Rattle.handshake.proofs.writing.put.Tie as tie
 

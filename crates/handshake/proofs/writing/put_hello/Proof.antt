@@ -1,5 +1,4 @@
-use Rattle.handshake.proofs.Putting.{putting-hello}
-use borrow.Author.Needs.{needs}
+use Rattle.handshake.proofs.writing.Putting.{putting-hello}
 use Rattle.handshake.proofs.writing.put_hello.Statement.{statement}
 use Rattle.handshake.proofs.writing.put_hello.Tie as tie
 

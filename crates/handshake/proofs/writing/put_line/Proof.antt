@@ -1,5 +1,4 @@
-use Rattle.handshake.proofs.Putting.{putting-line}
-use borrow.Author.Needs.{needs}
+use Rattle.handshake.proofs.writing.Putting.{putting-line}
 use Rattle.handshake.proofs.writing.put_line.Statement.{statement}
 use Rattle.handshake.proofs.writing.put_line.Tie as tie
 

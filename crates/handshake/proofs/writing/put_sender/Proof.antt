@@ -1,5 +1,4 @@
-use Rattle.handshake.proofs.Putting.{putting-sender}
-use borrow.Author.Needs.{needs}
+use Rattle.handshake.proofs.writing.Putting.{putting-sender}
 use Rattle.handshake.proofs.writing.put_sender.Statement.{statement}
 use Rattle.handshake.proofs.writing.put_sender.Tie as tie
 

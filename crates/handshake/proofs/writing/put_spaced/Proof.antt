@@ -1,5 +1,4 @@
-use Rattle.handshake.proofs.Putting.{putting-spaced}
-use borrow.Author.Needs.{needs}
+use Rattle.handshake.proofs.writing.Putting.{putting-spaced}
 use Rattle.handshake.proofs.writing.put_spaced.Statement.{statement}
 use Rattle.handshake.proofs.writing.put_spaced.Tie as tie
 

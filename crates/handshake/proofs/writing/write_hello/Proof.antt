@@ -1,8 +1,7 @@
-use Rattle.handshake.proofs.Putting.{writing-hello, whole-written, whole-room, rest-written, rest-room, hello-fits}
+use Rattle.handshake.proofs.writing.Putting.{writing-hello, whole-written, whole-room, rest-written, rest-room, hello-fits}
 use Prim.Native.Nat.{_≤_}
 use lib.ListN.{length}
 use Rattle.handshake.specs.Handshake.{helloBytes}
-use borrow.Author.Needs.{needs}
 use Rattle.handshake.proofs.writing.write_hello.Statement.{statement}
 use Rattle.handshake.proofs.writing.write_hello.Tie as tie
 

@@ -1,4 +1,4 @@
-use Rattle.listing.specs.WordsLines.{answerLine}
+use Rattle.listing.specs.AnswerLines.{answerLine}
 use borrow.Author.Needs.{needs}
 use Rattle.listing.proofs.answer.put_answer.Statement.{statement}
 use Rattle.listing.proofs.answer.put_answer.Tie as tie

@@ -1,4 +1,4 @@
-use Rattle.listing.proofs.end.LineLaws.{end-closed, end-open}
+use Rattle.listing.proofs.end.EndWords.{end-closed, end-open}
 use borrow.Author.Needs.{needs}
 use Rattle.listing.proofs.end.put_end.Statement.{statement}
 use Rattle.listing.proofs.end.put_end.Tie as tie

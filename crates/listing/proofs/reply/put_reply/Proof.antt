@@ -1,4 +1,4 @@
-use Rattle.listing.proofs.reply.LineLaws.{reply-parts}
+use Rattle.listing.proofs.reply.ReplyWords.{reply-parts}
 use borrow.Author.Needs.{needs}
 use Rattle.listing.proofs.reply.put_reply.Statement.{statement}
 use Rattle.listing.proofs.reply.put_reply.Tie as tie

@@ -1,4 +1,4 @@
-use Rattle.listing.proofs.reply.LineLaws.{no-reply, some-reply}
+use Rattle.listing.proofs.reply.ReplyWords.{no-reply, some-reply}
 use borrow.Author.Needs.{needs}
 use Rattle.listing.proofs.reply.reply_line.Statement.{statement}
 use Rattle.listing.proofs.reply.reply_line.Tie as tie

@@ -1,4 +1,4 @@
-use Rattle.listing.proofs.words.LineLaws.{commits}
+use Rattle.listing.proofs.update.CommitWords.{commits}
 use borrow.Author.Needs.{needs}
 use Rattle.listing.proofs.update.put_commit.Statement.{statement}
 use Rattle.listing.proofs.update.put_commit.Tie as tie

@@ -1,4 +1,4 @@
-use Rattle.listing.proofs.words.LineLaws.{names}
+use Rattle.listing.proofs.words.AnswerWords.{names}
 use Rattle.listing.proofs.words.put_peer.Statement.{statement}
 use Rattle.listing.proofs.words.put_peer.Tie as tie
 

@@ -1,4 +1,4 @@
-use Rattle.listing.proofs.words.LineLaws.{places}
+use Rattle.listing.proofs.words.AnswerWords.{places}
 use Rattle.listing.proofs.words.table_at.Statement.{statement}
 use Rattle.listing.proofs.words.table_at.Tie as tie
 

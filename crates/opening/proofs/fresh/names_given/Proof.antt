@@ -1,5 +1,4 @@
 use Rattle.opening.proofs.fresh.Making.{naming}
-use borrow.Author.Needs.{needs}
 use Rattle.opening.proofs.fresh.names_given.Statement.{statement}
 use Rattle.opening.proofs.fresh.names_given.Tie as tie
 

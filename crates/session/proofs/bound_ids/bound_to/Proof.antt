@@ -1,4 +1,4 @@
-use Rattle.session.proofs.Changing.{matching}
+use Rattle.session.proofs.bound_ids.BindingLoops.{matching}
 use Rattle.session.proofs.bound_ids.bound_to.Statement.{statement}
 use Rattle.session.proofs.bound_ids.bound_to.Tie as tie
 

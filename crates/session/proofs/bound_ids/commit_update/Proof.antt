@@ -1,7 +1,6 @@
 use Rattle.session.specs.Session.{committed, withTables, commitTo, bindingAt, noBinding}
 use mathlib.Core.Path.{refl}
-use Rattle.session.proofs.Changing.{committing}
-use borrow.Author.Needs.{needs}
+use Rattle.session.proofs.bound_ids.BindingLoops.{committing}
 use Rattle.session.proofs.bound_ids.commit_update.Statement.{statement}
 use Rattle.session.proofs.bound_ids.commit_update.Tie as tie
 

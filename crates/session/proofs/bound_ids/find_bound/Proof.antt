@@ -1,5 +1,5 @@
 use Prim.Native.Nat.{_-_}
-use Rattle.session.proofs.Changing.{finding, Finding}
+use Rattle.session.proofs.bound_ids.BindingLoops.{finding, Finding}
 use Rattle.session.proofs.bound_ids.find_bound.Statement.{statement}
 use Rattle.session.proofs.bound_ids.find_bound.Tie as tie
 

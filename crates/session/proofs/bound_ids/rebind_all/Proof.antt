@@ -1,5 +1,5 @@
 use Prim.Native.Nat.{_-_}
-use Rattle.session.proofs.Changing.{rebinding, Rebinding}
+use Rattle.session.proofs.bound_ids.BindingLoops.{rebinding, Rebinding}
 use Rattle.session.proofs.bound_ids.rebind_all.Statement.{statement}
 use Rattle.session.proofs.bound_ids.rebind_all.Tie as tie
 

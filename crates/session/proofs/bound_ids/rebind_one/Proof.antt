@@ -1,4 +1,4 @@
-use Rattle.session.proofs.Changing.{rebind-here, rebind-lost, rebind-kept}
+use Rattle.session.proofs.bound_ids.BindingLoops.{rebind-here, rebind-lost, rebind-kept}
 use Rattle.session.proofs.Basics.{told-true, told-false}
 use Rattle.session.specs.Session.{bindTo, unbind}
 use borrow.Author.Needs.{needs}

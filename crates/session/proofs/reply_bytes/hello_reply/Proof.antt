@@ -1,5 +1,5 @@
 use borrow.Author.Needs.{needs}
-use Rattle.session.proofs.Replies.{hello-replies}
+use Rattle.session.proofs.reply_bytes.Replies.{hello-replies}
 use Rattle.session.proofs.reply_bytes.hello_reply.Statement.{statement}
 use Rattle.session.proofs.reply_bytes.hello_reply.Tie as tie
 

@@ -1,5 +1,5 @@
 use borrow.Author.Needs.{needs}
-use Rattle.session.proofs.Replies.{no-error}
+use Rattle.session.proofs.reply_bytes.Replies.{no-error}
 use Rattle.session.specs.Answers.{isProtocolError}
 use Rattle.session.proofs.reply_bytes.is_protocol_error.Statement.{statement}
 use Rattle.session.proofs.reply_bytes.is_protocol_error.Tie as tie

@@ -1,5 +1,5 @@
 use borrow.Author.Needs.{needs}
-use Rattle.session.proofs.Replies.{no-limit}
+use Rattle.session.proofs.reply_bytes.Replies.{no-limit}
 use Rattle.session.specs.Answers.{isSizeLimit}
 use Rattle.session.proofs.reply_bytes.is_size_limit.Statement.{statement}
 use Rattle.session.proofs.reply_bytes.is_size_limit.Tie as tie

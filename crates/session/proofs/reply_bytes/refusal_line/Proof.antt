@@ -1,5 +1,5 @@
 use borrow.Author.Needs.{needs}
-use Rattle.session.proofs.Replies.{no-line}
+use Rattle.session.proofs.reply_bytes.Replies.{no-line}
 use Rattle.handshake.specs.Bytes.{decimal, decimalIn}
 use Rattle.handshake.specs.Handshake.{refusalLine, statusLine, lf}
 use Rattle.lists.specs.Lists.{padTo}

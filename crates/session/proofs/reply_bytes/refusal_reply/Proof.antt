@@ -1,4 +1,4 @@
-use Rattle.session.proofs.Replies.{limit-reply, error-reply, line-reply}
+use Rattle.session.proofs.reply_bytes.Replies.{limit-reply, error-reply, line-reply}
 use Rattle.session.proofs.Basics.{told-true, told-false}
 use Rattle.session.specs.Answers.{replyOf}
 use Rattle.lists.specs.Lists.{padTo}

@@ -1,15 +1,15 @@
-use Rattle.session_soundness.proofs.Testing.{four}
+use Rattle.session_soundness.proofs.FourTests.{four}
 use Rattle.session_soundness.proofs.bindings.bindings_ok.Statement.{statement}
 use Rattle.session_soundness.proofs.bindings.bindings_ok.Tie as tie
 
-all-marks-ok-requires : tie.Need-all-marks-ok-requires
-all-marks-ok-requires c κs = search four
+all-flags-ok-requires : tie.Need-all-flags-ok-requires
+all-flags-ok-requires c κs = search four
 
 returns : tie.Need-returns
 returns c = search four
 
-places-ok-requires : tie.Need-places-ok-requires
-places-ok-requires c κs = search four
+free-places-ok-requires : tie.Need-free-places-ok-requires
+free-places-ok-requires c κs = search four
 
 returns-2 : tie.Need-returns-2
 returns-2 c = search four
@@ -30,9 +30,9 @@ pub bindings-ok-spec : {M : Type 1} → statement M
 bindings-ok-spec =
     tie.close
     (tie.spec
-    all-marks-ok-requires
+    all-flags-ok-requires
     returns
-    places-ok-requires
+    free-places-ok-requires
     returns-2
     ids-apart-requires
     returns-3

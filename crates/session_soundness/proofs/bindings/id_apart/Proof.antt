@@ -1,6 +1,7 @@
 use Rattle.session_soundness.specs.Sound.{otherId}
 use Prim.Native.Nat.{_-_}
-use Rattle.session_soundness.proofs.Testing.{denying, Each}
+use Rattle.session_soundness.proofs.bindings.IdTests.{denying}
+use Rattle.session_soundness.proofs.EachBinding.{Each}
 use Rattle.session_soundness.proofs.bindings.id_apart.Statement.{statement}
 use Rattle.session_soundness.proofs.bindings.id_apart.Tie as tie
 

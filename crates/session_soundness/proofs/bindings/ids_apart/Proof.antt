@@ -1,5 +1,5 @@
 use Prim.Native.Nat.{_-_}
-use Rattle.session_soundness.proofs.Testing.{aparting, Apart}
+use Rattle.session_soundness.proofs.bindings.IdTests.{aparting, Apart}
 use Rattle.session_soundness.proofs.bindings.ids_apart.Statement.{statement}
 use Rattle.session_soundness.proofs.bindings.ids_apart.Tie as tie
 

@@ -1,4 +1,4 @@
-use Rattle.session_soundness.proofs.Testing.{current}
+use Rattle.session_soundness.proofs.current.CurrentTests.{current}
 use Rattle.session_soundness.proofs.current.current_ok.Statement.{statement}
 use Rattle.session_soundness.proofs.current.current_ok.Tie as tie
 

@@ -1,4 +1,4 @@
-use Rattle.session_soundness.proofs.Testing.{four}
+use Rattle.session_soundness.proofs.FourTests.{four}
 use Rattle.session_soundness.proofs.fields.fields_ok.Statement.{statement}
 use Rattle.session_soundness.proofs.fields.fields_ok.Tie as tie
 

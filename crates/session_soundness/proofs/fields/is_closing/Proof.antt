@@ -1,4 +1,4 @@
-use Rattle.session_soundness.proofs.Testing.{closing}
+use Rattle.session_soundness.proofs.fields.FieldTests.{closing}
 use Rattle.session_soundness.proofs.fields.is_closing.Statement.{statement}
 use Rattle.session_soundness.proofs.fields.is_closing.Tie as tie
 

@@ -1,4 +1,4 @@
-use Rattle.session_soundness.proofs.Testing.{naming}
+use Rattle.session_soundness.proofs.fields.FieldTests.{naming}
 use Rattle.session_soundness.proofs.fields.name_within.Statement.{statement}
 use Rattle.session_soundness.proofs.fields.name_within.Tie as tie
 

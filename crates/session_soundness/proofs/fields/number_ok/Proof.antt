@@ -1,4 +1,4 @@
-use Rattle.session_soundness.proofs.Testing.{numbering}
+use Rattle.session_soundness.proofs.fields.FieldTests.{numbering}
 use Rattle.session_soundness.proofs.fields.number_ok.Statement.{statement}
 use Rattle.session_soundness.proofs.fields.number_ok.Tie as tie
 

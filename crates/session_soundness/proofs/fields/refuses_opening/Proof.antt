@@ -1,4 +1,4 @@
-use Rattle.session_soundness.proofs.Testing.{opening-numbers}
+use Rattle.session_soundness.proofs.fields.FieldTests.{opening-numbers}
 use Rattle.session_soundness.specs.Sound.{refusesOpening}
 use Rattle.session_soundness.proofs.fields.refuses_opening.Statement.{statement}
 use Rattle.session_soundness.proofs.fields.refuses_opening.Tie as tie

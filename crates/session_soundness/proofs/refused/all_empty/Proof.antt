@@ -1,6 +1,6 @@
 use Rattle.session_soundness.specs.Sound.{emptyBinding}
 use Prim.Native.Nat.{_-_}
-use Rattle.session_soundness.proofs.Testing.{walking, Each}
+use Rattle.session_soundness.proofs.EachBinding.{walking, Each}
 use Rattle.session_soundness.proofs.refused.all_empty.Statement.{statement}
 use Rattle.session_soundness.proofs.refused.all_empty.Tie as tie
 

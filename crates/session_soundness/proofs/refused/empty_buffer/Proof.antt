@@ -1,4 +1,4 @@
-use Rattle.session_soundness.proofs.Testing.{empty-buffers}
+use Rattle.session_soundness.proofs.refused.RefusedTests.{empty-buffers}
 use Rattle.session_soundness.proofs.refused.empty_buffer.Statement.{statement}
 use Rattle.session_soundness.proofs.refused.empty_buffer.Tie as tie
 

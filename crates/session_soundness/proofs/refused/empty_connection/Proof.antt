@@ -1,4 +1,4 @@
-use Rattle.session_soundness.proofs.Testing.{zeros}
+use Rattle.session_soundness.proofs.refused.RefusedTests.{zeros}
 use Rattle.session_soundness.proofs.refused.empty_connection.Statement.{statement}
 use Rattle.session_soundness.proofs.refused.empty_connection.Tie as tie
 

@@ -1,4 +1,4 @@
-use Rattle.session_soundness.proofs.Testing.{empty-bindings}
+use Rattle.session_soundness.proofs.refused.RefusedTests.{empty-bindings}
 use Rattle.session_soundness.proofs.refused.is_empty.Statement.{statement}
 use Rattle.session_soundness.proofs.refused.is_empty.Tie as tie
 

@@ -1,4 +1,4 @@
-use Rattle.session_soundness.proofs.Testing.{refused}
+use Rattle.session_soundness.proofs.refused.RefusedTests.{refused}
 use Rattle.session_soundness.proofs.refused.is_refused_opening.Statement.{statement}
 use Rattle.session_soundness.proofs.refused.is_refused_opening.Tie as tie
 

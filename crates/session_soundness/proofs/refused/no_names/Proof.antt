@@ -1,4 +1,4 @@
-use Rattle.session_soundness.proofs.Testing.{zeros}
+use Rattle.session_soundness.proofs.refused.RefusedTests.{zeros}
 use Rattle.session_soundness.proofs.refused.no_names.Statement.{statement}
 use Rattle.session_soundness.proofs.refused.no_names.Tie as tie
 

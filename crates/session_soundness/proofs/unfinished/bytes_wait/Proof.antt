@@ -1,4 +1,4 @@
-use Rattle.session_soundness.proofs.Testing.{waiting}
+use Rattle.session_soundness.proofs.unfinished.WaitingTests.{waiting}
 use Rattle.session_soundness.proofs.unfinished.bytes_wait.Statement.{statement}
 use Rattle.session_soundness.proofs.unfinished.bytes_wait.Tie as tie
 

@@ -1,4 +1,4 @@
-use Rattle.session_soundness.proofs.Testing.{hellos}
+use Rattle.session_soundness.proofs.unfinished.WaitingTests.{hellos}
 use Rattle.session_soundness.proofs.unfinished.hello_of.Statement.{statement}
 use Rattle.session_soundness.proofs.unfinished.hello_of.Tie as tie
 

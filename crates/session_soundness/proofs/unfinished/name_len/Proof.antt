@@ -1,4 +1,4 @@
-use Rattle.session_soundness.proofs.Testing.{hellos}
+use Rattle.session_soundness.proofs.unfinished.WaitingTests.{hellos}
 use Rattle.session_soundness.proofs.unfinished.name_len.Statement.{statement}
 use Rattle.session_soundness.proofs.unfinished.name_len.Tie as tie
 

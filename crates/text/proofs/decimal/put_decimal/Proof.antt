@@ -1,4 +1,4 @@
-use Rattle.text.proofs.Words.{putting-decimal}
+use Rattle.text.proofs.decimal.DecimalText.{putting-decimal}
 use Rattle.text.proofs.decimal.put_decimal.Statement.{statement}
 use Rattle.text.proofs.decimal.put_decimal.Tie as tie
 

@@ -1,4 +1,4 @@
-use Rattle.text.proofs.Words.{putting-signed}
+use Rattle.text.proofs.decimal.DecimalText.{putting-signed}
 use Rattle.text.proofs.decimal.put_integer.Statement.{statement}
 use Rattle.text.proofs.decimal.put_integer.Tie as tie
 

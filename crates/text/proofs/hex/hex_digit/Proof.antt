@@ -1,4 +1,4 @@
-use Rattle.text.proofs.Words.{hex-digits}
+use Rattle.text.proofs.hex.HexText.{hex-digits}
 use Rattle.text.proofs.hex.hex_digit.Statement.{statement}
 use Rattle.text.proofs.hex.hex_digit.Tie as tie
 

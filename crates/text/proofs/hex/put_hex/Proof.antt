@@ -1,4 +1,4 @@
-use Rattle.text.proofs.Words.{putting-hex, Hexing}
+use Rattle.text.proofs.hex.HexText.{putting-hex, Hexing}
 use Prim.Native.Nat.{_-_}
 use lib.ListN.{length}
 use Rattle.text.proofs.hex.put_hex.Statement.{statement}

@@ -1,4 +1,4 @@
-use Rattle.text.proofs.Words.{no-bytes, some-bytes}
+use Rattle.text.proofs.spaced.SpacedWords.{no-bytes, some-bytes}
 use borrow.Author.Needs.{needs}
 use Rattle.text.proofs.spaced.put_bytes.Statement.{statement}
 use Rattle.text.proofs.spaced.put_bytes.Tie as tie

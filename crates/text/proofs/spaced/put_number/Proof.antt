@@ -1,4 +1,4 @@
-use Rattle.text.proofs.Words.{putting-word}
+use Rattle.text.proofs.spaced.SpacedWords.{putting-word}
 use Rattle.text.proofs.spaced.put_number.Statement.{statement}
 use Rattle.text.proofs.spaced.put_number.Tie as tie
 

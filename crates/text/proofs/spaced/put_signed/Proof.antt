@@ -1,4 +1,4 @@
-use Rattle.text.proofs.Words.{putting-word}
+use Rattle.text.proofs.spaced.SpacedWords.{putting-word}
 use borrow.Author.Needs.{needs}
 use Rattle.text.proofs.spaced.put_signed.Statement.{statement}
 use Rattle.text.proofs.spaced.put_signed.Tie as tie

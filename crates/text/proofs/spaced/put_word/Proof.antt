@@ -1,4 +1,4 @@
-use Rattle.text.proofs.Words.{putting-word, a-word}
+use Rattle.text.proofs.spaced.SpacedWords.{putting-word, a-word}
 use Rattle.text.proofs.spaced.put_word.Statement.{statement}
 use Rattle.text.proofs.spaced.put_word.Tie as tie
 

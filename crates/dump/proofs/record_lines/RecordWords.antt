@@ -1,0 +1,61 @@
+-- The lines of a session record, for each way through the functions that put them.
+use Prim.Native.Nat.{ℕ, zero, suc, _-_, _≤_}
+use native.Mathlib.Omega.{arith}
+use mathlib.Core.Path.{_≡_, refl, ap}
+use mathlib.Core.List.{List, [], _∷_}
+use lib.ListN.{length, take}
+use borrow.Author.Needs.{needs}
+use borrow.Author.Tests.{eq-eqb, ne-eqb}
+use Rattle.handshake.specs.Bytes.{ascii, decimal}
+use Rattle.session.specs.declared.Connection.{Connection}
+use Rattle.session.specs.declared.Session.{Session}
+use Rattle.session.specs.Session.{unfinished}
+use Rattle.text.specs.Text.{hexOrNone, spaced, line}
+use Rattle.text.specs.Room.{Wrote}
+use Rattle.text.proofs.Rooms.{joined, retold}
+use Rattle.text.proofs.LineWords.{line-of}
+use Rattle.text.proofs.Prefixes.{prefixes, whole}
+use Rattle.dump.specs.RecordLines.{phaseLine, unfinishedLine, currentLine, bindingsLines, recordLines}
+
+module _ {room x : List ℕ} {at k : ℕ} where
+  pub unfinished-part : (s : Session) → Wrote room at (spaced (hexOrNone (take (s .len) (s .buffer)) ∷ [])) x k → Wrote room at (spaced (hexOrNone (unfinished s) ∷ [])) x k
+  unfolding unfinished
+  unfinished-part s w = w
+
+  pub unfinished-whole : (s : Session) → length (s .buffer) ≡ 1027 → 1027 ≤ s .len
+      → Wrote room at (spaced (hexOrNone (s .buffer) ∷ [])) x k → Wrote room at (spaced (hexOrNone (unfinished s) ∷ [])) x k
+  unfolding unfinished
+  unfinished-whole s l h w = retold (ap (λ (b : List ℕ). spaced (hexOrNone b ∷ [])) (whole (s .buffer) (s .len) 1027 l h)) w
+
+pub ruleset unfinishing = (prefixes, unfinished-part, unfinished-whole)
+
+-- ---- the unfinished bytes, the current table
+pub unfinished-is : (s : Session) {room x y z : List ℕ} {at k m n : ℕ}
+    → Wrote room at (ascii "unfinished") x k → Wrote x k (spaced (hexOrNone (unfinished s) ∷ [])) y m → Wrote y m (10 ∷ []) z n → Wrote room at (unfinishedLine s) z n
+unfolding unfinishedLine
+unfinished-is s p q r = line-of (ascii "unfinished") p (hexOrNone (unfinished s) ∷ []) q r
+
+module _ (c : Connection) {room x : List ℕ} {at k : ℕ} where
+  pub no-current : c .current ≡ 0 → Wrote room at (ascii "current -\n") x k → Wrote room at (currentLine c) x k
+  unfolding currentLine line spaced
+  no-current e w = retold (rw (eq-eqb (c .current) 0 e)) w
+
+  pub current-at : {y z : List ℕ} {m n : ℕ} → (c .current ≡ 0 → ⊥)
+      → Wrote room at (ascii "current") x k → Wrote x k (spaced (decimal (c .current - 1) ∷ [])) y m → Wrote y m (10 ∷ []) z n → Wrote room at (currentLine c) z n
+  unfolding currentLine
+  current-at f p q r = retold (rw (ne-eqb (c .current) 0 f)) (line-of (ascii "current") p (decimal (c .current - 1) ∷ []) q r)
+
+pub not-zero : (n : ℕ) → (n ≡ 0 → ⊥) → 1 ≤ n
+not-zero zero f = absurd (f refl)
+not-zero (suc n) f = omega arith
+
+pub ruleset currents = (needs, unfinished-is, no-current, current-at, not-zero)
+
+-- ---- the record
+pub record-is : (s : Session) {room x y z u : List ℕ} {at k m n o : ℕ}
+    → Wrote room at (phaseLine (s .connection)) x k → Wrote x k (unfinishedLine s) y m → Wrote y m (currentLine (s .connection)) z n
+    → Wrote z n (bindingsLines 0 (s .connection .bindings)) u o → Wrote room at (recordLines s) u o
+unfolding recordLines
+record-is s p q r t = joined p (joined q (joined r t))
+
+pub ruleset records = (needs, record-is)

@@ -1,0 +1,2 @@
+pub mod ThirdLine
+pub mod ThreeLines

@@ -1,0 +1,2 @@
+pub mod DigitArray
+pub mod Putting

@@ -1,0 +1,76 @@
+-- The tests of the whole record: the connection, the unfinished bytes, and both.
+use Prim.Native.Nat.{_≤_, _<_}
+use mathlib.Core.Path.{_≡_, refl, sym, _∙_}
+use mathlib.Core.Bool.{Bool, true, false, _&&_}
+use mathlib.Core.List.{List, [], _∷_, _++_}
+use lib.ListN.{take}
+use lib.Dec.{eqb}
+use borrow.Author.Needs.{needs}
+use borrow.Author.Tests.{eq-eqb, ne-eqb, le-leb, lt-leb}
+use Rattle.lists.specs.Lists.{allOf}
+use Rattle.lists.proofs.Cases.{and-true, and-false, or-true, or-false, cond-true, cond-false}
+use Rattle.store.specs.declared.Table.{Table}
+use Rattle.session.specs.declared.Connection.{Connection}
+use Rattle.session.specs.declared.Session.{Session}
+use Rattle.session.specs.Session.{unfinished, isClosed}
+use Rattle.session_soundness.specs.Sound.{fieldTests, bindingTests, soundConnection, waits, unfinishedOk, isRefusedOpening, soundSession}
+use Rattle.session_soundness.proofs.Waiting.{waits-whole}
+use Rattle.session.proofs.Basics.{told}
+use Rattle.session_soundness.proofs.ArrayParts.{part-fits, part-long}
+
+-- ---- the connection
+
+all-append : (xs ys : List Bool) → allOf (xs ++ ys) ≡ (allOf xs && allOf ys)
+unfolding allOf
+all-append [] ys = refl
+all-append (true ∷ xs) ys = all-append xs ys
+all-append (false ∷ xs) ys = refl
+
+pub bindings-left : (ts : List Table) (c : Connection) (r : Bool) → true ≡ allOf (fieldTests c) → r ≡ allOf (bindingTests ts c) → r ≡ soundConnection ts c
+unfolding soundConnection
+bindings-left ts c r e f = f ∙ sym (all-append (fieldTests c) (bindingTests ts c) ∙ and-true _ _ (sym e))
+
+pub fields-fail : (ts : List Table) (c : Connection) → false ≡ allOf (fieldTests c) → false ≡ soundConnection ts c
+unfolding soundConnection
+fields-fail ts c e = sym (all-append (fieldTests c) (bindingTests ts c) ∙ and-false _ _ (sym e))
+
+pub ruleset connecting = (needs, told, bindings-left, fields-fail)
+
+-- ---- unfinished bytes
+
+module _ (s : Session) where
+  pub buffer-over : 1027 < s .len → false ≡ unfinishedOk s
+  unfolding unfinishedOk
+  buffer-over l = sym (and-false _ _ (lt-leb (s .len) 1027 l))
+
+  pub closed-empty : s .len ≤ 1027 → s .connection .closed ≡ 1 → eqb (s .len) 0 ≡ unfinishedOk s
+  unfolding unfinishedOk isClosed
+  closed-empty l e = sym (and-true _ _ (le-leb (s .len) 1027 l) ∙ cond-true _ _ _ (eq-eqb (s .connection .closed) 1 e))
+
+  pub open-waits : (r : Bool) → s .len ≤ 1027 → (s .connection .closed ≡ 1 → ⊥) → r ≡ waits (s .connection) (take (s .len) (s .buffer))
+      → r ≡ unfinishedOk s
+  unfolding unfinishedOk isClosed unfinished
+  open-waits r l e f =
+      f
+      ∙ waits-whole (s .connection) (take (s .len) (s .buffer))
+      ∙ sym (and-true _ _ (le-leb (s .len) 1027 l) ∙ cond-false _ _ _ (ne-eqb (s .connection .closed) 1 e))
+
+pub ruleset unfinishing = (needs, part-fits, part-long, buffer-over, closed-empty, open-waits)
+
+-- ---- the record
+
+module _ (ts : List Table) (s : Session) where
+  pub session-refused : true ≡ isRefusedOpening s → true ≡ soundSession ts s
+  unfolding soundSession
+  session-refused e = sym (or-true _ _ (sym e))
+
+  module _ (e : false ≡ isRefusedOpening s) where
+    pub session-unsound : false ≡ soundConnection ts (s .connection) → false ≡ soundSession ts s
+    unfolding soundSession
+    session-unsound f = sym (or-false _ _ (sym e) ∙ and-false _ _ (sym f))
+
+    pub unfinished-left : (r : Bool) → true ≡ soundConnection ts (s .connection) → r ≡ unfinishedOk s → r ≡ soundSession ts s
+    unfolding soundSession
+    unfinished-left r f g = g ∙ sym (or-false _ _ (sym e) ∙ and-true _ _ (sym f))
+
+pub ruleset sounding = (needs, told, session-refused, session-unsound, unfinished-left)
