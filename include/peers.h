@@ -163,20 +163,20 @@ struct peers_session {
 
 /* An answer's number, with its values in their order. A refusal's number is its own: enum peers_refusal. */
 enum peers_answer {
-    PEERS_MORE = 100,           /* more bytes are wanted */
-    PEERS_HELLO = 101,          /* the peer's process number, its relative process number */
-    PEERS_STATUS = 102,
-    PEERS_REQUEST = 103,
-    PEERS_FINISHED = 104,
-    PEERS_PARTIAL = 105,
-    PEERS_CONFIRMED = 106,
-    PEERS_HEARTBEAT = 107,
-    PEERS_ERROR = 108,          /* its type; the session is closed with 0 */
-    PEERS_TABLE = 109,          /* the table's place */
-    PEERS_SWITCH = 110,         /* the table's place */
-    PEERS_UPDATE = 111,         /* the table's place, the update ID, the entry's place, 0 for a new entry or 1 for a replaced one */
-    PEERS_ACKNOWLEDGEMENT = 112, /* the table's ID, the update ID */
-    PEERS_SKIPPED = 113         /* its type */
+    PEERS_MORE = 256,           /* more bytes are wanted */
+    PEERS_HELLO = 257,          /* the peer's process number, its relative process number */
+    PEERS_STATUS = 258,
+    PEERS_REQUEST = 259,
+    PEERS_FINISHED = 260,
+    PEERS_PARTIAL = 261,
+    PEERS_CONFIRMED = 262,
+    PEERS_HEARTBEAT = 263,
+    PEERS_ERROR = 264,          /* its type; the session is closed with 0 */
+    PEERS_TABLE = 265,          /* the table's place */
+    PEERS_SWITCH = 266,         /* the table's place */
+    PEERS_UPDATE = 267,         /* the table's place, the update ID, the entry's place, 0 for a new entry or 1 for a replaced one */
+    PEERS_ACKNOWLEDGEMENT = 268, /* the table's ID, the update ID */
+    PEERS_SKIPPED = 269         /* its type */
 };
 
 enum peers_refusal {

@@ -67,17 +67,17 @@ fn session(role: Role) -> peers::Session {
 fn numbers(answer: peers::Answer) -> (u32, Vec<u64>) {
     use peers::Answer;
     match answer {
-        Answer::More => (100, vec![]),
-        Answer::Hello { process, relative } => (101, vec![process.into(), relative.into()]),
-        Answer::Status => (102, vec![]),
-        Answer::Request => (103, vec![]),
-        Answer::Finished => (104, vec![]),
-        Answer::Partial => (105, vec![]),
-        Answer::Confirmed => (106, vec![]),
-        Answer::Heartbeat => (107, vec![]),
-        Answer::Error { kind } => (108, vec![kind.into()]),
-        Answer::Table { place } => (109, vec![place as u64]),
-        Answer::Switch { place } => (110, vec![place as u64]),
+        Answer::More => (256, vec![]),
+        Answer::Hello { process, relative } => (257, vec![process.into(), relative.into()]),
+        Answer::Status => (258, vec![]),
+        Answer::Request => (259, vec![]),
+        Answer::Finished => (260, vec![]),
+        Answer::Partial => (261, vec![]),
+        Answer::Confirmed => (262, vec![]),
+        Answer::Heartbeat => (263, vec![]),
+        Answer::Error { kind } => (264, vec![kind.into()]),
+        Answer::Table { place } => (265, vec![place as u64]),
+        Answer::Switch { place } => (266, vec![place as u64]),
         Answer::Update {
             table,
             id,
@@ -85,10 +85,10 @@ fn numbers(answer: peers::Answer) -> (u32, Vec<u64>) {
             commit,
         } => {
             let replaced = u64::from(commit == peers::Commit::Replaced);
-            (111, vec![table as u64, id.into(), entry as u64, replaced])
+            (267, vec![table as u64, id.into(), entry as u64, replaced])
         }
-        Answer::Acknowledgement { id, update } => (112, vec![id.into(), update.into()]),
-        Answer::Skipped { kind } => (113, vec![kind.into()]),
+        Answer::Acknowledgement { id, update } => (268, vec![id.into(), update.into()]),
+        Answer::Skipped { kind } => (269, vec![kind.into()]),
         Answer::Refused(refusal) => (refusal.number().into(), vec![]),
     }
 }
@@ -164,17 +164,17 @@ pub struct Second {
 fn second_numbers(answer: second::answer::Answer) -> (u32, Vec<u64>) {
     use second::answer::{Answer, Commit};
     match answer {
-        Answer::More => (100, vec![]),
-        Answer::Hello { process, relative } => (101, vec![process.into(), relative.into()]),
-        Answer::Status => (102, vec![]),
-        Answer::Request => (103, vec![]),
-        Answer::Finished => (104, vec![]),
-        Answer::Partial => (105, vec![]),
-        Answer::Confirm => (106, vec![]),
-        Answer::Heartbeat => (107, vec![]),
-        Answer::Error { kind } => (108, vec![kind.into()]),
-        Answer::Table { place } => (109, vec![place as u64]),
-        Answer::Switch { place } => (110, vec![place as u64]),
+        Answer::More => (256, vec![]),
+        Answer::Hello { process, relative } => (257, vec![process.into(), relative.into()]),
+        Answer::Status => (258, vec![]),
+        Answer::Request => (259, vec![]),
+        Answer::Finished => (260, vec![]),
+        Answer::Partial => (261, vec![]),
+        Answer::Confirm => (262, vec![]),
+        Answer::Heartbeat => (263, vec![]),
+        Answer::Error { kind } => (264, vec![kind.into()]),
+        Answer::Table { place } => (265, vec![place as u64]),
+        Answer::Switch { place } => (266, vec![place as u64]),
         Answer::Update {
             table,
             id,
@@ -182,10 +182,10 @@ fn second_numbers(answer: second::answer::Answer) -> (u32, Vec<u64>) {
             commit,
         } => {
             let replaced = u64::from(commit == Commit::Replaced);
-            (111, vec![table as u64, id.into(), entry as u64, replaced])
+            (267, vec![table as u64, id.into(), entry as u64, replaced])
         }
-        Answer::Acknowledged { id, update } => (112, vec![id.into(), update.into()]),
-        Answer::Skipped { kind } => (113, vec![kind.into()]),
+        Answer::Acknowledged { id, update } => (268, vec![id.into(), update.into()]),
+        Answer::Skipped { kind } => (269, vec![kind.into()]),
         Answer::Refused { number } => (number.into(), vec![]),
     }
 }

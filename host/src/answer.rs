@@ -175,32 +175,32 @@ impl Answer {
     pub(crate) fn of(outcome: &Outcome) -> Answer {
         let values = &outcome.values;
         match outcome.number {
-            100 => Answer::More,
-            101 => Answer::Hello {
+            256 => Answer::More,
+            257 => Answer::Hello {
                 process: values[0] as u32,
                 relative: values[1] as u32,
             },
-            102 => Answer::Status,
-            103 => Answer::Request,
-            104 => Answer::Finished,
-            105 => Answer::Partial,
-            106 => Answer::Confirmed,
-            107 => Answer::Heartbeat,
-            108 => Answer::Error {
+            258 => Answer::Status,
+            259 => Answer::Request,
+            260 => Answer::Finished,
+            261 => Answer::Partial,
+            262 => Answer::Confirmed,
+            263 => Answer::Heartbeat,
+            264 => Answer::Error {
                 kind: values[0] as u8,
             },
-            109 => Answer::Table {
+            265 => Answer::Table {
                 place: values[0] as usize,
             },
-            110 => Answer::Switch {
+            266 => Answer::Switch {
                 place: values[0] as usize,
             },
-            111 => Answer::update(values),
-            112 => Answer::Acknowledgement {
+            267 => Answer::update(values),
+            268 => Answer::Acknowledgement {
                 id: values[0] as u32,
                 update: values[1] as u32,
             },
-            113 => Answer::Skipped {
+            269 => Answer::Skipped {
                 kind: values[0] as u8,
             },
             number => Answer::refused(number),

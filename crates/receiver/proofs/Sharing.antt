@@ -16,7 +16,7 @@ use Rattle.session.specs.declared.Connection.{Connection}
 use Rattle.session.specs.declared.Session.{Session}
 use Rattle.session.specs.declared.Answer.{Answer}
 use Rattle.session.specs.declared.Answer.the-variants as answer
-use Rattle.session.proofs.answers.OneToOne.{RefusedBelow, answers-one-to-one}
+use Rattle.session.proofs.answers.OneToOne.{RefusedByte, answers-one-to-one}
 use Rattle.session_soundness.specs.Sound.{sound, soundSession, soundConnection, unfinishedOk, isRefusedOpening}
 use Rattle.session_soundness.proofs.Facts.{heldAt, connection-facts, facts-connection}
 use Rattle.session_soundness.proofs.Keeping.{held-keeps}
@@ -66,14 +66,14 @@ other-records-sound s t m other p f = others-sound s t m other p f (ways s t m p
 
 -- ---- numbers of answers
 
-closes-below : (n : ℕ) → closes n ≡ true → n < 100
+closes-below : (n : ℕ) → closes n ≡ true → n < 256
 unfolding closes
 closes-below n h =
     by-test (leb 10 n && leb n 15)
     (λ a. let b = leb-true n 15 (and-second (leb 10 n) (leb n 15) a) in omega arith)
     (λ a. let b = leb-true n 29 (and-second (leb 20 n) (leb n 29) (sym (or-false (leb 10 n && leb n 15) _ a) ∙ h)) in omega arith)
 
-below : (s : Session) (t : Store) (m : Made) → ReadPromise s t m → RefusedBelow (m .outcome .answer)
+below : (s : Session) (t : Store) (m : Made) → ReadPromise s t m → RefusedByte (m .outcome .answer)
 below s t m p n a =
     ⊎-elim
     (λ k. ⊎-elim (λ e. omega (arith, e)) (λ r. ⊎-elim (λ e. omega (arith, e)) (λ e. omega (arith, e)) r) (k .0))

@@ -14,22 +14,22 @@ use Rattle.session.specs.declared.Answer.{Answer}
 use Rattle.session.specs.declared.Answer.the-variants as answer
 
 -- "Where an answer is an enum, a definition gives this paper's number and values for each of the enum's cases."
--- A refusal has its own number; the others go from 100 on.
+-- A refusal has its own number; the others go from 256 on.
 unfoldable pub answerNumber : Answer → ℕ
-answerNumber answer.More = 100
-answerNumber (answer.Hello process relative) = 101
-answerNumber answer.Status = 102
-answerNumber answer.Request = 103
-answerNumber answer.Finished = 104
-answerNumber answer.Partial = 105
-answerNumber answer.Confirmed = 106
-answerNumber answer.Heartbeat = 107
-answerNumber (answer.Error type) = 108
-answerNumber (answer.Table place) = 109
-answerNumber (answer.Switch place) = 110
-answerNumber (answer.Update table id entry how) = 111
-answerNumber (answer.Acknowledgement id update) = 112
-answerNumber (answer.Skipped type) = 113
+answerNumber answer.More = 256
+answerNumber (answer.Hello process relative) = 257
+answerNumber answer.Status = 258
+answerNumber answer.Request = 259
+answerNumber answer.Finished = 260
+answerNumber answer.Partial = 261
+answerNumber answer.Confirmed = 262
+answerNumber answer.Heartbeat = 263
+answerNumber (answer.Error type) = 264
+answerNumber (answer.Table place) = 265
+answerNumber (answer.Switch place) = 266
+answerNumber (answer.Update table id entry how) = 267
+answerNumber (answer.Acknowledgement id update) = 268
+answerNumber (answer.Skipped type) = 269
 answerNumber (answer.Refused number) = number
 
 abbrev pub commitNumber : Commit → ℕ

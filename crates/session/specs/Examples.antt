@@ -36,7 +36,7 @@ error-replies = refl
 
 -- `update 0 4294967295 0 new`
 update-values : answerNumber (answer.Update 0 4294967295 0 commit.New) ∷ answerValues (answer.Update 0 4294967295 0 commit.New)
-    ≡ 111 ∷ 0 ∷ 4294967295 ∷ 0 ∷ 0 ∷ []
+    ≡ 267 ∷ 0 ∷ 4294967295 ∷ 0 ∷ 0 ∷ []
 unfolding answerNumber answerValues
 update-values = refl
 

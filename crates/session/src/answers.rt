@@ -6,33 +6,33 @@ ghost use mathlib.Core.Path.{_≡_};
 ghost use mathlib.Core.List.{[], _∷_};
 ghost use Rattle.session.specs.Answers.{answerNumber, commitNumber, valuesOf};
 
-// An answer's number: a refusal's own, and from 100 on for the others.
+// An answer's number: a refusal's own, and from 256 on for the others.
 pub fn answer_number(a: Answer) -> u32
     ensures { λ r. ⌜ r ≡ answerNumber a ⌝ }
 {
     match a {
-        Answer::More => 100,
+        Answer::More => 256,
         Answer::Hello {
             process: _,
             relative: _,
-        } => 101,
-        Answer::Status => 102,
-        Answer::Request => 103,
-        Answer::Finished => 104,
-        Answer::Partial => 105,
-        Answer::Confirmed => 106,
-        Answer::Heartbeat => 107,
-        Answer::Error(_) => 108,
-        Answer::Table(_) => 109,
-        Answer::Switch(_) => 110,
+        } => 257,
+        Answer::Status => 258,
+        Answer::Request => 259,
+        Answer::Finished => 260,
+        Answer::Partial => 261,
+        Answer::Confirmed => 262,
+        Answer::Heartbeat => 263,
+        Answer::Error(_) => 264,
+        Answer::Table(_) => 265,
+        Answer::Switch(_) => 266,
         Answer::Update {
             table: _,
             id: _,
             entry: _,
             commit: _,
-        } => 111,
-        Answer::Acknowledgement { id: _, update: _ } => 112,
-        Answer::Skipped(_) => 113,
+        } => 267,
+        Answer::Acknowledgement { id: _, update: _ } => 268,
+        Answer::Skipped(_) => 269,
         Answer::Refused(number) => number as u32,
     }
 }

@@ -15,29 +15,29 @@ use Rattle.session.specs.Answers.{answerNumber, answerValues}
 -- the answer that a number and values stand for
 others : ℕ → List ℕ → Answer
 others n vs =
-    cond (eqb n 100) answer.More
-    (cond (eqb n 101) (answer.Hello (getD vs 0 0) (getD vs 1 0))
-    (cond (eqb n 102) answer.Status
-    (cond (eqb n 103) answer.Request
-    (cond (eqb n 104) answer.Finished
-    (cond (eqb n 105) answer.Partial
-    (cond (eqb n 106) answer.Confirmed
-    (cond (eqb n 107) answer.Heartbeat
-    (cond (eqb n 108) (answer.Error (getD vs 0 0))
-    (cond (eqb n 109) (answer.Table (getD vs 0 0))
-    (cond (eqb n 110) (answer.Switch (getD vs 0 0))
-    (cond (eqb n 111) (answer.Update (getD vs 0 0) (getD vs 1 0) (getD vs 2 0) (cond (eqb (getD vs 3 0) 0) commit.New commit.Replaced))
-    (cond (eqb n 112) (answer.Acknowledgement (getD vs 0 0) (getD vs 1 0))
+    cond (eqb n 256) answer.More
+    (cond (eqb n 257) (answer.Hello (getD vs 0 0) (getD vs 1 0))
+    (cond (eqb n 258) answer.Status
+    (cond (eqb n 259) answer.Request
+    (cond (eqb n 260) answer.Finished
+    (cond (eqb n 261) answer.Partial
+    (cond (eqb n 262) answer.Confirmed
+    (cond (eqb n 263) answer.Heartbeat
+    (cond (eqb n 264) (answer.Error (getD vs 0 0))
+    (cond (eqb n 265) (answer.Table (getD vs 0 0))
+    (cond (eqb n 266) (answer.Switch (getD vs 0 0))
+    (cond (eqb n 267) (answer.Update (getD vs 0 0) (getD vs 1 0) (getD vs 2 0) (cond (eqb (getD vs 3 0) 0) commit.New commit.Replaced))
+    (cond (eqb n 268) (answer.Acknowledgement (getD vs 0 0) (getD vs 1 0))
     (answer.Skipped (getD vs 0 0))))))))))))))
 
 named : ℕ → List ℕ → Answer
-named n vs = cond (ltb n 100) (answer.Refused n) (others n vs)
+named n vs = cond (ltb n 256) (answer.Refused n) (others n vs)
 
--- refusals have numbers below 100
-abbrev pub RefusedBelow : Answer → Type 0
-RefusedBelow a = (n : ℕ) → a ≡ answer.Refused n → n < 100
+-- a refusal's number is a byte, as the enum's is
+abbrev pub RefusedByte : Answer → Type 0
+RefusedByte a = (n : ℕ) → a ≡ answer.Refused n → n < 256
 
-named-back : (a : Answer) → RefusedBelow a → named (answerNumber a) (answerValues a) ≡ a
+named-back : (a : Answer) → RefusedByte a → named (answerNumber a) (answerValues a) ≡ a
 unfolding answerNumber answerValues named others
 named-back answer.More h = refl
 named-back (answer.Hello process relative) h = refl
@@ -54,9 +54,9 @@ named-back (answer.Update table id entry commit.New) h = refl
 named-back (answer.Update table id entry commit.Replaced) h = refl
 named-back (answer.Acknowledgement id update) h = refl
 named-back (answer.Skipped type) h = refl
-named-back (answer.Refused number) h = cond-true (ltb number 100) _ _ (lt-ltb number 100 (h number refl))
+named-back (answer.Refused number) h = cond-true (ltb number 256) _ _ (lt-ltb number 256 (h number refl))
 
 -- two answers with one number and the same values are equal
-pub answers-one-to-one : (a b : Answer) → RefusedBelow a → RefusedBelow b → answerNumber a ≡ answerNumber b → answerValues a ≡ answerValues b
+pub answers-one-to-one : (a b : Answer) → RefusedByte a → RefusedByte b → answerNumber a ≡ answerNumber b → answerValues a ≡ answerValues b
     → a ≡ b
 answers-one-to-one a b h k e f = sym (named-back a h) ∙ ap (λ (n : ℕ). named n (answerValues a)) e ∙ ap (named (answerNumber b)) f ∙ named-back b k
