@@ -2,7 +2,7 @@
 use session::Binding;
 use store::TABLES;
 use text::put;
-use text::spaced::put_number;
+use text::spaced::put_decimal_word;
 ghost use mathlib.Core.Bool.{cond};
 ghost use mathlib.Core.List.{[], _∷_};
 ghost use lib.Dec.{eqb};
@@ -19,8 +19,8 @@ fn flagged_line(room: &mut [u8], at: usize, flag: u8, word: &[u8], place: usize,
         return at;
     }
     let a = put(room, at, word);
-    let b = put_number(room, a, place as u64);
-    let c = put_number(room, b, id as u64);
+    let b = put_decimal_word(room, a, place as u64);
+    let c = put_decimal_word(room, b, id as u64);
     put(room, c, b"\n")
 }
 

@@ -2,7 +2,7 @@
 use crate::present_words::put_present;
 use store::Entry;
 use store::VALUES;
-use text::spaced::put_signed;
+use text::spaced::put_signed_word;
 ghost use mathlib.Core.List.{[], _∷_, map};
 ghost use Rattle.handshake.specs.Bytes.{decimal};
 ghost use Rattle.store.specs.Limits.{slotTypes};
@@ -15,7 +15,7 @@ fn put_server(room: &mut [u8], at: usize, types: u32, id: i32) -> usize
     ensures { λ r. ⌜ Wrote (now (room .entry)) at (spaced (map signed (presentAmong types (0 ∷ []) (id ∷ [])))) (now (room .exit)) r ⌝ }
 {
     if store::types::present(types, 0) {
-        return put_signed(room, at, id);
+        return put_signed_word(room, at, id);
     }
     at
 }

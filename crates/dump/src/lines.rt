@@ -7,8 +7,8 @@ use store::Entry;
 use store::KEY_MAX;
 use store::Table;
 use text::put;
-use text::spaced::put_bytes;
-use text::spaced::put_number;
+use text::spaced::put_decimal_word;
+use text::spaced::put_hex_or_none;
 ghost use mathlib.Core.List.{[], _∷_, map};
 ghost use Rattle.handshake.specs.Bytes.{decimal};
 ghost use Rattle.store.specs.Store.{nameOf, keyOf};
@@ -32,7 +32,7 @@ pub fn put_table(room: &mut [u8], at: usize, place: usize, t: Table) -> usize
         return at;
     }
     let a = put(room, at, b"table");
-    let b = put_number(room, a, place as u64);
+    let b = put_decimal_word(room, a, place as u64);
     let c = put_definition(room, b, t);
     put(room, c, b"\n")
 }
@@ -43,16 +43,16 @@ fn put_key(room: &mut [u8], at: usize, e: Entry) -> usize
     let n = e.key_len;
     let key = e.key;
     if n < KEY_MAX {
-        return put_bytes(room, at, &key[..n]);
+        return put_hex_or_none(room, at, &key[..n]);
     }
-    put_bytes(room, at, &key)
+    put_hex_or_none(room, at, &key)
 }
 
 // Table, key and values.
 fn put_content(room: &mut [u8], at: usize, types: u32, e: Entry) -> usize
     ensures { λ r. ⌜ Wrote (now (room .entry)) at (spaced (decimal (e .table) ∷ hexOrNone (keyOf e) ∷ map signed (valuesOf types e))) (now (room .exit)) r ⌝ }
 {
-    let a = put_number(room, at, e.table as u64);
+    let a = put_decimal_word(room, at, e.table as u64);
     let b = put_key(room, a, e);
     put_values(room, b, types, e)
 }
@@ -65,7 +65,7 @@ pub fn put_entry(room: &mut [u8], at: usize, place: usize, types: u32, e: Entry)
         return at;
     }
     let a = put(room, at, b"entry");
-    let b = put_number(room, a, place as u64);
+    let b = put_decimal_word(room, a, place as u64);
     let c = put_content(room, b, types, e);
     put(room, c, b"\n")
 }

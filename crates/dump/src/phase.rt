@@ -2,7 +2,7 @@
 use session::Connection;
 use session::ESTABLISHED;
 use text::put;
-use text::spaced::put_number;
+use text::spaced::put_decimal_word;
 ghost use Rattle.text.specs.Room.{Wrote};
 ghost use Rattle.dump.specs.RecordLines.{phaseLine};
 
@@ -11,7 +11,7 @@ pub fn phase_line(room: &mut [u8], at: usize, c: Connection) -> usize
 {
     if c.closed == 1 {
         let a = put(room, at, b"session closed");
-        let b = put_number(room, a, c.number as u64);
+        let b = put_decimal_word(room, a, c.number as u64);
         return put(room, b, b"\n");
     }
     if c.phase == ESTABLISHED {

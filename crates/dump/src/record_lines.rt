@@ -5,8 +5,8 @@ use session::Connection;
 use session::Session;
 use session::UNFINISHED_MAX;
 use text::put;
-use text::spaced::put_bytes;
-use text::spaced::put_number;
+use text::spaced::put_decimal_word;
+use text::spaced::put_hex_or_none;
 ghost use mathlib.Core.List.{[], _∷_};
 ghost use Rattle.session.specs.Session.{unfinished};
 ghost use Rattle.text.specs.Text.{hexOrNone, spaced};
@@ -19,9 +19,9 @@ fn put_unfinished(room: &mut [u8], at: usize, session: Session) -> usize
     let n = session.len;
     let buffer = session.buffer;
     if n < UNFINISHED_MAX {
-        return put_bytes(room, at, &buffer[..n]);
+        return put_hex_or_none(room, at, &buffer[..n]);
     }
-    put_bytes(room, at, &buffer)
+    put_hex_or_none(room, at, &buffer)
 }
 
 fn unfinished_line(room: &mut [u8], at: usize, session: Session) -> usize
@@ -40,7 +40,7 @@ fn current_line(room: &mut [u8], at: usize, c: Connection) -> usize
         return put(room, at, b"current -\n");
     }
     let a = put(room, at, b"current");
-    let b = put_number(room, a, (plus_one - 1) as u64);
+    let b = put_decimal_word(room, a, (plus_one - 1) as u64);
     put(room, b, b"\n")
 }
 

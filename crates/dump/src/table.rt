@@ -2,7 +2,7 @@
 use crate::present_words::put_present;
 use store::RATES;
 use store::Table;
-use text::spaced::put_number;
+use text::spaced::put_decimal_word;
 use text::spaced::put_word;
 ghost use mathlib.Core.List.{[], _∷_, map};
 ghost use Rattle.handshake.specs.Bytes.{decimal};
@@ -36,7 +36,7 @@ pub fn put_times(room: &mut [u8], at: usize, t: Table) -> usize
     if t.timed != 1 {
         return put_word(room, at, b"-");
     }
-    let next = put_number(room, at, t.expiry as u64);
+    let next = put_decimal_word(room, at, t.expiry as u64);
     put_periods(room, next, t)
 }
 
@@ -44,7 +44,7 @@ pub fn put_times(room: &mut [u8], at: usize, t: Table) -> usize
 pub fn put_types(room: &mut [u8], at: usize, t: Table) -> usize
     ensures { λ r. ⌜ Wrote (now (room .entry)) at (spaced (decimal (t .«key_type») ∷ decimal (t .«key_len») ∷ decimal (t .«data_types») ∷ [])) (now (room .exit)) r ⌝ }
 {
-    let a = put_number(room, at, t.key_type as u64);
-    let b = put_number(room, a, t.key_len as u64);
-    put_number(room, b, t.data_types as u64)
+    let a = put_decimal_word(room, at, t.key_type as u64);
+    let b = put_decimal_word(room, a, t.key_len as u64);
+    put_decimal_word(room, b, t.data_types as u64)
 }

@@ -12,8 +12,8 @@ use Rattle.handshake.specs.declared.Status.{Status}
 use Rattle.handshake.specs.declared.Status.the-variants as status
 use Rattle.handshake.specs.declared.Part.{Part}
 use Rattle.handshake.specs.declared.Part.the-variants as part
-use Rattle.handshake.specs.declared.Number.{Number}
-use Rattle.handshake.specs.declared.Number.the-variants as number
+use Rattle.handshake.specs.declared.Decimal.{Decimal}
+use Rattle.handshake.specs.declared.Decimal.the-variants as number
 use Rattle.lists.specs.Lists.{eqBytes}
 use Rattle.handshake.specs.Bytes.{ascii, oneOf, within, decimal, readDigits}
 
@@ -113,7 +113,7 @@ partOf s = cond (partB s) (part.Upto (untilSpace s)) part.Missing
 unfoldable pub numberB : List ℕ → Bool
 numberB s = leb 1 (length s) && (leb (length s) 10 && (within 48 57 s && leb (readDigits 0 s) 4294967295))
 
-unfoldable pub numberOf : List ℕ → Number
+unfoldable pub numberOf : List ℕ → Decimal
 numberOf s = cond (numberB s) (number.Value (readDigits 0 s)) number.Malformed
 
 -- "then two numbers of 1 to 10 digits": after the name

@@ -49,8 +49,8 @@ pub enum Part {
     Missing,
 }
 
-// A decimal number of 32 bits.
-pub enum Number {
+// A decimal number read, of 32 bits.
+pub enum Decimal {
     Value(u32),
     Malformed,
 }

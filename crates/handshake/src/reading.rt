@@ -1,7 +1,7 @@
 // A hello judged: its three lines found, and their form tested.
+use crate::Decimal;
 use crate::Hello;
 use crate::Line;
-use crate::Number;
 use crate::Part;
 use crate::lines::line_end;
 use crate::names::judge_names;
@@ -24,10 +24,10 @@ fn judge_numbers(
     let Part::Upto(k) = first_part(rest) else {
         return Hello::Refused(10);
     };
-    let Number::Value(process) = read_number(&rest[..k]) else {
+    let Decimal::Value(process) = read_number(&rest[..k]) else {
         return Hello::Refused(10);
     };
-    let Number::Value(relative) = read_number(&rest[k + 1..]) else {
+    let Decimal::Value(relative) = read_number(&rest[k + 1..]) else {
         return Hello::Refused(10);
     };
     judge_names(local, remote, version, two, name, process, relative)

@@ -5,7 +5,7 @@ ghost use Prim.Native.Nat.{_≤_, _<_};
 ghost use lib.ListN.{length};
 ghost use Rattle.handshake.specs.Bytes.{within, readDigits};
 ghost use Rattle.handshake.specs.Handshake.{untilSpace, partOf, numberOf};
-use crate::Number;
+use crate::Decimal;
 use crate::Part;
 use crate::bytes_within;
 
@@ -56,21 +56,21 @@ fn read_digits(s: &[u8]) -> u64
     n
 }
 
-pub fn read_number(s: &[u8]) -> Number
+pub fn read_number(s: &[u8]) -> Decimal
     ensures { λ r. ⌜ r ≡ numberOf (now (s .entry)) ⌝ }
 {
     if s.len() < 1 {
-        return Number::Malformed;
+        return Decimal::Malformed;
     }
     if 10 < s.len() {
-        return Number::Malformed;
+        return Decimal::Malformed;
     }
     if !bytes_within(s, b'0', b'9') {
-        return Number::Malformed;
+        return Decimal::Malformed;
     }
     let n = read_digits(s);
     if 4294967295 < n {
-        return Number::Malformed;
+        return Decimal::Malformed;
     }
-    Number::Value(n as u32)
+    Decimal::Value(n as u32)
 }

@@ -1,7 +1,7 @@
 // The last line.
 use session::Session;
 use text::put;
-use text::spaced::put_number;
+use text::spaced::put_decimal_word;
 use text::spaced::put_word;
 ghost use mathlib.Core.List.{[], _∷_};
 ghost use Rattle.handshake.specs.Bytes.{ascii, decimal};
@@ -14,7 +14,7 @@ fn end_line(room: &mut [u8], at: usize, state: &[u8], n: u64) -> usize
 {
     let a = put(room, at, b"end");
     let b = put_word(room, a, state);
-    let c = put_number(room, b, n);
+    let c = put_decimal_word(room, b, n);
     put(room, c, b"\n")
 }
 

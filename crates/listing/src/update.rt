@@ -2,7 +2,7 @@
 use crate::words::put_numbers;
 use session::Commit;
 use text::put;
-use text::spaced::put_number;
+use text::spaced::put_decimal_word;
 use text::spaced::put_word;
 ghost use mathlib.Core.List.{[], _∷_};
 ghost use Rattle.handshake.specs.Bytes.{ascii, decimal};
@@ -23,7 +23,7 @@ fn put_commit(room: &mut [u8], at: usize, how: Commit) -> usize
 fn put_commit_at(room: &mut [u8], at: usize, entry: usize, how: Commit) -> usize
     ensures { λ r. ⌜ Wrote (now (room .entry)) at (spaced (decimal entry ∷ commitWord how ∷ [])) (now (room .exit)) r ⌝ }
 {
-    let next = put_number(room, at, entry as u64);
+    let next = put_decimal_word(room, at, entry as u64);
     put_commit(room, next, how)
 }
 

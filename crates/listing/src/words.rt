@@ -5,8 +5,8 @@ use store::NAME_MAX;
 use store::TABLES;
 use store::Table;
 use text::put;
+use text::spaced::put_decimal_word;
 use text::spaced::put_hex_word;
-use text::spaced::put_number;
 use text::spaced::put_word;
 ghost use mathlib.Core.Path.{_≡_};
 ghost use mathlib.Core.List.{[], _∷_};
@@ -28,7 +28,7 @@ pub fn number_line(room: &mut [u8], at: usize, word: &[u8], n: u64) -> usize
     ensures { λ r. ⌜ Wrote (now (room .entry)) at (line (now (word .entry)) (decimal n ∷ [])) (now (room .exit)) r ⌝ }
 {
     let a = put(room, at, word);
-    let b = put_number(room, a, n);
+    let b = put_decimal_word(room, a, n);
     put(room, b, b"\n")
 }
 
@@ -36,8 +36,8 @@ pub fn number_line(room: &mut [u8], at: usize, word: &[u8], n: u64) -> usize
 pub fn put_numbers(room: &mut [u8], at: usize, n: u64, m: u64) -> usize
     ensures { λ r. ⌜ Wrote (now (room .entry)) at (spaced (decimal n ∷ decimal m ∷ [])) (now (room .exit)) r ⌝ }
 {
-    let next = put_number(room, at, n);
-    put_number(room, next, m)
+    let next = put_decimal_word(room, at, n);
+    put_decimal_word(room, next, m)
 }
 
 pub fn numbers_line(room: &mut [u8], at: usize, word: &[u8], n: u64, m: u64) -> usize
@@ -94,7 +94,7 @@ pub fn table_line(room: &mut [u8], at: usize, place: usize, t: Table) -> usize
     ensures { λ r. ⌜ Wrote (now (room .entry)) at (line (ascii "table") (decimal place ∷ hex (nameOf t) ∷ [])) (now (room .exit)) r ⌝ }
 {
     let a = put(room, at, b"table");
-    let b = put_number(room, a, place as u64);
+    let b = put_decimal_word(room, a, place as u64);
     let c = put_name(room, b, t);
     put(room, c, b"\n")
 }

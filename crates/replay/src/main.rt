@@ -25,7 +25,7 @@ use store::Table;
 use text::output::room_at;
 use text::output::write;
 use text::put;
-use text::spaced::put_number;
+use text::spaced::put_decimal_word;
 
 // More than the lines of one command, or of one entry, need.
 const MARGIN: usize = 4096;
@@ -126,7 +126,7 @@ fn call(run: Run, room: u8, piece: &[u8], out: &mut [u8]) -> Run {
     let a = room_at(out, run.next, MARGIN);
     let answer = outcome.answer;
     let b = put(out, a, b"took");
-    let c = put_number(out, b, outcome.taken as u64);
+    let c = put_decimal_word(out, b, outcome.taken as u64);
     let d = put(out, c, b"\n");
     let e = put_answer(out, d, connection, tables, answer);
     let f = put_reply(out, e, &reply, outcome.reply_len);

@@ -10,7 +10,7 @@ use Rattle.lists.proofs.Cases.{lt-or-le}
 use Rattle.lists.proofs.Bytes.{pad-length, pad-at}
 use Rattle.session.specs.declared.Binding.{Binding}
 use Rattle.session.specs.declared.Connection.{Connection}
-use Rattle.session.specs.Session.{noBinding, bindingAt, holding, closedWith, establish, withTables, currentOf, makeCurrent, unbind, bindTo, bind, commitTo, committed}
+use Rattle.session.specs.Session.{noBinding, bindingAt, holding, closedWith, establish, withState, withTables, currentOf, makeCurrent, unbind, bindTo, bind, commitTo, committed}
 use Rattle.session.specs.Shape.{BindingShape, ConnectionShape, SessionShape}
 use Rattle.session.proofs.CurrentTable.{current-within, current-past-last}
 use Rattle.session.proofs.Bindings.{bind-length, bind-cases, commit-length, commit-cases}
@@ -24,13 +24,13 @@ current-small place = omega (arith, current-limit place)
 -- ---- a connection
 
 module _ {c : Connection} (h : ConnectionShape c) where
-  pub closed-shape : {n : ℕ} → n < 2 ^ 8 → ConnectionShape (closedWith c n)
-  unfolding closedWith bindingAt
-  closed-shape l =
+  state-shape : (phase closed number : ℕ) → phase < 2 ^ 8 → closed < 2 ^ 8 → number < 2 ^ 8 → ConnectionShape (withState c phase closed number)
+  unfolding bindingAt
+  state-shape phase closed number p k n =
       record {
-        phase = h .phase;
-        closed = omega arith;
-        number = l;
+        phase = p;
+        closed = k;
+        number = n;
         current = h .current;
         localLength = h .localLength;
         remoteLength = h .remoteLength;
@@ -40,21 +40,13 @@ module _ {c : Connection} (h : ConnectionShape c) where
         binding = h .binding;
       }
 
+  pub closed-shape : {n : ℕ} → n < 2 ^ 8 → ConnectionShape (closedWith c n)
+  unfolding closedWith
+  closed-shape l = state-shape _ _ _ (h .phase) (omega arith) l
+
   pub establish-shape : ConnectionShape (establish c)
-  unfolding establish bindingAt
-  establish-shape =
-      record {
-        phase = omega arith;
-        closed = h .closed;
-        number = h .number;
-        current = h .current;
-        localLength = h .localLength;
-        remoteLength = h .remoteLength;
-        local = h .local;
-        remote = h .remote;
-        places = h .places;
-        binding = h .binding;
-      }
+  unfolding establish
+  establish-shape = state-shape _ _ _ (omega arith) (h .closed) (h .number)
 
   tables-shape : (current : ℕ) (bs : List Binding) → current < 2 ^ 64 → length bs ≡ 8 → ((i : ℕ) → i < 8 → BindingShape (getD bs i noBinding))
       → ConnectionShape (withTables c current bs)

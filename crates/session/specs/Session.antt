@@ -56,20 +56,6 @@ holding c u = record { connection = c; len = length u; buffer = padTo unfinished
 
 -- ---- changes of a record
 
--- "the record is closed with that number", and all else stays
-unfoldable pub closedWith : Connection → ℕ → Connection
-closedWith c n = record {
-  phase = c .phase;
-  closed = 1;
-  number = n;
-  current = c .current;
-  «local_len» = c .«local_len»;
-  «remote_len» = c .«remote_len»;
-  local = c .local;
-  remote = c .remote;
-  bindings = c .bindings;
-}
-
 abbrev pub awaitingHello : ℕ
 awaitingHello = 0
 
@@ -79,12 +65,12 @@ awaitingStatus = 1
 abbrev pub established : ℕ
 established = 2
 
--- an accepted hello or status: the handshake is done, and all else stays
-unfoldable pub establish : Connection → Connection
-establish c = record {
-  phase = established;
-  closed = c .closed;
-  number = c .number;
+-- another phase, and open or closed with a number; all else stays
+abbrev pub withState : Connection → ℕ → ℕ → ℕ → Connection
+withState c phase closed number = record {
+  phase = phase;
+  closed = closed;
+  number = number;
   current = c .current;
   «local_len» = c .«local_len»;
   «remote_len» = c .«remote_len»;
@@ -92,6 +78,14 @@ establish c = record {
   remote = c .remote;
   bindings = c .bindings;
 }
+
+-- "the record is closed with that number", and all else stays
+unfoldable pub closedWith : Connection → ℕ → Connection
+closedWith c n = withState c (c .phase) 1 n
+
+-- an accepted hello or status: the handshake is done, and all else stays
+unfoldable pub establish : Connection → Connection
+establish c = withState c established (c .closed) (c .number)
 
 -- another current table and other bindings, and all else stays
 unfoldable pub withTables : Connection → ℕ → List Binding → Connection

@@ -1,11 +1,10 @@
--- Parts of arrays: the first elements of one, and what a read past the end of the tables gives.
+-- The first elements of an array.
 use Prim.Native.Nat.{ℕ, _≤_}
 use native.Mathlib.Omega.{arith}
 use mathlib.Core.Path.{_≡_}
-use mathlib.Core.List.{List, []}
+use mathlib.Core.List.{List}
 use lib.ListN.{length, take}
 use lib.Seq.{length-take-le}
-use Rattle.store.specs.declared.Table.{Table}
 
 -- a first part of an array
 pub part-fits : (n k : ℕ) (xs : List ℕ) → length xs ≡ k → n ≤ k → n ≤ length xs
@@ -13,16 +12,3 @@ part-fits n k xs e l = omega arith
 
 pub part-long : (n k : ℕ) (xs : List ℕ) → length xs ≡ k → n ≤ k → length (take n xs) ≡ n
 part-long n k xs e l = length-take-le n xs (omega arith)
-
-abbrev pub blankTable : Table
-blankTable = record {
-  held = 0;
-  «key_type» = 0;
-  timed = 0;
-  «data_types» = 0;
-  «name_len» = 0;
-  «key_len» = 0;
-  expiry = 0;
-  periods = [];
-  name = [];
-}

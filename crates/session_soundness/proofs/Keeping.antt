@@ -3,16 +3,17 @@ use Prim.Native.Nat.{ℕ, _+_, _≤_, _<_}
 use native.Mathlib.Omega.{arith}
 use mathlib.Core.Path.{_≡_, refl, sym, ap, _∙_, subst}
 use mathlib.Core.Logic.{⊎-elim}
-use mathlib.Core.Bool.{true}
+use mathlib.Core.Bool.{true, false}
 use mathlib.Core.List.{List}
 use lib.ListN.{length, set}
+use lib.Dec.{eqb}
 use lib.Seq.{set-out, getD-set-same, getD-set-other}
 use Rattle.lists.proofs.Cases.{never, lt-or-le, eq-or-ne}
 use Rattle.store.specs.declared.Table.{Table}
 use Rattle.store.specs.Store.{tableHeld, noTable}
 use Rattle.session.specs.declared.Binding.{Binding}
 use Rattle.session.specs.declared.Connection.{Connection}
-use Rattle.session.specs.Session.{isClosed, localName, remoteName, isBound, isUpdated, boundTo, bindingAt, closedWith, establish, makeCurrent, withTables, unbind, bindTo, bind, commitTo, committed}
+use Rattle.session.specs.Session.{isClosed, localName, remoteName, isBound, isUpdated, boundTo, bindingAt, closedWith, establish, makeCurrent, withState, withTables, unbind, bindTo, bind, commitTo, committed}
 use Rattle.session_soundness.specs.Sound.{isClosing}
 use Rattle.session.proofs.CurrentTable.{current-within}
 use Rattle.session.proofs.Shapes.{current-limit}
@@ -63,14 +64,16 @@ put-keeps {ts} place t h s = held-keeps (put-held ts place t h) s
 -- ---- the connection
 
 module _ {tables : List Table} {c : Connection} (s : SoundConnection tables c) where
-  pub close-keeps : (n : ℕ) → isClosing n ≡ true → SoundConnection tables (closedWith c n)
-  unfolding closedWith bindingAt localName remoteName isClosed
-  close-keeps n h =
+  -- another phase, and open or closed with a number: all else stays
+  state-keeps : (phase closed number : ℕ) → phase ≤ 2 → closed ≤ 1 → (eqb closed 1 ≡ true → isClosing number ≡ true)
+      → (eqb closed 1 ≡ false → number ≡ 0) → SoundConnection tables (withState c phase closed number)
+  unfolding bindingAt localName remoteName isClosed
+  state-keeps phase closed number p k f g =
       record {
-        phase = s .phase;
-        closed = omega arith;
-        closedNumber = λ t. h;
-        openNumber = λ t. never refl t;
+        phase = p;
+        closed = k;
+        closedNumber = f;
+        openNumber = g;
         localLength = s .localLength;
         remoteLength = s .remoteLength;
         local = s .local;
@@ -85,27 +88,13 @@ module _ {tables : List Table} {c : Connection} (s : SoundConnection tables c) w
         currentBound = s .currentBound;
       }
 
+  pub close-keeps : (n : ℕ) → isClosing n ≡ true → SoundConnection tables (closedWith c n)
+  unfolding closedWith
+  close-keeps n h = state-keeps (c .phase) 1 n (s .phase) (omega arith) (λ t. h) (λ t. never refl t)
+
   pub establish-keeps : SoundConnection tables (establish c)
-  unfolding establish bindingAt localName remoteName isClosed
-  establish-keeps =
-      record {
-        phase = omega arith;
-        closed = s .closed;
-        closedNumber = s .closedNumber;
-        openNumber = s .openNumber;
-        localLength = s .localLength;
-        remoteLength = s .remoteLength;
-        local = s .local;
-        remote = s .remote;
-        boundFlag = s .boundFlag;
-        updatedFlag = s .updatedFlag;
-        boundHeld = s .boundHeld;
-        updatedHeld = s .updatedHeld;
-        once = s .once;
-        currentLimit = s .currentLimit;
-        currentHeld = s .currentHeld;
-        currentBound = s .currentBound;
-      }
+  unfolding establish isClosed
+  establish-keeps = state-keeps 2 (c .closed) (c .number) (omega arith) (s .closed) (s .closedNumber) (s .openNumber)
 
   -- what is to be shown of another current table and other bindings: all else stays
   record SoundTables (d : Connection) : Type 0 where

@@ -17,7 +17,7 @@ pub fn put_word(room: &mut [u8], at: usize, word: &[u8]) -> usize
 }
 
 // The decimal digits of a number.
-pub fn put_number(room: &mut [u8], at: usize, n: u64) -> usize
+pub fn put_decimal_word(room: &mut [u8], at: usize, n: u64) -> usize
     ensures { λ r. ⌜ Wrote (now (room .entry)) at (spaced (decimal n ∷ [])) (now (room .exit)) r ⌝ }
 {
     let digits = put(room, at, b" ");
@@ -33,7 +33,7 @@ pub fn put_hex_word(room: &mut [u8], at: usize, bytes: &[u8]) -> usize
 }
 
 // The same, or a dash for no bytes.
-pub fn put_bytes(room: &mut [u8], at: usize, bytes: &[u8]) -> usize
+pub fn put_hex_or_none(room: &mut [u8], at: usize, bytes: &[u8]) -> usize
     ensures { λ r. ⌜ Wrote (now (room .entry)) at (spaced (hexOrNone (now (bytes .entry)) ∷ [])) (now (room .exit)) r ⌝ }
 {
     if bytes.len() == 0 {
@@ -43,7 +43,7 @@ pub fn put_bytes(room: &mut [u8], at: usize, bytes: &[u8]) -> usize
 }
 
 // A signed number in decimal.
-pub fn put_signed(room: &mut [u8], at: usize, n: i32) -> usize
+pub fn put_signed_word(room: &mut [u8], at: usize, n: i32) -> usize
     ensures { λ r. ⌜ Wrote (now (room .entry)) at (spaced (signed n ∷ [])) (now (room .exit)) r ⌝ }
 {
     let sign = put(room, at, b" ");

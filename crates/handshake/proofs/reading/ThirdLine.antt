@@ -13,12 +13,12 @@ use Rattle.handshake.specs.declared.Hello.{Hello}
 use Rattle.handshake.specs.declared.Hello.the-variants as hello
 use Rattle.handshake.specs.declared.Part.{Part}
 use Rattle.handshake.specs.declared.Part.the-variants as part
-use Rattle.handshake.specs.declared.Number.{Number}
-use Rattle.handshake.specs.declared.Number.the-variants as number
+use Rattle.handshake.specs.declared.Decimal.{Decimal}
+use Rattle.handshake.specs.declared.Decimal.the-variants as number
 use Rattle.handshake.specs.Bytes.{readDigits}
 use Rattle.handshake.specs.Handshake.{word, afterWord, partB, partOf, numberB, numberOf, numbersB, judgeNames, judgeNumbers, judgeThird}
 use Rattle.handshake.proofs.sender.Spaces.{PartIs, part-is}
-use Rattle.handshake.proofs.sender.Numbers.{NumberIs, number-is}
+use Rattle.handshake.proofs.sender.Numbers.{DecimalIs, number-is}
 
 -- ---- a part, and the bytes after its space
 module _ (s : List ℕ) (k : ℕ) (x : Part) (e : x ≡ partOf s) (f : x ≡ part.Upto k) where
@@ -56,13 +56,13 @@ missing : (s : List ℕ) (x : Part) → x ≡ partOf s → x ≡ part.Missing �
 unfolding PartIs
 missing s x e f = subst (PartIs s) (sym e ∙ f) (part-is s)
 
-malformed : (s : List ℕ) (x : Number) → x ≡ numberOf s → x ≡ number.Malformed → numberB s ≡ false
-unfolding NumberIs
-malformed s x e f = subst (NumberIs s) (sym e ∙ f) (number-is s)
+malformed : (s : List ℕ) (x : Decimal) → x ≡ numberOf s → x ≡ number.Malformed → numberB s ≡ false
+unfolding DecimalIs
+malformed s x e f = subst (DecimalIs s) (sym e ∙ f) (number-is s)
 
-valued : (s : List ℕ) (n : ℕ) (x : Number) → x ≡ numberOf s → x ≡ number.Value n → (n ≡ readDigits 0 s) × (numberB s ≡ true)
-unfolding NumberIs
-valued s n x e f = subst (NumberIs s) (sym e ∙ f) (number-is s)
+valued : (s : List ℕ) (n : ℕ) (x : Decimal) → x ≡ numberOf s → x ≡ number.Value n → (n ≡ readDigits 0 s) × (numberB s ≡ true)
+unfolding DecimalIs
+valued s n x e f = subst (DecimalIs s) (sym e ∙ f) (number-is s)
 
 -- ---- the numbers after the name
 module _ (l r v t n s : List ℕ) (x : Part) (e : x ≡ partOf s) where
@@ -70,12 +70,12 @@ module _ (l r v t n s : List ℕ) (x : Part) (e : x ≡ partOf s) where
   unfolding judgeNumbers numbersB
   numbers-missing f = rw (missing s x e f)
 
-  module _ (k : ℕ) (f : x ≡ part.Upto k) (y : Number) (ey : y ≡ numberOf (take k s)) where
+  module _ (k : ℕ) (f : x ≡ part.Upto k) (y : Decimal) (ey : y ≡ numberOf (take k s)) where
     pub numbers-process : y ≡ number.Malformed → hello.Refused 10 ≡ judgeNumbers l r v t n s
     unfolding judgeNumbers numbersB
     numbers-process g = rw (part-true s k x e f, ← part-word s k x e f, malformed (take k s) y ey g)
 
-    module _ (p : ℕ) (g : y ≡ number.Value p) (z : Number) (ez : z ≡ numberOf (take (length s - (k + 1)) (drop (k + 1) s))) where
+    module _ (p : ℕ) (g : y ≡ number.Value p) (z : Decimal) (ez : z ≡ numberOf (take (length s - (k + 1)) (drop (k + 1) s))) where
       last-number : z ≡ numberOf (afterWord s)
       last-number = ez ∙ ap numberOf (part-after s k x e f)
 

@@ -14,8 +14,8 @@ use borrow.Author.Tests.{lt-leb, le-leb, not-true, not-false}
 use mir.Syntax.{w64}
 use mir.Val.{Fits}
 use Rattle.handshake.specs.Bytes.{within, readDigits}
-use Rattle.handshake.specs.declared.Number.{Number}
-use Rattle.handshake.specs.declared.Number.the-variants as number
+use Rattle.handshake.specs.declared.Decimal.{Decimal}
+use Rattle.handshake.specs.declared.Decimal.the-variants as number
 use Rattle.handshake.specs.Handshake.{numberB, numberOf}
 use Rattle.lists.proofs.Cases.{by-test}
 use Rattle.handshake.proofs.NameBytes.{within-at}
@@ -87,10 +87,10 @@ number-digits s t e d = sym e ∙ not-false t d
 
 pub ruleset numbering = (needs, number-none, number-long, number-other, number-over, number-value, number-digits)
 
-unfoldable pub NumberIs : List ℕ → Number → Type 0
-NumberIs s (number.Value n) = (n ≡ readDigits 0 s) × (numberB s ≡ true)
-NumberIs s number.Malformed = numberB s ≡ false
+unfoldable pub DecimalIs : List ℕ → Decimal → Type 0
+DecimalIs s (number.Value n) = (n ≡ readDigits 0 s) × (numberB s ≡ true)
+DecimalIs s number.Malformed = numberB s ≡ false
 
-pub number-is : (s : List ℕ) → NumberIs s (numberOf s)
-unfolding NumberIs numberOf
+pub number-is : (s : List ℕ) → DecimalIs s (numberOf s)
+unfolding DecimalIs numberOf
 number-is s = by-test (numberB s) (λ h. rw h (refl, h)) (λ h. rw h h)

@@ -12,11 +12,11 @@ use Rattle.lists.proofs.Cases.{and-true, and-false, or-true, or-false}
 use Rattle.lists.proofs.Every.{getD-any}
 use Rattle.store.specs.declared.Table.{Table}
 use Rattle.store.specs.Store.{tableHeld, noTable}
+use Rattle.store.proofs.Lookup.{blankTable}
 use Rattle.session.specs.declared.Connection.{Connection}
 use Rattle.session.specs.Session.{isBound, noBinding, bindingAt}
 use Rattle.session_soundness.specs.Sound.{currentOk}
 use Rattle.session.proofs.Basics.{length-mapped, blank}
-use Rattle.session_soundness.proofs.ArrayParts.{blankTable}
 
 module _ (ts : List Table) (c : Connection) where
   pub current-none : c .current ≡ 0 → true ≡ currentOk ts c

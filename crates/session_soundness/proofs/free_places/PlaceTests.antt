@@ -6,6 +6,7 @@ use lib.Dec.{eqb}
 use borrow.Author.Needs.{needs}
 use borrow.Author.Tests.{eq-eqb, ne-eqb}
 use Rattle.lists.proofs.Cases.{and-true, and-false}
+use Rattle.store.proofs.Lookup.{blankTable}
 use Rattle.session.specs.declared.Binding.{Binding}
 use Rattle.session.specs.Session.{isBound, isUpdated}
 use Rattle.session_soundness.specs.Sound.{noIds}
@@ -23,7 +24,6 @@ use Rattle.store.specs.declared.Table.{Table}
 use Rattle.store.specs.Store.{tableHeld}
 use Rattle.session_soundness.specs.Sound.{noIds, freePlacesOk}
 use Rattle.session.proofs.Basics.{length-mapped, blank, told}
-use Rattle.session_soundness.proofs.ArrayParts.{blankTable}
 
 module _ (b : Binding) where
   pub bound-there : b .bound ≡ 1 → false ≡ noIds b

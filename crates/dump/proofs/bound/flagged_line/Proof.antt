@@ -8,11 +8,11 @@ returns c = search flags
 put-requires : tie.Need-put-requires
 put-requires c κs = search flags
 
-put-number-requires : tie.Need-put-number-requires
-put-number-requires c κs = search flags
+put-decimal-word-requires : tie.Need-put-decimal-word-requires
+put-decimal-word-requires c κs = search flags
 
-put-number-requires-2 : tie.Need-put-number-requires-2
-put-number-requires-2 c κs = search flags
+put-decimal-word-requires-2 : tie.Need-put-decimal-word-requires-2
+put-decimal-word-requires-2 c κs = search flags
 
 slice-aggregate-put : tie.Need-slice-aggregate-put
 slice-aggregate-put c = search flags
@@ -32,8 +32,8 @@ flagged-line-spec =
     (tie.spec
     returns
     put-requires
-    put-number-requires
-    put-number-requires-2
+    put-decimal-word-requires
+    put-decimal-word-requires-2
     slice-aggregate-put
     put-requires-2
     same-length

@@ -5,8 +5,8 @@ use Rattle.dump.proofs.entry.put_server.Tie as tie
 present-requires : tie.Need-present-requires
 present-requires c κs = search servers
 
-put-signed-requires : tie.Need-put-signed-requires
-put-signed-requires c κs = search servers
+put-signed-word-requires : tie.Need-put-signed-word-requires
+put-signed-word-requires c κs = search servers
 
 same-length : tie.Need-same-length
 same-length c = search servers
@@ -19,4 +19,4 @@ returns-2 c = search servers
 
 pub put-server-spec : {M : Type 1} → statement M
 put-server-spec =
-    tie.close (tie.spec present-requires put-signed-requires same-length returns returns-2)
+    tie.close (tie.spec present-requires put-signed-word-requires same-length returns returns-2)

@@ -3,8 +3,8 @@ use borrow.Author.Needs.{needs}
 use Rattle.dump.proofs.lines.put_content.Statement.{statement}
 use Rattle.dump.proofs.lines.put_content.Tie as tie
 
-put-number-requires : tie.Need-put-number-requires
-put-number-requires c κs = search needs
+put-decimal-word-requires : tie.Need-put-decimal-word-requires
+put-decimal-word-requires c κs = search needs
 
 put-key-requires : tie.Need-put-key-requires
 put-key-requires c κs = search needs
@@ -21,4 +21,4 @@ returns c = search entry-words
 pub put-content-spec : {M : Type 1} → statement M
 put-content-spec =
     tie.close
-    (tie.spec put-number-requires put-key-requires put-values-requires same-length returns)
+    (tie.spec put-decimal-word-requires put-key-requires put-values-requires same-length returns)

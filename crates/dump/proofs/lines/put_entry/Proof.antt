@@ -12,8 +12,8 @@ slice-aggregate-put c = search needs
 put-requires : tie.Need-put-requires
 put-requires c κs = search needs
 
-put-number-requires : tie.Need-put-number-requires
-put-number-requires c κs = search needs
+put-decimal-word-requires : tie.Need-put-decimal-word-requires
+put-decimal-word-requires c κs = search needs
 
 put-content-requires : tie.Need-put-content-requires
 put-content-requires c κs = search needs
@@ -37,7 +37,7 @@ put-entry-spec =
     returns
     slice-aggregate-put
     put-requires
-    put-number-requires
+    put-decimal-word-requires
     put-content-requires
     slice-aggregate-put-2
     put-requires-2

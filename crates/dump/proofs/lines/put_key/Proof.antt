@@ -6,11 +6,11 @@ use Rattle.dump.proofs.lines.put_key.Tie as tie
 array-share-prefix-key : tie.Need-array-share-prefix-key
 array-share-prefix-key c = search keys
 
-slice-aggregate-put-bytes : tie.Need-slice-aggregate-put-bytes
-slice-aggregate-put-bytes c = search keys
+slice-aggregate-put-hex-or-none : tie.Need-slice-aggregate-put-hex-or-none
+slice-aggregate-put-hex-or-none c = search keys
 
-put-bytes-requires : tie.Need-put-bytes-requires
-put-bytes-requires c κs = search needs
+put-hex-or-none-requires : tie.Need-put-hex-or-none-requires
+put-hex-or-none-requires c κs = search needs
 
 same-length : tie.Need-same-length
 same-length c = search needs
@@ -18,11 +18,11 @@ same-length c = search needs
 returns : tie.Need-returns
 returns c = search keys
 
-slice-aggregate-put-bytes-2 : tie.Need-slice-aggregate-put-bytes-2
-slice-aggregate-put-bytes-2 c = search needs
+slice-aggregate-put-hex-or-none-2 : tie.Need-slice-aggregate-put-hex-or-none-2
+slice-aggregate-put-hex-or-none-2 c = search needs
 
-put-bytes-requires-2 : tie.Need-put-bytes-requires-2
-put-bytes-requires-2 c κs = search needs
+put-hex-or-none-requires-2 : tie.Need-put-hex-or-none-requires-2
+put-hex-or-none-requires-2 c κs = search needs
 
 same-length-2 : tie.Need-same-length-2
 same-length-2 c = search needs
@@ -35,11 +35,11 @@ put-key-spec =
     tie.close
     (tie.spec
     array-share-prefix-key
-    slice-aggregate-put-bytes
-    put-bytes-requires
+    slice-aggregate-put-hex-or-none
+    put-hex-or-none-requires
     same-length
     returns
-    slice-aggregate-put-bytes-2
-    put-bytes-requires-2
+    slice-aggregate-put-hex-or-none-2
+    put-hex-or-none-requires-2
     same-length-2
     returns-2)

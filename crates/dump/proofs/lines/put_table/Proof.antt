@@ -12,8 +12,8 @@ slice-aggregate-put c = search needs
 put-requires : tie.Need-put-requires
 put-requires c κs = search needs
 
-put-number-requires : tie.Need-put-number-requires
-put-number-requires c κs = search needs
+put-decimal-word-requires : tie.Need-put-decimal-word-requires
+put-decimal-word-requires c κs = search needs
 
 put-definition-requires : tie.Need-put-definition-requires
 put-definition-requires c κs = search needs
@@ -37,7 +37,7 @@ put-table-spec =
     returns
     slice-aggregate-put
     put-requires
-    put-number-requires
+    put-decimal-word-requires
     put-definition-requires
     slice-aggregate-put-2
     put-requires-2

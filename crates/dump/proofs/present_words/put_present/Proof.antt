@@ -6,8 +6,8 @@ use Rattle.dump.proofs.present_words.put_present.Tie as tie
 present-requires : tie.Need-present-requires
 present-requires c κs = search needs
 
-put-number-requires : tie.Need-put-number-requires
-put-number-requires c κs = search needs
+put-decimal-word-requires : tie.Need-put-decimal-word-requires
+put-decimal-word-requires c κs = search needs
 
 same-length : tie.Need-same-length
 same-length c = search needs
@@ -20,4 +20,4 @@ returns-2 c = search presences
 
 pub put-present-spec : {M : Type 1} → statement M
 put-present-spec =
-    tie.close (tie.spec present-requires put-number-requires same-length returns returns-2)
+    tie.close (tie.spec present-requires put-decimal-word-requires same-length returns returns-2)

@@ -21,11 +21,11 @@ slice-aggregate-put-2 c = search needs
 put-requires-2 : tie.Need-put-requires-2
 put-requires-2 c κs = search needs
 
-sub-put-number : tie.Need-sub-put-number
-sub-put-number c = search needs
+sub-put-decimal-word : tie.Need-sub-put-decimal-word
+sub-put-decimal-word c = search needs
 
-put-number-requires : tie.Need-put-number-requires
-put-number-requires c κs = search needs
+put-decimal-word-requires : tie.Need-put-decimal-word-requires
+put-decimal-word-requires c κs = search needs
 
 slice-aggregate-put-3 : tie.Need-slice-aggregate-put-3
 slice-aggregate-put-3 c = search needs
@@ -49,8 +49,8 @@ current-line-spec =
     returns
     slice-aggregate-put-2
     put-requires-2
-    sub-put-number
-    put-number-requires
+    sub-put-decimal-word
+    put-decimal-word-requires
     slice-aggregate-put-3
     put-requires-3
     same-length-2

@@ -15,11 +15,11 @@ same-length c = search needs
 returns : tie.Need-returns
 returns c = no-times _ (c .before .before .before .before .before .if1 .taken) (c .before .before .put-word .ensures)
 
-cast-put-number : tie.Need-cast-put-number
-cast-put-number c = search needs
+cast-put-decimal-word : tie.Need-cast-put-decimal-word
+cast-put-decimal-word c = search needs
 
-put-number-requires : tie.Need-put-number-requires
-put-number-requires c κs = search needs
+put-decimal-word-requires : tie.Need-put-decimal-word-requires
+put-decimal-word-requires c κs = search needs
 
 put-periods-requires : tie.Need-put-periods-requires
 put-periods-requires c κs = search needs
@@ -28,7 +28,7 @@ same-length-2 : tie.Need-same-length-2
 same-length-2 c = search needs
 
 returns-2 : tie.Need-returns-2
-returns-2 c = times _ (c .before .before .before .before .before .before .before .before .before .if1 .left) (c .before .before .before .before .before .before .put-number .ensures) (c .before .before .put-periods .ensures)
+returns-2 c = times _ (c .before .before .before .before .before .before .before .before .before .if1 .left) (c .before .before .before .before .before .before .put-decimal-word .ensures) (c .before .before .put-periods .ensures)
 
 pub put-times-spec : {M : Type 1} → statement M
 put-times-spec =
@@ -38,8 +38,8 @@ put-times-spec =
     put-word-requires
     same-length
     returns
-    cast-put-number
-    put-number-requires
+    cast-put-decimal-word
+    put-decimal-word-requires
     put-periods-requires
     same-length-2
     returns-2)

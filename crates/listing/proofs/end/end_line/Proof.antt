@@ -12,8 +12,8 @@ put-requires c κs = search needs
 put-word-requires : tie.Need-put-word-requires
 put-word-requires c κs = search needs
 
-put-number-requires : tie.Need-put-number-requires
-put-number-requires c κs = search needs
+put-decimal-word-requires : tie.Need-put-decimal-word-requires
+put-decimal-word-requires c κs = search needs
 
 slice-aggregate-put-2 : tie.Need-slice-aggregate-put-2
 slice-aggregate-put-2 c = search needs
@@ -34,7 +34,7 @@ end-line-spec =
     slice-aggregate-put
     put-requires
     put-word-requires
-    put-number-requires
+    put-decimal-word-requires
     slice-aggregate-put-2
     put-requires-2
     same-length

@@ -3,8 +3,8 @@ use borrow.Author.Needs.{needs}
 use Rattle.listing.proofs.update.put_commit_at.Statement.{statement}
 use Rattle.listing.proofs.update.put_commit_at.Tie as tie
 
-put-number-requires : tie.Need-put-number-requires
-put-number-requires c κs = search needs
+put-decimal-word-requires : tie.Need-put-decimal-word-requires
+put-decimal-word-requires c κs = search needs
 
 put-commit-requires : tie.Need-put-commit-requires
 put-commit-requires c κs = search needs
@@ -17,4 +17,4 @@ returns c = search putting-line
 
 pub put-commit-at-spec : {M : Type 1} → statement M
 put-commit-at-spec =
-    tie.close (tie.spec put-number-requires put-commit-requires same-length returns)
+    tie.close (tie.spec put-decimal-word-requires put-commit-requires same-length returns)

@@ -5,8 +5,8 @@ use Rattle.listing.proofs.words.number_line.Tie as tie
 put-requires : tie.Need-put-requires
 put-requires c κs = search putting-line
 
-put-number-requires : tie.Need-put-number-requires
-put-number-requires c κs = search putting-line
+put-decimal-word-requires : tie.Need-put-decimal-word-requires
+put-decimal-word-requires c κs = search putting-line
 
 slice-aggregate-put : tie.Need-slice-aggregate-put
 slice-aggregate-put c = search putting-line
@@ -25,7 +25,7 @@ number-line-spec =
     tie.close
     (tie.spec
     put-requires
-    put-number-requires
+    put-decimal-word-requires
     slice-aggregate-put
     put-requires-2
     same-length

@@ -9,8 +9,8 @@ slice-aggregate-put c = search needs
 put-requires : tie.Need-put-requires
 put-requires c κs = search needs
 
-put-number-requires : tie.Need-put-number-requires
-put-number-requires c κs = search needs
+put-decimal-word-requires : tie.Need-put-decimal-word-requires
+put-decimal-word-requires c κs = search needs
 
 put-name-requires : tie.Need-put-name-requires
 put-name-requires c κs = search needs
@@ -33,7 +33,7 @@ table-line-spec =
     (tie.spec
     slice-aggregate-put
     put-requires
-    put-number-requires
+    put-decimal-word-requires
     put-name-requires
     slice-aggregate-put-2
     put-requires-2

@@ -1,6 +1,6 @@
 use Rattle.text.proofs.spaced.SpacedWords.{putting-word}
-use Rattle.text.proofs.spaced.put_number.Statement.{statement}
-use Rattle.text.proofs.spaced.put_number.Tie as tie
+use Rattle.text.proofs.spaced.put_decimal_word.Statement.{statement}
+use Rattle.text.proofs.spaced.put_decimal_word.Tie as tie
 
 slice-aggregate-put : tie.Need-slice-aggregate-put
 slice-aggregate-put c = search putting-word
@@ -17,6 +17,6 @@ same-length c = search putting-word
 returns : tie.Need-returns
 returns c = search putting-word
 
-pub put-number-spec : {M : Type 1} → statement M
-put-number-spec =
+pub put-decimal-word-spec : {M : Type 1} → statement M
+put-decimal-word-spec =
     tie.close (tie.spec slice-aggregate-put put-requires put-decimal-requires same-length returns)

@@ -1,7 +1,7 @@
 use Rattle.text.proofs.spaced.SpacedWords.{putting-word}
 use borrow.Author.Needs.{needs}
-use Rattle.text.proofs.spaced.put_signed.Statement.{statement}
-use Rattle.text.proofs.spaced.put_signed.Tie as tie
+use Rattle.text.proofs.spaced.put_signed_word.Statement.{statement}
+use Rattle.text.proofs.spaced.put_signed_word.Tie as tie
 
 slice-aggregate-put : tie.Need-slice-aggregate-put
 slice-aggregate-put c = search needs
@@ -18,6 +18,6 @@ same-length c = search needs
 returns : tie.Need-returns
 returns c = search putting-word
 
-pub put-signed-spec : {M : Type 1} → statement M
-put-signed-spec =
+pub put-signed-word-spec : {M : Type 1} → statement M
+put-signed-word-spec =
     tie.close (tie.spec slice-aggregate-put put-requires put-integer-requires same-length returns)

@@ -1,7 +1,7 @@
 use Rattle.text.proofs.spaced.SpacedWords.{no-bytes, some-bytes}
 use borrow.Author.Needs.{needs}
-use Rattle.text.proofs.spaced.put_bytes.Statement.{statement}
-use Rattle.text.proofs.spaced.put_bytes.Tie as tie
+use Rattle.text.proofs.spaced.put_hex_or_none.Statement.{statement}
+use Rattle.text.proofs.spaced.put_hex_or_none.Tie as tie
 
 slice-aggregate-put-word : tie.Need-slice-aggregate-put-word
 slice-aggregate-put-word c = search needs
@@ -24,8 +24,8 @@ same-length-2 c = search needs
 returns-2 : tie.Need-returns-2
 returns-2 c = some-bytes _ (c .before .before .before .before .if1 .left) (c .before .before .put-hex-word .ensures)
 
-pub put-bytes-spec : {M : Type 1} → statement M
-put-bytes-spec =
+pub put-hex-or-none-spec : {M : Type 1} → statement M
+put-hex-or-none-spec =
     tie.close
     (tie.spec
     slice-aggregate-put-word
