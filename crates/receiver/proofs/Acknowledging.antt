@@ -123,23 +123,23 @@ small-append (x ∷ xs) ys f g zero = f zero
 small-append (x ∷ xs) ys f g (suc i) = small-append xs ys (λ j. f (suc j)) g i
 
 -- no other answer's reply is an acknowledgement
-only-updates : (l : Ledger) (reply : List ℕ) (a : Answer) → RightReply l reply a → isAcknowledgement reply ≡ true
+only-updates : (l : Ledger) (message reply : List ℕ) (a : Answer) → RightReply l message reply a → isAcknowledgement reply ≡ true
     → (table : ℕ) × ((id : ℕ) × ((place : ℕ) × ((how : Commit) × (a ≡ answer.Update table id place how))))
-only-updates l reply answer.More r h = never h (r .other)
-only-updates l reply (answer.Hello process relative) r h = never h (r .other)
-only-updates l reply answer.Status r h = never h (r .other)
-only-updates l reply answer.Request r h = never h (r .other)
-only-updates l reply answer.Finished r h = never h (r .other)
-only-updates l reply answer.Partial r h = never h (r .other)
-only-updates l reply answer.Confirmed r h = never h (r .other)
-only-updates l reply answer.Heartbeat r h = never h (r .other)
-only-updates l reply (answer.Error type) r h = never h (r .other)
-only-updates l reply (answer.Table place) r h = never h (r .other)
-only-updates l reply (answer.Switch place) r h = never h (r .other)
-only-updates l reply (answer.Update table id place how) r h = (table, (id, (place, (how, refl))))
-only-updates l reply (answer.Acknowledgement id update) r h = never h (r .other)
-only-updates l reply (answer.Skipped kind) r h = never h (r .other)
-only-updates l reply (answer.Refused n) r h = never h (r .other)
+only-updates l message reply answer.More r h = never h (r .other)
+only-updates l message reply (answer.Hello process relative) r h = never h (r .other)
+only-updates l message reply answer.Status r h = never h (r .other)
+only-updates l message reply answer.Request r h = never h (r .other)
+only-updates l message reply answer.Finished r h = never h (r .other)
+only-updates l message reply answer.Partial r h = never h (r .other)
+only-updates l message reply answer.Confirmed r h = never h (r .other)
+only-updates l message reply answer.Heartbeat r h = never h (r .other)
+only-updates l message reply (answer.Error type) r h = never h (r .other)
+only-updates l message reply (answer.Table place) r h = never h (r .other)
+only-updates l message reply (answer.Switch place) r h = never h (r .none .other)
+only-updates l message reply (answer.Update table id place how) r h = (table, (id, (place, (how, refl))))
+only-updates l message reply (answer.Acknowledgement id update) r h = never h (r .other)
+only-updates l message reply (answer.Skipped kind) r h = never h (r .other)
+only-updates l message reply (answer.Refused n) r h = never h (r .other)
 
 pub put-here : (t : Store) (place : ℕ) (e : Entry) → place < length (t .entries) → getD (putEntry t place e .entries) place noEntry ≡ e
 unfolding putEntry
@@ -181,7 +181,7 @@ module _ (s : Session) (t : Store) (m : Made) (p : ReadPromise s t m) (e : Effec
   entry-held : isAcknowledgement (replyIn m) ≡ true → EntryHeld s t m
   unfolding updatedEntry
   entry-held h =
-      let k = only-updates _ (e .reply) (e .answer) (right .follow .right (startLedger (s .connection)) (starts-following (s .connection))) (acked h) in
+      let k = only-updates _ (messageOf s m) (e .reply) (e .answer) (right .follow .right (startLedger (s .connection)) (starts-following (s .connection))) (acked h) in
       let table = k .0 in
       let id = k .1 .0 in
       let place = k .1 .1 .0 in

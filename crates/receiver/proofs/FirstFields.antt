@@ -24,10 +24,10 @@ use Rattle.frame.specs.declared.Frame.{Frame}
 use Rattle.frame.specs.declared.Frame.the-variants as frame
 use Rattle.frame.specs.Frame.{headerOf, withLength, withHeader, judgeFrame}
 use Rattle.body.specs.Fields.{Read, got, short, outside, Reader, andThen, tested, integer, integerOf, numberRead, number4}
-use Rattle.body.specs.Bodies.{Named, namedFields, Shape, shapeFields, Times, timesFields, Definition, defined, restFields, definitionFields, Update, entryFields, updateFields}
+use Rattle.body.specs.Bodies.{Named, namedFields, Shape, shapeFields, Times, timesFields, Definition, defined, restFields, definitionFields, switchFields, Update, entryFields, updateFields}
 use Rattle.body.proofs.Taken.{Taken, held}
 use Rattle.body.proofs.Within.{EntryWithin, entry-holds}
-use Rattle.receiver.specs.Ledger.{afterInt, bodyStart, valueOf, definedId, numberValue, explicitId}
+use Rattle.receiver.specs.Ledger.{afterInt, bodyStart, valueOf, tableId, numberValue, explicitId}
 
 -- ---- where the body starts
 
@@ -141,14 +141,22 @@ defined-id m body at d next e =
 
 -- the ID of a definition is the integer that its body begins with
 pub definition-id : (u : List ℕ) (kind start end : ℕ) (d : Definition) (next : ℕ) → judgeFrame u ≡ frame.Body kind start end → start ≤ length u
-    → definitionFields (take (end - start) (drop start u)) ≡ got d next → definedId u ≡ d .id
-unfolding definedId valueOf definitionFields
+    → definitionFields (take (end - start) (drop start u)) ≡ got d next → tableId u ≡ d .id
+unfolding tableId valueOf definitionFields
 definition-id u kind start end d next e h g =
     let body = take (end - start) (drop start u) in
     let a = then-got (namedFields body 0) _ d next g in
     let r = named-id body (a .0) (a .1) (a .2) in
     let i = int-there u start (end - start) h (a .0 .id) (r .0) (r .1) in
     ap valueOf (ap (readInt u) (body-starts u kind start end e) ∙ i) ∙ sym (defined-id (a .0) body (a .1) d next (a .3))
+
+-- so is a switch's
+pub switch-id : (u : List ℕ) (kind start end : ℕ) (id next : ℕ) → judgeFrame u ≡ frame.Body kind start end → start ≤ length u
+    → switchFields (take (end - start) (drop start u)) ≡ got id next → tableId u ≡ id
+unfolding tableId valueOf switchFields integerOf integer
+switch-id u kind start end id next e h g =
+    let body = take (end - start) (drop start u) in
+    ap valueOf (ap (readInt u) (body-starts u kind start end e) ∙ int-there u start (end - start) h id next (tested-got _ (readInt body 0) id next g))
 
 number-got : (r : Number) (v n : ℕ) → numberRead r ≡ got v n → r ≡ number.Value v n
 unfolding numberRead

@@ -28,7 +28,7 @@ use Rattle.session.proofs.CurrentTable.{current-within}
 use Rattle.session.proofs.Bindings.{bound-here, bound-lost, bound-kept, bind-cases, commit-cases, committed-here, committed-other}
 use Rattle.message.specs.Effects.{Effect, refuse, note, peerError, control, controlAnswer, controlReply, defineAt, switchTo, commitAt, acknowledge}
 use Rattle.streams.specs.Model.{Ended}
-use Rattle.receiver.specs.Ledger.{Ledger, startLedger, post, defines, switches, commits, without, at, definedId, updateId, isAcknowledgement, Carried, RightReply, NoAcknowledgement}
+use Rattle.receiver.specs.Ledger.{Ledger, startLedger, post, defines, switches, commits, without, at, tableId, updateId, isAcknowledgement, Carried, RightReply, NoAcknowledgement}
 
 pub record Follows (c : Connection) (l : Ledger) : Type 0 where
   pub current : l .current ≡ startLedger c .current
@@ -45,7 +45,7 @@ endedAs m e = record { message = m; answer = e .answer; reply = e .reply }
 -- what a message does keeps the ledger in step, and its reply is right
 pub record Follow (c : Connection) (m : List ℕ) (e : Effect) : Type 0 where
   pub follows : (l : Ledger) → Follows c l → Follows (e .connection) (post l (endedAs m e))
-  pub right : (l : Ledger) → Follows c l → RightReply (post l (endedAs m e)) (e .reply) (e .answer)
+  pub right : (l : Ledger) → Follows c l → RightReply (post l (endedAs m e)) m (e .reply) (e .answer)
 
 -- ---- replies that are no acknowledgements
 
@@ -170,7 +170,7 @@ control-follow c type m =
     (λ e. rw e (record { follows = λ l f. f; right = λ l f. control-none type }))
     (λ e. rw e (record { follows = λ l f. f; right = λ l f. control-none type }))))))))
 
--- ---- a switch
+-- ---- the current table
 
 pub current-some : (c : Connection) (place : ℕ) → c .current ≡ place + 1 → startLedger c .current ≡ some place
 unfolding startLedger
@@ -182,18 +182,7 @@ made-current : (c : Connection) (place : ℕ) → place < 8 → makeCurrent c pl
 unfolding makeCurrent withTables
 made-current c place h = sym (current-within place h)
 
-pub switch-follow : (c : Connection) (place : ℕ) (m : List ℕ) → place < 8 → Follow c m (note (makeCurrent c place) (answer.Switch place) [])
-unfolding note post switches
-switch-follow c place m h = record {
-  follows = λ l f. record {
-    current = sym (current-some (makeCurrent c place) place (made-current c place h));
-    bound = λ p. f .bound p ∙ unfold startLedger bindingAt makeCurrent withTables in refl;
-    last = λ p. f .last p ∙ unfold startLedger bindingAt makeCurrent withTables in refl;
-  };
-  right = λ l f. none-none;
-}
-
--- ---- a definition
+-- ---- a switch and a definition
 
 boundOf : Binding → Option ℕ
 boundOf b = cond (isBound b) (some (b .id)) none
@@ -212,6 +201,24 @@ start-last c p = refl
 pub last-some : (c : Connection) (p : ℕ) → isUpdated (bindingAt c p) ≡ true → startLedger c .last p ≡ some (bindingAt c p .previous)
 unfolding startLedger
 last-some c p h = cond-true (isUpdated (bindingAt c p)) (some (bindingAt c p .previous)) none h
+
+-- the ID that is bound
+bound-id : (id : ℕ) (b : Binding) → boundTo id b ≡ true → boundOf b ≡ some id
+unfolding boundOf boundTo
+bound-id id b h =
+    cond-true (isBound b) (some (b .id)) none (and-first (isBound b) (eqb (b .id) id) h)
+    ∙ ap some (eqb-true (b .id) id (and-second (isBound b) (eqb (b .id) id) h))
+
+pub switch-follow : (c : Connection) (id place : ℕ) (m : List ℕ) → place < 8 → boundTo id (bindingAt c place) ≡ true → tableId m ≡ id → Follow c m (note (makeCurrent c place) (answer.Switch place) [])
+unfolding note post switches
+switch-follow c id place m h b e = record {
+  follows = λ l f. record {
+    current = sym (current-some (makeCurrent c place) place (made-current c place h));
+    bound = λ p. f .bound p ∙ unfold startLedger bindingAt makeCurrent withTables in refl;
+    last = λ p. f .last p ∙ unfold startLedger bindingAt makeCurrent withTables in refl;
+  };
+  right = λ l f. record { bound = f .bound place ∙ (start-bound c place ∙ (bound-id id (bindingAt c place) b ∙ ap some (sym e))); none = none-none };
+}
 
 bound-of-bound : (id : ℕ) (b : Binding) → boundOf (bindTo id b) ≡ some id
 unfolding boundOf bindTo isBound
@@ -273,7 +280,7 @@ module _ (c : Connection) (place id : ℕ) (h : place < 8) (long : length (c .bi
       ∙ sym (start-last (bind c place id) p)))
 
 pub define-follow : (c : Connection) (id : ℕ) (t : Table) (place : ℕ) (m : List ℕ) → place < 8
-    → length (c .bindings) ≡ 8 → definedId m ≡ id → Follow c m (defineAt c id t place)
+    → length (c .bindings) ≡ 8 → tableId m ≡ id → Follow c m (defineAt c id t place)
 unfolding defineAt post
 define-follow c id t place m h long e = record {
   follows = λ l f.

@@ -51,11 +51,11 @@ use Rattle.message.specs.Targets.{goesTo}
 use Rattle.message.specs.Effects.{Effect, refuse, refusal, note, fieldsThen, control, controlAnswer, controlReply, peerError, defineAt, defineNew, defineNamed, agrees, definition, switchTo, switch, acknowledgement, skipped, commitAt, commitEntry, withFields, followingId, incrementalOf, update, incremental, definedTable, updatedEntry, stickTable, done}
 use Rattle.message.proofs.Acknowledging.{acknowledge-short}
 use Rattle.message.proofs.Kept.{Held, Kept, stays-kept, refuse-kept, error-kept, note-kept, switch-kept, definition-kept, update-kept}
-use Rattle.receiver.specs.Ledger.{Ledger, definedId, updateId, at, kindOf, nextId, explicitId, startLedger}
+use Rattle.receiver.specs.Ledger.{Ledger, tableId, updateId, at, kindOf, nextId, explicitId, startLedger}
 use Rattle.reassembly.specs.Judge.{Judged, waiting, settled, helloJudged, statusJudged, frameJudged, asksNone, judgeBytes, doneOf, judge}
 use Rattle.receiver.specs.Model.{ends}
 use Rattle.receiver.proofs.Following.{Follows, Follow, current-some, last-some, refuse-follow, hello-follow, status-follow, error-follow, control-follow, skipped-follow, acknowledgement-follow, switch-follow, define-follow, commit-follow}
-use Rattle.receiver.proofs.FirstFields.{body-starts, definition-id, update-explicit}
+use Rattle.receiver.proofs.FirstFields.{body-starts, definition-id, switch-id, update-explicit}
 
 pub record Right (c : Connection) (s : Store) (m : List ℕ) (e : Effect) : Type 0 where
   pub short : length (e .reply) ≤ 12
@@ -193,34 +193,32 @@ module _ (c : Connection) (s : Store) (h : Held c s) (m : List ℕ) where
   unfolding skipped
   skipped-right kind = noted (answer.Skipped kind) (skipped-follow c kind m)
 
-  switch-right : (body : List ℕ) → Right c s m (switch c body)
-  unfolding switch
-  switch-right body = fields-right (switchFields body) _ (λ id n e. to id (findBound c id) refl)
-    where
-      to : (id : ℕ) (f : Found) → findBound c id ≡ f → Right c s m (switchTo c f)
-      to id (found.At p) e =
-          let l : p < 8 = omega (arith, found-bound c id p e .0, h .connectionShape .places) in
-          record {
-            short = unfold switchTo note in omega arith;
-            kept = switch-kept c s h id (found.At p) e;
-            follow = unfold switchTo in switch-follow c p m l;
-          }
-      to id found.Nothing e = unfold switchTo in message-refused 27 (omega arith) (omega arith)
+  -- a switch, whose ID is the ledger's
+  switch-to-right : (id : ℕ) → tableId m ≡ id → (f : Found) → findBound c id ≡ f → Right c s m (switchTo c f)
+  switch-to-right id q (found.At p) e =
+      let b = found-bound c id p e in
+      let l : p < 8 = omega (arith, b .0, h .connectionShape .places) in
+      record {
+        short = unfold switchTo note in omega arith;
+        kept = switch-kept c s h id (found.At p) e;
+        follow = unfold switchTo in switch-follow c id p m l (b .1) q;
+      }
+  switch-to-right id q found.Nothing e = unfold switchTo in message-refused 27 (omega arith) (omega arith)
 
   -- a definition, whose ID is the ledger's
-  define-at-right : (id : ℕ) (t : Table) (p : ℕ) → definedId m ≡ id → p < length (s .tables) → Kept s (defineAt c id t p) → Right c s m (defineAt c id t p)
+  define-at-right : (id : ℕ) (t : Table) (p : ℕ) → tableId m ≡ id → p < length (s .tables) → Kept s (defineAt c id t p) → Right c s m (defineAt c id t p)
   define-at-right id t p e l k = record {
     short = unfold defineAt in omega arith;
     kept = k;
     follow = define-follow c id t p m (omega (arith, h .storeShape .tables)) (h .connectionShape .places) e;
   }
 
-  define-new-right : (id : ℕ) (t : Table) → definedId m ≡ id → (f : Found) → firstPlace tableFree (s .tables) ≡ f → Kept s (defineNew c id t f) → Right c s m (defineNew c id t f)
+  define-new-right : (id : ℕ) (t : Table) → tableId m ≡ id → (f : Found) → firstPlace tableFree (s .tables) ≡ f → Kept s (defineNew c id t f) → Right c s m (defineNew c id t f)
   unfolding defineNew
   define-new-right id t e (found.At p) q k = define-at-right id t p e (first-at tableFree (s .tables) p q .inside) k
   define-new-right id t e found.Nothing q k = message-refused 26 (omega arith) (omega arith)
 
-  define-right : (id : ℕ) (t : Table) (name : List ℕ) → definedId m ≡ id → (f : Found) → firstPlace (tableNamed name) (s .tables) ≡ f
+  define-right : (id : ℕ) (t : Table) (name : List ℕ) → tableId m ≡ id → (f : Found) → firstPlace (tableNamed name) (s .tables) ≡ f
       → Kept s (defineNamed c (s .tables) id t f) → Right c s m (defineNamed c (s .tables) id t f)
   unfolding defineNamed
   define-right id t name e (found.At p) q k =
@@ -287,6 +285,12 @@ module _ (c : Connection) (s : Store) (h : Held c s) (m : List ℕ) (mb : Bytes 
   kind-is : kindOf m ≡ kind
   unfolding kindOf
   kind-is = sym (whole-facts m kind start end e .type)
+
+  switch-right : Right c s m (switch c body)
+  unfolding switch
+  switch-right =
+      fields-right c s h m (switchFields body) _
+      (λ id n q. switch-to-right c s h m id (switch-id m kind start end id n e start-inside q) (findBound c id) refl)
 
   definition-right : Right c s m (definition c (s .tables) body)
   unfolding definition
@@ -390,7 +394,7 @@ module _ (c : Connection) (s : Store) (h : Held c s) (m : List ℕ) (mb : Bytes 
       (λ d.
       rw d
       (by-test (eqb kind 131)
-      (λ f. rw f (switch-right c s h m body))
+      (λ f. rw f switch-right)
       (λ f.
       rw f
       (by-test (eqb kind 133) (λ g. rw g (acknowledgement-right c s h m body)) (λ g. rw g (skipped-right c s h m kind))))))))))

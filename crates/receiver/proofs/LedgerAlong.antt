@@ -90,8 +90,8 @@ module _ (s : Session) (t : Store) (m : Made) (p : ReadPromise s t m) (f : sound
       ends-now : ends (m .outcome .answer) ≡ true
       ends-now = ap ends (answer-is s t m p ∙ j .answer) ∙ settled-ends (s .connection) t _ e (j .judged)
 
-      right-now : RightReply (post l (endedBy u m)) (endedBy u m .reply) (endedBy u m .answer)
-      right-now = subst (λ (x : Ended Answer). RightReply (post l x) (x .reply) (x .answer)) (sym ended-is) (fact .follow .right l k)
+      right-now : RightReply (post l (endedBy u m)) (endedBy u m .message) (endedBy u m .reply) (endedBy u m .answer)
+      right-now = subst (λ (x : Ended Answer). RightReply (post l x) (x .message) (x .reply) (x .answer)) (sym ended-is) (fact .follow .right l k)
 
       follows-now : Follows (m .session .connection) (post l (endedBy u m))
       follows-now =

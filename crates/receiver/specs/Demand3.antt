@@ -134,7 +134,7 @@ AcknowledgedCalls l u [] = Unit {0}
 AcknowledgedCalls l u (m ∷ ms) =
     let e = endedBy u m in
     cond (ends (m .outcome .answer))
-    (RightReply (post l e) (e .reply) (e .answer) × AcknowledgedCalls (post l e) [] ms)
+    (RightReply (post l e) (e .message) (e .reply) (e .answer) × AcknowledgedCalls (post l e) [] ms)
     ((replyIn m ≡ []) × AcknowledgedCalls l (e .message) ms)
 
 -- ---- 5: 4 is never answered

@@ -55,9 +55,9 @@ valueOf (int.Value v next) = v
 valueOf int.Short = 0
 valueOf int.Overflow = 0
 
--- the sender's table ID of a definition
-unfoldable pub definedId : List ℕ → ℕ
-definedId message = valueOf (readInt message (bodyStart message))
+-- the sender's table ID that the body of a definition or of a switch begins with
+unfoldable pub tableId : List ℕ → ℕ
+tableId message = valueOf (readInt message (bodyStart message))
 
 unfoldable pub numberValue : Number → ℕ
 numberValue (number.Value v next) = v
@@ -120,7 +120,7 @@ post l e =
       | answer.Confirmed ↦ l
       | answer.Heartbeat ↦ l
       | answer.Error type ↦ l
-      | answer.Table place ↦ defines l place (definedId (e .message))
+      | answer.Table place ↦ defines l place (tableId (e .message))
       | answer.Switch place ↦ switches l place
       | answer.Update table id entry how ↦ commits l (l .current) (updateId (e .message) (at (l .last) (l .current)))
       | answer.Acknowledgement id update ↦ l
@@ -150,24 +150,29 @@ pub record NoAcknowledgement (reply : List ℕ) : Type 0 where
   pub other : isAcknowledgement reply ≡ false
   pub short : length reply ≤ 4
 
+-- a switch goes to the table that is bound to the ID in its message
+pub record Switched (l : Ledger) (message reply : List ℕ) (place : ℕ) : Type 0 where
+  pub bound : l .bound place ≡ some (tableId message)
+  pub none : NoAcknowledgement reply
+
 -- "a committed update gives one acknowledgement"; no other message's reply is one
-abbrev pub RightReply : Ledger → List ℕ → Answer → Type 0
-RightReply l reply answer.More = NoAcknowledgement reply
-RightReply l reply (answer.Hello process relative) = NoAcknowledgement reply
-RightReply l reply answer.Status = NoAcknowledgement reply
-RightReply l reply answer.Request = NoAcknowledgement reply
-RightReply l reply answer.Finished = NoAcknowledgement reply
-RightReply l reply answer.Partial = NoAcknowledgement reply
-RightReply l reply answer.Confirmed = NoAcknowledgement reply
-RightReply l reply answer.Heartbeat = NoAcknowledgement reply
-RightReply l reply (answer.Error type) = NoAcknowledgement reply
-RightReply l reply (answer.Table place) = NoAcknowledgement reply
-RightReply l reply (answer.Switch place) = NoAcknowledgement reply
-RightReply l reply (answer.Update table id entry how) = Carried l reply table id
-RightReply l reply (answer.Acknowledgement id update) = NoAcknowledgement reply
-RightReply l reply (answer.Skipped kind) = NoAcknowledgement reply
-RightReply l reply (answer.Refused n) = NoAcknowledgement reply
+abbrev pub RightReply : Ledger → List ℕ → List ℕ → Answer → Type 0
+RightReply l message reply answer.More = NoAcknowledgement reply
+RightReply l message reply (answer.Hello process relative) = NoAcknowledgement reply
+RightReply l message reply answer.Status = NoAcknowledgement reply
+RightReply l message reply answer.Request = NoAcknowledgement reply
+RightReply l message reply answer.Finished = NoAcknowledgement reply
+RightReply l message reply answer.Partial = NoAcknowledgement reply
+RightReply l message reply answer.Confirmed = NoAcknowledgement reply
+RightReply l message reply answer.Heartbeat = NoAcknowledgement reply
+RightReply l message reply (answer.Error type) = NoAcknowledgement reply
+RightReply l message reply (answer.Table place) = NoAcknowledgement reply
+RightReply l message reply (answer.Switch place) = Switched l message reply place
+RightReply l message reply (answer.Update table id entry how) = Carried l reply table id
+RightReply l message reply (answer.Acknowledgement id update) = NoAcknowledgement reply
+RightReply l message reply (answer.Skipped kind) = NoAcknowledgement reply
+RightReply l message reply (answer.Refused n) = NoAcknowledgement reply
 
 -- a message that ended, between the ledger before it and the ledger after it
 abbrev pub Acknowledged : Ledger → Ledger → Ended Answer → Type 0
-Acknowledged before after e = RightReply after (e .reply) (e .answer)
+Acknowledged before after e = RightReply after (e .message) (e .reply) (e .answer)
