@@ -1,21 +1,18 @@
 -- What a message does, as the struct that the functions return: a law for each way to a result.
 use Prim.Native.Nat.{ℕ}
-use mathlib.Core.Path.{_≡_, refl, sym, ap, _∙_}
+use mathlib.Core.Path.{_≡_, ap, _∙_}
 use mathlib.Core.List.{List, []}
 use mathlib.Core.Bool.{true, false}
 use mir.Val.{Fits}
 use mir.Syntax.{w32}
 use borrow.Author.Needs.{needs}
-use borrow.Author.Tests.{eq-eqb, ne-eqb}
 use Rattle.lists.specs.declared.Found.{Found}
 use Rattle.lists.specs.declared.Found.the-variants as found
-use Rattle.lists.proofs.Cases.{cond-true, cond-false}
 use Rattle.wire.specs.declared.Field.{Field}
 use Rattle.wire.specs.declared.Field.the-variants as field
 use Rattle.store.specs.declared.Table.{Table}
 use Rattle.store.specs.declared.Entry.{Entry}
-use Rattle.store.specs.declared.Store.{Store}
-use Rattle.store.specs.Store.{putTable, putEntry, noTable, noEntry}
+use Rattle.store.specs.Store.{noTable, noEntry}
 use Rattle.session.specs.declared.Connection.{Connection}
 use Rattle.session.specs.declared.Reply.{Reply}
 use Rattle.session.specs.declared.Answer.{Answer}
@@ -31,7 +28,7 @@ use Rattle.body.proofs.Given.{switch-id, switch-short, switch-out, acknowledgem
 use Rattle.message.specs.declared.Change.{Change}
 use Rattle.message.specs.declared.Effect.{Effect as EffectStruct}
 use Rattle.message.specs.declared.Asked.{Asked}
-use Rattle.message.specs.Changes.{noChange, tableChange, entryChange, changed}
+use Rattle.message.specs.Changes.{noChange, tableChange, entryChange}
 use Rattle.message.specs.Effects.{Effect, note, refuse, refusal, fieldsThen, controlAnswer, controlReply, control, peerError, switchTo, switch, acknowledgement, skipped}
 use Rattle.message.specs.Structs.{effectStruct, asksNothing, asksCommit, asked}
 
@@ -54,32 +51,7 @@ module _ (t : Table) (e : Entry) where
     unfolding entryChange
     entry-put p = rw p
 
-module _ (s : Store) (d : Change) where
-  pub puts-table : (u : Store) → d .kind ≡ 1 → u ≡ putTable s (d .place) (d .table) → u ≡ changed s d
-  unfolding changed
-  puts-table u e q = q ∙ sym (cond-true _ _ _ (eq-eqb (d .kind) 1 e))
-
-  pub puts-entry : (u : Store) → (d .kind ≡ 1 → ⊥) → d .kind ≡ 2 → u ≡ putEntry s (d .place) (d .entry) → u ≡ changed s d
-  unfolding changed
-  puts-entry u h e q = q ∙ sym (cond-false _ _ _ (ne-eqb (d .kind) 1 h) ∙ cond-true _ _ _ (eq-eqb (d .kind) 2 e))
-
-  pub puts-nothing : (d .kind ≡ 1 → ⊥) → (d .kind ≡ 2 → ⊥) → s ≡ changed s d
-  unfolding changed
-  puts-nothing h i = sym (cond-false _ _ _ (ne-eqb (d .kind) 1 h) ∙ cond-false _ _ _ (ne-eqb (d .kind) 2 i))
-
-  pub nothing-changed : d ≡ noChange → changed s d ≡ s
-  unfolding changed noChange
-  nothing-changed e = rw e
-
-  pub table-changed : (place : ℕ) (t : Table) → d ≡ tableChange place t → changed s d ≡ putTable s place t
-  unfolding changed tableChange
-  table-changed place t e = rw e
-
-  pub entry-changed : (place : ℕ) (e : Entry) → d ≡ entryChange place e → changed s d ≡ putEntry s place e
-  unfolding changed entryChange
-  entry-changed place e q = rw q
-
-pub ruleset changing = (needs, nothing-put, table-put, entry-put, puts-table, puts-entry, puts-nothing)
+pub ruleset changing = (needs, nothing-put, table-put, entry-put)
 
 -- ---- what is asked before the entries are looked at
 

@@ -1,6 +1,6 @@
-// What a message changes, and refusals: the store with a change made, what is asked before the entries are looked at.
+// What a message puts into the store, what it asks before the entries are looked at, and refusals.
 ghost use mathlib.Core.Path.{_≡_};
-ghost use Rattle.message.specs.Changes.{noChange, tableChange, entryChange, changed};
+ghost use Rattle.message.specs.Changes.{noChange, tableChange, entryChange};
 ghost use Rattle.message.specs.Effects.{refuse, refusal};
 ghost use Rattle.message.specs.Structs.{effectStruct, asksNothing, asksCommit, asked};
 use crate::Asked;
@@ -13,7 +13,6 @@ use session::Answer;
 use session::Connection;
 use session::reply_bytes::no_reply;
 use store::Entry;
-use store::Store;
 use store::Table;
 use store::no_entry;
 use store::no_table;
@@ -56,22 +55,6 @@ pub fn entry_change(place: usize, entry: Entry) -> Change
         table,
         entry,
     }
-}
-
-// The store with the change made.
-pub fn put_change(store: Store, change: Change) -> Store
-    ensures { λ r. ⌜ r ≡ changed store change ⌝ }
-{
-    let place = change.place;
-    if change.kind == PUTS_TABLE {
-        let table = change.table;
-        return store::put_table(store, place, table);
-    }
-    if change.kind == PUTS_ENTRY {
-        let entry = change.entry;
-        return store::put_entry(store, place, entry);
-    }
-    store
 }
 
 // No entry is committed.
