@@ -1,7 +1,7 @@
 -- The rules at worked examples, by computation.
 use Prim.Native.Nat.{ℕ, _^_, _-_}
 use mathlib.Core.Path.{_≡_, refl}
-use mathlib.Core.List.{List, [], _∷_, _++_}
+use mathlib.Core.List.{List, [], _∷_, _++_, map}
 use mathlib.Core.Bool.{true, false}
 use lib.ListN.{replicate}
 use Rattle.handshake.specs.declared.Line.the-variants as line
@@ -22,10 +22,6 @@ west = ascii "west"
 abbrev listing : List ℕ
 listing = ascii "HAProxyS 2.1\neast\nwest 7 0\n"
 
-listing-accepted : judgeHello east west listing ≡ hello.Accepted 7 0
-unfolding eqBytes oneOf within decimalIn decimal readDigits greeting version20 version21 space lf spaced senderLine ended helloBytes lineIn lineAt span untilSpace word afterWord partB numberB numbersB greets judgeNames judgeNumbers judgeThird judgeLines fromThird fromSecond fromFirst judgeHello
-listing-accepted = refl
-
 -- it is what `west` writes to `east`
 listing-written : helloBytes east west 7 0 ≡ listing
 unfolding eqBytes oneOf within decimalIn decimal readDigits greeting version20 version21 space lf spaced senderLine ended helloBytes lineIn lineAt span untilSpace word afterWord partB numberB numbersB greets judgeNames judgeNumbers judgeThird judgeLines fromThird fromSecond fromFirst judgeHello
@@ -36,55 +32,33 @@ listing-waits : judgeHello east west (ascii "HAProxyS 2.1\neast\nwest 7 0") ≡ 
 unfolding eqBytes oneOf within decimalIn decimal readDigits greeting version20 version21 space lf spaced senderLine ended helloBytes lineIn lineAt span untilSpace word afterWord partB numberB numbersB greets judgeNames judgeNumbers judgeThird judgeLines fromThird fromSecond fromFirst judgeHello
 listing-waits = refl
 
--- `2.0` is taken too, and bytes after the third LF are not looked at
-version-two-zero : judgeHello east west (ascii "HAProxyS 2.0\neast\nwest 7 0\nzz") ≡ hello.Accepted 7 0
+-- accepted are the listing's hello, one of version `2.0` with bytes after its third LF, and one with the largest number
+hellos-accepted : map (judgeHello east west)
+    (listing ∷ ascii "HAProxyS 2.0\neast\nwest 7 0\nzz" ∷ ascii "HAProxyS 2.1\neast\nwest 4294967295 0000000001\n" ∷ [])
+    ≡ hello.Accepted 7 0 ∷ hello.Accepted 7 0 ∷ hello.Accepted 4294967295 1 ∷ []
 unfolding eqBytes oneOf within decimalIn decimal readDigits greeting version20 version21 space lf spaced senderLine ended helloBytes lineIn lineAt span untilSpace word afterWord partB numberB numbersB greets judgeNames judgeNumbers judgeThird judgeLines fromThird fromSecond fromFirst judgeHello
-version-two-zero = refl
+hellos-accepted = refl
 
--- no byte after the space: 10
-version-empty : judgeHello east west (ascii "HAProxyS \neast\nwest 7 0\n") ≡ hello.Refused 10
+-- 10: no byte after the greeting's space; a number missing, also with another version; one more than the largest number; eleven digits; two
+-- spaces; a 65th byte in the second line
+hellos-malformed : map (judgeHello east west)
+    (ascii "HAProxyS \neast\nwest 7 0\n"
+    ∷ ascii "HAProxyS 3\neast\nwest 7\n"
+    ∷ ascii "HAProxyS 2.1\neast\nwest 4294967296 0\n"
+    ∷ ascii "HAProxyS 2.1\neast\nwest 1 00000000000\n"
+    ∷ ascii "HAProxyS 2.1\neast\nwest 1  2\n"
+    ∷ (10 ∷ replicate 65 7)
+    ∷ [])
+    ≡ replicate 6 (hello.Refused 10)
 unfolding eqBytes oneOf within decimalIn decimal readDigits greeting version20 version21 space lf spaced senderLine ended helloBytes lineIn lineAt span untilSpace word afterWord partB numberB numbersB greets judgeNames judgeNumbers judgeThird judgeLines fromThird fromSecond fromFirst judgeHello
-version-empty = refl
+hellos-malformed = refl
 
--- another version: 11, also where the names are others
-version-other : judgeHello east west (ascii "HAProxyS 2.1\r\nes\nwe 7 0\n") ≡ hello.Refused 11
+-- 11: another version, also where the names are others; 12: both names are others; 13: the sender is another
+hellos-refused : map (judgeHello east west)
+    (ascii "HAProxyS 2.1\r\nes\nwe 7 0\n" ∷ ascii "HAProxyS 2.1\nes\nwe 7 0\n" ∷ ascii "HAProxyS 2.1\neast\nwe 7 0\n" ∷ [])
+    ≡ hello.Refused 11 ∷ hello.Refused 12 ∷ hello.Refused 13 ∷ []
 unfolding eqBytes oneOf within decimalIn decimal readDigits greeting version20 version21 space lf spaced senderLine ended helloBytes lineIn lineAt span untilSpace word afterWord partB numberB numbersB greets judgeNames judgeNumbers judgeThird judgeLines fromThird fromSecond fromFirst judgeHello
-version-other = refl
-
--- a malformed third line, and another version: 10
-malformed-first : judgeHello east west (ascii "HAProxyS 3\neast\nwest 7\n") ≡ hello.Refused 10
-unfolding eqBytes oneOf within decimalIn decimal readDigits greeting version20 version21 space lf spaced senderLine ended helloBytes lineIn lineAt span untilSpace word afterWord partB numberB numbersB greets judgeNames judgeNumbers judgeThird judgeLines fromThird fromSecond fromFirst judgeHello
-malformed-first = refl
-
--- both names are others: 12
-name-other : judgeHello east west (ascii "HAProxyS 2.1\nes\nwe 7 0\n") ≡ hello.Refused 12
-unfolding eqBytes oneOf within decimalIn decimal readDigits greeting version20 version21 space lf spaced senderLine ended helloBytes lineIn lineAt span untilSpace word afterWord partB numberB numbersB greets judgeNames judgeNumbers judgeThird judgeLines fromThird fromSecond fromFirst judgeHello
-name-other = refl
-
--- the sender is another: 13
-sender-other : judgeHello east west (ascii "HAProxyS 2.1\neast\nwe 7 0\n") ≡ hello.Refused 13
-unfolding eqBytes oneOf within decimalIn decimal readDigits greeting version20 version21 space lf spaced senderLine ended helloBytes lineIn lineAt span untilSpace word afterWord partB numberB numbersB greets judgeNames judgeNumbers judgeThird judgeLines fromThird fromSecond fromFirst judgeHello
-sender-other = refl
-
--- the largest number
-number-largest : judgeHello east west (ascii "HAProxyS 2.1\neast\nwest 4294967295 0000000001\n") ≡ hello.Accepted 4294967295 1
-unfolding eqBytes oneOf within decimalIn decimal readDigits greeting version20 version21 space lf spaced senderLine ended helloBytes lineIn lineAt span untilSpace word afterWord partB numberB numbersB greets judgeNames judgeNumbers judgeThird judgeLines fromThird fromSecond fromFirst judgeHello
-number-largest = refl
-
--- one more
-number-over : judgeHello east west (ascii "HAProxyS 2.1\neast\nwest 4294967296 0\n") ≡ hello.Refused 10
-unfolding eqBytes oneOf within decimalIn decimal readDigits greeting version20 version21 space lf spaced senderLine ended helloBytes lineIn lineAt span untilSpace word afterWord partB numberB numbersB greets judgeNames judgeNumbers judgeThird judgeLines fromThird fromSecond fromFirst judgeHello
-number-over = refl
-
--- eleven digits
-number-long : judgeHello east west (ascii "HAProxyS 2.1\neast\nwest 1 00000000000\n") ≡ hello.Refused 10
-unfolding eqBytes oneOf within decimalIn decimal readDigits greeting version20 version21 space lf spaced senderLine ended helloBytes lineIn lineAt span untilSpace word afterWord partB numberB numbersB greets judgeNames judgeNumbers judgeThird judgeLines fromThird fromSecond fromFirst judgeHello
-number-long = refl
-
--- two spaces
-spaces : judgeHello east west (ascii "HAProxyS 2.1\neast\nwest 1  2\n") ≡ hello.Refused 10
-unfolding eqBytes oneOf within decimalIn decimal readDigits greeting version20 version21 space lf spaced senderLine ended helloBytes lineIn lineAt span untilSpace word afterWord partB numberB numbersB greets judgeNames judgeNumbers judgeThird judgeLines fromThird fromSecond fromFirst judgeHello
-spaces = refl
+hellos-refused = refl
 
 -- ---- 64 bytes and LF are a line; a 65th byte that is no LF shows the refusal
 line-full : lineAt (7 ∷ (replicate 64 7 ++ ascii "\n")) 1 ≡ line.End 65
@@ -98,10 +72,6 @@ line-open = refl
 line-over : lineAt (replicate 65 7) 0 ≡ line.TooLong
 unfolding lineIn lineAt
 line-over = refl
-
-hello-over : judgeHello east west (10 ∷ replicate 65 7) ≡ hello.Refused 10
-unfolding eqBytes oneOf within decimalIn decimal readDigits greeting version20 version21 space lf spaced senderLine ended helloBytes lineIn lineAt span untilSpace word afterWord partB numberB numbersB greets judgeNames judgeNumbers judgeThird judgeLines fromThird fromSecond fromFirst judgeHello
-hello-over = refl
 
 -- ---- names
 name-longest : nameOk (33 ∷ replicate 31 126) ≡ true
@@ -126,29 +96,10 @@ unfolding decimalIn decimal
 decimal-largest = refl
 
 -- ---- statuses
-status-accepted : judgeStatus (ascii "200\n") ≡ status.Accepted
+statuses : map judgeStatus (ascii "200\n" ∷ ascii "200" ∷ ascii "300\n" ∷ ascii "504\n" ∷ ascii "999\n" ∷ ascii "2000" ∷ [])
+    ≡ status.Accepted ∷ status.Waiting ∷ status.Refused 14 ∷ status.Refused 14 ∷ status.Refused 15 ∷ status.Refused 15 ∷ []
 unfolding eqBytes oneOf decimalIn decimal lf statusLine failureLines judgeFour judgeStatus
-status-accepted = refl
-
-status-three : judgeStatus (ascii "200") ≡ status.Waiting
-unfolding eqBytes oneOf decimalIn decimal lf statusLine failureLines judgeFour judgeStatus
-status-three = refl
-
-status-300 : judgeStatus (ascii "300\n") ≡ status.Refused 14
-unfolding eqBytes oneOf decimalIn decimal lf statusLine failureLines judgeFour judgeStatus
-status-300 = refl
-
-status-504 : judgeStatus (ascii "504\n") ≡ status.Refused 14
-unfolding eqBytes oneOf decimalIn decimal lf statusLine failureLines judgeFour judgeStatus
-status-504 = refl
-
-status-999 : judgeStatus (ascii "999\n") ≡ status.Refused 15
-unfolding eqBytes oneOf decimalIn decimal lf statusLine failureLines judgeFour judgeStatus
-status-999 = refl
-
-status-no-lf : judgeStatus (ascii "2000") ≡ status.Refused 15
-unfolding eqBytes oneOf decimalIn decimal lf statusLine failureLines judgeFour judgeStatus
-status-no-lf = refl
+statuses = refl
 
 reply-accepted : helloReply (hello.Accepted 7 0) ≡ ascii "200\n"
 unfolding decimalIn decimal lf statusLine refusalLine helloReply
