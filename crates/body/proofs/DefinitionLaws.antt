@@ -61,8 +61,6 @@ module _ (s : List ℕ) (at : ℕ) (w : Word) (p : wordRead w ≡ integerOf 32 s
       unfolding namedFields namedRead andThen wordRead fieldRead partRead
       name-bytes start n next e₂ = rw (← p, e, ← p₁, e₁, ← p₂, e₂)
 
-pub ruleset named-laws = (needs, id-short, id-out, length-short, length-out, name-short, name-out, name-bytes)
-
 -- ---- `read_shape`, where f, g and h are what was read of key type, key length and data types
 small-type : (n : ℕ) → isKeyType n ≡ true → n < 256
 small-type n t = split (lt-or-le n 256) (λ l. l) (λ l. never t (sym (no-type n (omega arith))))

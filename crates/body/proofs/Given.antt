@@ -66,18 +66,6 @@ module _ (x : Read Update) (r : UpdateBody) (p : r ≡ updateBody x) where
   pub update-given : x ≡ readAs (r .reading) (updateIn r)
   update-given = rw p (update-as x)
 
-  pub update-whole : (next : ℕ) → r .reading ≡ reading.Whole next → x ≡ got (updateIn r) next
-  unfolding readAs
-  update-whole next e = update-given ∙ ap (λ (h : Reading). readAs h (updateIn r)) e
-
-  pub update-short : r .reading ≡ reading.Short → x ≡ short
-  unfolding readAs
-  update-short e = update-given ∙ ap (λ (h : Reading). readAs h (updateIn r)) e
-
-  pub update-out : r .reading ≡ reading.OutOfRange → x ≡ outside
-  unfolding readAs
-  update-out e = update-given ∙ ap (λ (h : Reading). readAs h (updateIn r)) e
-
 -- ---- a switch
 switch-as : (x : Read ℕ) → x ≡ fieldRead (switchBody x)
 unfolding fieldRead switchBody

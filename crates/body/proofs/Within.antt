@@ -18,7 +18,7 @@ use Rattle.store.specs.Limits.{nameMax, keyKind, isKnown, isString, keyLengthOk
 use Rattle.store.specs.Sound.{slotOk, slotsOk}
 use Rattle.store.proofs.Rules.{slot-count, rate-count}
 use Rattle.body.specs.Fields.{got, between, Span}
-use Rattle.body.specs.Bodies.{Named, namedFields, isKeyType, Shape, shapeFields, pairField, periodField, Times, noTimes, timesThere, timesFields, Definition, defined, restFields, definitionFields, switchFields, Acknowledged, acknowledgementFields, stringField, keyField, serverField, slotField, Data, dataFields, Update, keyed, entryFields, updateFields, incrementalFields}
+use Rattle.body.specs.Bodies.{Named, namedFields, isKeyType, Shape, shapeFields, pairField, periodField, Times, noTimes, timesThere, timesFields, Definition, defined, restFields, definitionFields, switchFields, stringField, keyField, serverField, slotField, Data, dataFields, Update, keyed, entryFields, updateFields, incrementalFields}
 use Rattle.body.proofs.Taken.{Holds, held, Taken, taken-got, weaken, taken-cond, taken-then, Along, along-at, along-cells, each-holds, Tested, integer-holds, Width, width-holds, PartOf, bytes-holds, number-holds, server-holds, between-low, between-high}
 
 -- ---- a definition
@@ -151,23 +151,6 @@ unfolding switchFields Width
 switch-within body id next e =
     let h = held (Taken (Width 32) body 0) _ (width-holds 32 body 0) id next e in
     (h .fact .0, h .end)
-
-pub record AcknowledgementWithin (body : List ℕ) (a : Acknowledged) : Type 0 where
-  pub id : a .id < 2 ^ 32
-  pub update : Bytes body → a .update < 2 ^ 32
-
-pub acknowledgement-holds : (body : List ℕ) → Holds (Taken (AcknowledgementWithin body) body 0) (acknowledgementFields body)
-unfolding acknowledgementFields Width
-acknowledgement-holds body =
-    taken-then (Width 32) (AcknowledgementWithin body) body 0 _ _ (width-holds 32 body 0) λ id at₁ h₁ l₁.
-    taken-then (λ v. Bytes body → v < 2 ^ 32) (AcknowledgementWithin body) body at₁ _ _ (number-holds body at₁) λ update at₂ h₂ l₂.
-    taken-got (AcknowledgementWithin body) body at₂ _ (record { id = h₁ .0; update = h₂ }) l₂
-
-pub acknowledgement-within : (body : List ℕ) (a : Acknowledged) (next : ℕ) → acknowledgementFields body ≡ got a next
-    → AcknowledgementWithin body a × (next ≤ length body)
-acknowledgement-within body a next e =
-    let h = held (Taken (AcknowledgementWithin body) body 0) _ (acknowledgement-holds body) a next e in
-    (h .fact, h .end)
 
 -- ---- an update
 -- the key of a table with this key type and key length

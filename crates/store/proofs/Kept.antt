@@ -1,33 +1,31 @@
 -- Lookup in a sound store, and that putting a table or an entry by the rules keeps a store sound and every other lookup.
-use Prim.Native.Nat.{ℕ, _+_, _^_, _≤_, _<_}
+use Prim.Native.Nat.{ℕ, _^_, _≤_, _<_}
 use native.Mathlib.Omega.{arith}
-use mathlib.Core.Path.{_≡_, refl, sym, ap, _∙_, subst}
-use mathlib.Core.Bool.{Bool, true, false, not, _&&_}
-use mathlib.Core.Logic.{_⊎_, ⊎-elim, inl, inr}
-use mathlib.Core.List.{List, [], _∷_}
-use lib.ListN.{length, getD, set, take, drop, replicate, length-set, getD-replicate, length-replicate, List·getD-eq-default}
+use mathlib.Core.Path.{_≡_, sym, _∙_, subst}
+use mathlib.Core.Bool.{true, false}
+use mathlib.Core.Logic.{_⊎_, ⊎-elim}
+use mathlib.Core.List.{List}
+use lib.ListN.{length, getD, replicate, length-set, getD-replicate, length-replicate, List·getD-eq-default}
 use lib.Seq.{getD-set-same, getD-set-other}
 use lib.IntN.{ℤ}
-use lib.Dec.{eqb, lit<}
+use lib.Dec.{lit<}
 use lib.Signed.{mag}
 use native.Mathlib.Nat.{pow-le-pow-right}
-use borrow.Author.Tests.{eqb-true, eq-eqb}
-use Rattle.lists.specs.declared.Found.{Found}
+use borrow.Author.Tests.{eqb-true}
 use Rattle.lists.specs.declared.Found.the-variants.{At, Nothing}
-use Rattle.lists.specs.Lists.{every, firstPlace, padTo, isZero}
-use Rattle.lists.proofs.Cases.{by-test, never, not-passed, and-first, and-second, and-intro, and-false, eq-or-ne, lt-or-le}
-use Rattle.lists.proofs.Every.{every-at, every-from}
-use Rattle.lists.proofs.Places.{First, first-at, first-nothing, first-set-same, first-set-at}
+use Rattle.lists.specs.Lists.{padTo}
+use Rattle.lists.proofs.Cases.{never, not-passed, and-intro, eq-or-ne, lt-or-le}
+use Rattle.lists.proofs.Places.{First, first-at, first-nothing}
 use Rattle.lists.proofs.Bytes.{pad-length, pad-at}
 use Rattle.store.specs.declared.Table.{Table}
 use Rattle.store.specs.declared.Entry.{Entry}
 use Rattle.store.specs.declared.Store.{Store}
 use Rattle.store.specs.declared.Definition.{Definition}
-use Rattle.store.specs.Limits.{keyMax, nameMax, keyKind, keyLengthOk}
-use Rattle.store.specs.Store.{tableHeld, entryHeld, tableFree, entryFree, nameOf, keyOf, tableNamed, entryOf, entryKeyed, findTable, findEntry, freeTable, freeEntry, makeEntry, makeTable, putTable, putEntry, noTable, noEntry, emptyStore}
+use Rattle.store.specs.Limits.{keyMax, nameMax}
+use Rattle.store.specs.Store.{tableHeld, entryHeld, tableFree, entryFree, nameOf, keyOf, tableNamed, entryKeyed, findTable, findEntry, freeTable, freeEntry, makeEntry, makeTable, putTable, putEntry, noTable, noEntry, emptyStore}
 use Rattle.store.specs.Shape.{Cells, TableShape, EntryShape, StoreShape}
-use Rattle.store.specs.Sound.{sameName, entryKeyLengthOk, keyRestZero, valuesOk, sameKey, soundStore}
-use Rattle.store.proofs.Facts.{TableFacts, EntryFacts, SoundStore, sound-facts, facts-sound, Named, Keyed, named-facts, facts-named, keyed-facts, facts-keyed, name-size, key-size, key-most}
+use Rattle.store.specs.Sound.{sameName, sameKey}
+use Rattle.store.proofs.Facts.{SoundStore, Named, Keyed, named-facts, facts-named, keyed-facts, facts-keyed}
 
 -- ---- what lookup and the search for a free place say
 
@@ -61,16 +59,6 @@ entry-place s i e = first-at entryFree (s .entries) i e
 pub free-not-held : (t : Table) → tableFree t ≡ true → tableHeld t ≡ false
 unfolding tableFree tableHeld
 free-not-held t h = rw (eqb-true (t .held) 0 h)
-
-pub free-entry-not-held : (e : Entry) → entryFree e ≡ true → entryHeld e ≡ false
-unfolding entryFree entryHeld
-free-entry-not-held e h = rw (eqb-true (e .held) 0 h)
-
-pub not-held-not-named : (name : List ℕ) (t : Table) → tableHeld t ≡ false → tableNamed name t ≡ false
-not-held-not-named name t h = not-passed (tableNamed name t) (λ q. never (named-facts name t q .held) h)
-
-pub not-held-not-keyed : (table : ℕ) (key : List ℕ) (e : Entry) → entryHeld e ≡ false → entryKeyed table key e ≡ false
-not-held-not-keyed table key e h = not-passed (entryKeyed table key e) (λ q. never (keyed-facts table key e q .held) h)
 
 -- ---- two held places with one name or one key
 
@@ -123,46 +111,6 @@ only-entry s table key i r e j l f =
   where
     later : (i j : ℕ) → i ≤ j → (j ≡ i → ⊥) → i < j
     later i j m f = omega arith
-
--- ---- after a put
-
-pub put-table-length : (s : Store) (place : ℕ) (t : Table) → length (putTable s place t .tables) ≡ length (s .tables)
-unfolding putTable
-put-table-length s place t = length-set (s .tables) place t
-
-pub put-entry-length : (s : Store) (place : ℕ) (e : Entry) → length (putEntry s place e .entries) ≡ length (s .entries)
-unfolding putEntry
-put-entry-length s place e = length-set (s .entries) place e
-
--- it is found
-pub find-put-table : (s : Store) (place : ℕ) (t : Table) (name : List ℕ) → place < length (s .tables) → tableNamed name t ≡ true
-    → ((j : ℕ) (d : Table) → j < place → tableNamed name (getD (s .tables) j d) ≡ false) → findTable (putTable s place t) name ≡ At place
-unfolding findTable putTable
-find-put-table s place t name l h f = first-set-at (tableNamed name) (s .tables) place t l h f
-
-pub find-put-entry : (s : Store) (place : ℕ) (e : Entry) (table : ℕ) (key : List ℕ) → place < length (s .entries) → entryKeyed table key e ≡ true
-    → ((j : ℕ) (d : Entry) → j < place → entryKeyed table key (getD (s .entries) j d) ≡ false) → findEntry (putEntry s place e) table key ≡ At place
-unfolding findEntry putEntry
-find-put-entry s place e table key l h f = first-set-at (entryKeyed table key) (s .entries) place e l h f
-
--- every other name and key is found as before
-pub find-other-table : (s : Store) (place : ℕ) (t : Table) (name : List ℕ) → tableNamed name t ≡ tableNamed name (getD (s .tables) place noTable)
-    → findTable (putTable s place t) name ≡ findTable s name
-unfolding findTable putTable
-find-other-table s place t name h = first-set-same (tableNamed name) (s .tables) place t noTable h
-
-pub find-other-entry : (s : Store) (place : ℕ) (e : Entry) (table : ℕ) (key : List ℕ)
-    → entryKeyed table key e ≡ entryKeyed table key (getD (s .entries) place noEntry) → findEntry (putEntry s place e) table key ≡ findEntry s table key
-unfolding findEntry putEntry
-find-other-entry s place e table key h = first-set-same (entryKeyed table key) (s .entries) place e noEntry h
-
-pub find-after-table : (s : Store) (place : ℕ) (t : Table) (table : ℕ) (key : List ℕ) → findEntry (putTable s place t) table key ≡ findEntry s table key
-unfolding findEntry putTable
-find-after-table s place t table key = refl
-
-pub find-after-entry : (s : Store) (place : ℕ) (e : Entry) (name : List ℕ) → findTable (putEntry s place e) name ≡ findTable s name
-unfolding findTable putEntry
-find-after-entry s place e name = refl
 
 -- ---- the shape after a put
 

@@ -1,30 +1,27 @@
 -- Putting a table or an entry by the rules keeps a sound store sound.
-use Prim.Native.Nat.{ℕ, _+_, _-_, _^_, _≤_, _<_}
+use Prim.Native.Nat.{ℕ, _-_, _≤_, _<_}
 use native.Mathlib.Omega.{arith}
 use mathlib.Core.Path.{_≡_, refl, sym, ap, _∙_, subst}
-use mathlib.Core.Bool.{Bool, true, false, cond, not, _&&_}
-use mathlib.Core.Logic.{_⊎_, ⊎-elim, inl, inr}
-use mathlib.Core.List.{List, [], _∷_}
-use lib.ListN.{length, getD, set, take, drop, replicate, length-set, getD-replicate, length-replicate}
+use mathlib.Core.Bool.{Bool, true, false, cond, _&&_}
+use mathlib.Core.Logic.{_⊎_, ⊎-elim}
+use mathlib.Core.List.{List}
+use lib.ListN.{length, getD, set, length-set}
 use lib.Seq.{getD-set-same, getD-set-other}
 use lib.IntN.{ℤ}
 use lib.Dec.{leb, eqb}
 use borrow.Author.Tests.{eq-eqb}
-use Rattle.lists.specs.declared.Found.{Found}
-use Rattle.lists.specs.declared.Found.the-variants.{At, Nothing}
-use Rattle.lists.specs.Lists.{allOf, every, distinct, padTo, isZero}
+use Rattle.lists.specs.Lists.{allOf, every, distinct, isZero}
 use Rattle.lists.proofs.Cases.{never, not-passed, and-first, and-second, and-false-second, eq-or-ne}
 use Rattle.lists.proofs.Bytes.{pad-take, pad-drop, zeros-zero}
 use Rattle.store.specs.declared.Table.{Table}
 use Rattle.store.specs.declared.Entry.{Entry}
 use Rattle.store.specs.declared.Store.{Store}
 use Rattle.store.specs.declared.Definition.{Definition}
-use Rattle.store.specs.Limits.{keyMax, nameMax, keyKind, isString, keyLengthOk, slotTypes}
-use Rattle.store.specs.Store.{tableHeld, entryHeld, nameOf, keyOf, tableNamed, entryKeyed, findTable, findEntry, makeEntry, makeTable, putTable, putEntry, noTable, noEntry, emptyStore}
+use Rattle.store.specs.Limits.{keyMax, nameMax, keyKind, isString, slotTypes}
+use Rattle.store.specs.Store.{tableHeld, entryHeld, nameOf, keyOf, tableNamed, entryKeyed, makeEntry, makeTable, putTable, putEntry, noTable, noEntry, emptyStore}
 use Rattle.store.specs.Shape.{TableShape, EntryShape, StoreShape}
 use Rattle.store.specs.Sound.{sameName, entryKeyLengthOk, keyRestZero, slotsOk, valuesOk, sameKey, soundStore, soundTable, soundEntry}
-use Rattle.store.proofs.Facts.{TableFacts, EntryFacts, SoundStore, sound-facts, facts-sound, Named, Keyed, named-facts, facts-named, keyed-facts, facts-keyed, name-size, key-size}
-use Rattle.store.proofs.Kept.{only-table, only-entry, table-missing, entry-missing}
+use Rattle.store.proofs.Facts.{TableFacts, EntryFacts, SoundStore, named-facts, facts-named, keyed-facts, facts-keyed, name-size, key-size}
 
 -- ---- the rules
 
@@ -49,10 +46,6 @@ pub record TableRules (s : Store) (place : ℕ) (t : Table) : Type 0 where
   pub keeps : (tableHeld (getD (s .tables) place noTable) ≡ false) ⊎ Agrees (getD (s .tables) place noTable) t
 
 -- ---- an entry
-
-entry-held : (e : Entry) → e .held ≡ 1 → entryHeld e ≡ true
-unfolding entryHeld
-entry-held e h = eq-eqb (e .held) 1 h
 
 keyed-first : (e f : Entry) → entryKeyed (e .table) (keyOf e) f ≡ false → sameKey e f ≡ false
 unfolding sameKey
@@ -238,15 +231,6 @@ module _ (s : Store) (h : StoreShape s) (r : SoundStore s) where
       n : length (set (s .tables) place t) ≡ length (s .tables)
       n = length-set (s .tables) place t
 
--- ---- in terms of the test
-
-pub put-entry-sound : (s : Store) (place : ℕ) (e : Entry) → StoreShape s → soundStore s ≡ true → EntryRules s place e → soundStore (putEntry s place e) ≡ true
-put-entry-sound s place e h q w = facts-sound (putEntry s place e) (put-entry-facts s h (sound-facts s q) place e w)
-
-pub put-table-sound : (s : Store) (place : ℕ) (t : Table) → StoreShape s → soundStore s ≡ true → place < 8 → TableRules s place t
-    → soundStore (putTable s place t) ≡ true
-put-table-sound s place t h q l w = facts-sound (putTable s place t) (put-table-facts s h (sound-facts s q) place t l w)
-
 -- ---- a made entry and a made table
 
 pub made-key : (table : ℕ) (key : List ℕ) (server : ℤ) (values : List ℕ) → length key ≤ 64 → keyOf (makeEntry table key server values) ≡ key
@@ -257,19 +241,9 @@ pub made-rest : (table : ℕ) (key : List ℕ) (server : ℤ) (values : List ℕ
 unfolding keyRestZero makeEntry
 made-rest table key server values l = ap (every isZero) (pad-drop keyMax key l) ∙ zeros-zero (keyMax - length key)
 
-pub made-keyed : (table : ℕ) (key : List ℕ) (server : ℤ) (values : List ℕ) → length key ≤ 64 → entryKeyed table key (makeEntry table key server values) ≡ true
-unfolding makeEntry entryHeld
-made-keyed table key server values l =
-    facts-keyed table key (makeEntry table key server values)
-    (record { held = refl; owner = refl; size = refl; bytes = made-key table key server values l })
-
 pub made-name : (name : List ℕ) (d : Definition) → length name ≤ 32 → nameOf (makeTable name d) ≡ name
 unfolding nameOf makeTable
 made-name name d l = pad-take nameMax name l
-
-pub made-named : (name : List ℕ) (d : Definition) → length name ≤ 32 → tableNamed name (makeTable name d) ≡ true
-unfolding makeTable tableHeld
-made-named name d l = facts-named name (makeTable name d) (record { held = refl; size = refl; bytes = made-name name d l })
 
 -- ---- the store without tables and entries
 

@@ -1,27 +1,26 @@
 -- The tests of soundness, in the cases of the code.
-use Prim.Native.Nat.{ℕ, _+_, _-_, _^_, _≤_, _<_, min}
+use Prim.Native.Nat.{ℕ, _+_, _-_, _^_, _≤_, _<_}
 use native.Mathlib.Omega.{arith}
 use mathlib.Core.Path.{_≡_, refl, sym, ap, _∙_}
-use mathlib.Core.Bool.{Bool, true, false, not, cond, _&&_, _||_}
+use mathlib.Core.Bool.{Bool, true, false, not, _&&_, _||_}
 use mathlib.Core.List.{List, [], _∷_}
 use lib.ListN.{length, getD, take, drop, drop-of-length-le, length-drop}
 use lib.Seq.{take-all}
 use lib.Dec.{ltb, leb, eqb}
 use borrow.Author.Needs.{needs}
 use borrow.Author.Tests.{eq-eqb, ne-eqb, le-leb, lt-leb, lt-ltb, le-ltb, not-true, not-false}
-use Rattle.lists.specs.Lists.{allOf, every, eqBytes, isZero}
+use Rattle.lists.specs.Lists.{allOf, every, isZero}
 use Rattle.lists.proofs.Cases.{and-true, and-false, or-true, or-false, or-second, unless-true, unless-false, cond-true, cond-false, all-true, all-false, all-only, all-stop, all-next, all-last, by-test}
 use Rattle.lists.proofs.Every.{getD-any, drop-step}
 use Rattle.lists.proofs.Testing.{Testing, test-start, test-stop, test-next, test-end}
 use Rattle.store.specs.declared.Table.{Table}
 use Rattle.store.specs.declared.Entry.{Entry}
-use Rattle.store.specs.declared.Store.{Store}
 use Rattle.store.specs.declared.KeyKind.{KeyKind}
 use Rattle.store.specs.Limits.{keyKind, isKnown, isString, keyLengthOk, dataTypesOk, present, isWide, slotTypes}
-use Rattle.store.specs.Store.{tableHeld, entryHeld, entryOf, entryKeyed, noTable}
-use Rattle.store.specs.Sound.{nameLengthOk, keyTypeOk, tableKeyLengthOk, tableTypesOk, timedOk, tableTests, soundTable, entryTableOk, entryKeyLengthOk, keyRestZero, slotOk, slotsOk, valuesOk, entryTests, soundEntry, storeTests, soundStore}
+use Rattle.store.specs.Store.{tableHeld, entryHeld, noTable}
+use Rattle.store.specs.Sound.{nameLengthOk, keyTypeOk, tableKeyLengthOk, tableTypesOk, timedOk, tableTests, soundTable, entryTableOk, entryKeyLengthOk, keyRestZero, slotOk, slotsOk, valuesOk, entryTests, soundEntry}
 use Rattle.store.proofs.Rules.{slot-count}
-use Rattle.store.proofs.Lookup.{blankTable, blankEntry, not-of, by-bytes, long-key, prefix-length, prefix-within}
+use Rattle.store.proofs.Lookup.{blankTable}
 use Rattle.store.proofs.Typed.{length-mapped}
 
 -- ---- a table
@@ -236,52 +235,3 @@ module _ (tables : List Table) (e : Entry) where
         ∙ ap (λ (x : Table). tableHeld x && allOf (entryKeyLengthOk x e ∷ keyRestZero e ∷ valuesOk x e ∷ []))
         (getD-any tables (e .table) noTable blankTable (omega arith) ∙ sym q)
         ∙ sym p
-
-pub record Entries (tables : List Table) (entries : List Entry) (i : ℕ) : Type 0 where
-  pub count : length tables ≡ 8
-  pub testing : Testing (soundEntry tables) entries 128 i
-
-pub entries-start : {tables : List Table} {entries : List Entry} → length tables ≡ 8 → length entries ≡ 128 → Entries tables entries 0
-entries-start e q = record { count = e; testing = test-start q }
-
-module _ {tables : List Table} {entries : List Entry} {i : ℕ} (r : Entries tables entries i) where
-  pub entries-end : 128 ≤ i → true ≡ every (soundEntry tables) entries
-  entries-end l = test-end (r .testing) l
-
-  module _ (l : i < 128) where
-    pub entries-next : soundEntry tables (getD entries i blankEntry) ≡ true → Entries tables entries (i + 1)
-    entries-next t = record { count = r .count; testing = test-next (r .testing) blankEntry l t }
-
-    entries-fail : soundEntry tables (getD entries i blankEntry) ≡ false → false ≡ every (soundEntry tables) entries
-    entries-fail t = test-stop (r .testing) blankEntry l t
-
-    pub bad-mark : (getD entries i blankEntry .held ≡ 0 → ⊥) → (getD entries i blankEntry .held ≡ 1 → ⊥) → false ≡ every (soundEntry tables) entries
-    bad-mark f g = entries-fail (entry-mark-unsound tables (getD entries i blankEntry) f g)
-
-    pub bad-place : getD entries i blankEntry .held ≡ 1 → 8 ≤ getD entries i blankEntry .table → false ≡ every (soundEntry tables) entries
-    bad-place h p = entries-fail (place-unsound tables (getD entries i blankEntry) h p)
-
-    module _ {b : Bool} (h : getD entries i blankEntry .held ≡ 1) (p : getD entries i blankEntry .table < 8)
-        (q :
-        b
-        ≡ (let e = getD entries i blankEntry in
-        let t = getD tables (e .table) blankTable in
-        tableHeld t && allOf (entryKeyLengthOk t e ∷ keyRestZero e ∷ valuesOk t e ∷ []))) where
-      pub bad-rows : not b ≡ true → false ≡ every (soundEntry tables) entries
-      bad-rows t = entries-fail (rows-sound tables (getD entries i blankEntry) h _ b p (r .count) refl q ∙ not-true b t)
-
-      pub good-rows : not b ≡ false → Entries tables entries (i + 1)
-      good-rows t = entries-next (rows-sound tables (getD entries i blankEntry) h _ b p (r .count) refl q ∙ not-false b t)
-
-    pub good-free : getD entries i blankEntry .held ≡ 0 → Entries tables entries (i + 1)
-    good-free h = entries-next (free-entry-sound tables (getD entries i blankEntry) h)
-
-pub ruleset each-entry = (needs, length-mapped, entries-start, entries-end, bad-mark, bad-place, bad-rows)
-
--- ---- a store
-
-pub tests-store : (s : Store) (b : Bool) → b ≡ allOf (storeTests s) → b ≡ soundStore s
-unfolding soundStore
-tests-store s b e = e
-
-pub ruleset store-rows = (needs, tests-store, all-stop, all-next, all-last)

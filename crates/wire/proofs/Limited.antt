@@ -16,7 +16,6 @@ use Rattle.wire.specs.Integer.{encodeInt, readInt}
 use Rattle.wire.specs.Value.{limited, readLimited, readWidth, WidthRule}
 use Rattle.wire.proofs.Order.{lt-or-le, split}
 use Rattle.wire.proofs.RoundTrip.{round-trip, one-encoding}
-use Rattle.wire.proofs.Advance.{advance}
 
 -- ---- the code's ways, where r is what `read_int` gives
 module _ (limit : ℕ) (s : List ℕ) (at : ℕ) (r : Int) (p : r ≡ readInt s at) where
@@ -63,17 +62,10 @@ pub limited-value : (limit : ℕ) (s : List ℕ) (at v next : ℕ) → readLimit
 unfolding readLimited Held
 limited-value limit s at v next e = subst (Held limit (readInt s at)) e (held limit (readInt s at))
 
--- it takes at least one byte, and none past the end
-pub limited-advance : (limit : ℕ) (s : List ℕ) (at v next : ℕ) → readLimited limit s at ≡ field.Value v next → (at < next) × (next ≤ length s)
-limited-advance limit s at v next e = advance s at v next (limited-value limit s at v next e .0)
-
 -- reading what was written gives the value, if it is within the limit, and is out of range if not
 module _ (limit : ℕ) (p t : List ℕ) (v : ℕ) (h : v < 2 ^ 64) where
   pub limited-trip : v ≤ limit → readLimited limit (p ++ (encodeInt v ++ t)) (length p) ≡ field.Value v (length p + length (encodeInt v))
   limited-trip l = sym (within limit (p ++ (encodeInt v ++ t)) (length p) _ refl v _ (round-trip p t v h) l)
-
-  pub limited-over : limit < v → readLimited limit (p ++ (encodeInt v ++ t)) (length p) ≡ field.OutOfRange
-  limited-over l = sym (over limit (p ++ (encodeInt v ++ t)) (length p) _ refl v _ (round-trip p t v h) l)
 
 -- ---- The value rule over the width, said once; both widths cite it.
 power-le : (k : ℕ) → k ≤ 64 → 2 ^ k ≤ 2 ^ 64
@@ -90,9 +82,3 @@ width-rule k h = record {
       let l : v < 2 ^ k = omega (arith, pow-le-pow-right {n = 2} (lit< tt) z) in
       (l, o .0, o .1);
 }
-
-pub width-32 : WidthRule 32
-width-32 = width-rule 32 (omega arith)
-
-pub width-64 : WidthRule 64
-width-64 = width-rule 64 (omega arith)

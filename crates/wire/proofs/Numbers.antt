@@ -12,7 +12,6 @@ use Rattle.wire.specs.declared.Number.the-variants.{Value, Short}
 use Rattle.wire.specs.Number.{numberOf, readNumber, encodeNumber}
 use Rattle.wire.specs.Value.{Bytes}
 use Rattle.wire.proofs.Order.{lt-or-le, split}
-use Rattle.wire.proofs.Sizes.{none-bytes, cons-bytes}
 
 module _ (s : List ℕ) (at : ℕ) where
   pub number-short : length s < at + 4 → readNumber s at ≡ Short
@@ -43,10 +42,6 @@ pub ruleset numbers = (needs, past, few, four, number-bytes)
 pub number-length : (v : ℕ) → length (encodeNumber v) ≡ 4
 unfolding encodeNumber
 number-length v = refl
-
-pub encode-bytes : (v : ℕ) → Bytes (encodeNumber v)
-unfolding encodeNumber
-encode-bytes v = cons-bytes (omega arith) (cons-bytes (omega arith) (cons-bytes (omega arith) (cons-bytes (omega arith) none-bytes)))
 
 -- ---- there and back
 decode-encode : (v : ℕ) → v < 2 ^ 32 → numberOf (v / 2 ^ 24 % 256) (v / 2 ^ 16 % 256) (v / 2 ^ 8 % 256) (v % 256) ≡ v

@@ -1,26 +1,21 @@
 -- Writing into lent room: a law for each way through `put_bytes`, `put_int` and `put_number`, and the laws of the room afterwards.
 --
-use Prim.Native.Nat.{ℕ, _+_, _-_, _≤_, _<_, _^_}
+use Prim.Native.Nat.{ℕ, _+_, _-_, _≤_, _<_}
 use native.Mathlib.Omega.{arith}
 use native.Mathlib.Numerals.{add-one}
-use mathlib.Core.Path.{_≡_, refl, sym, ap, subst, _∙_}
+use mathlib.Core.Path.{_≡_, refl, sym, ap, _∙_}
 use mathlib.Core.List.{List, _++_, append-assoc}
 use lib.ListN.{length, getD, take, drop, set, replicate, length-set, length-append, length-drop}
 use lib.Seq.{paste, paste-zero, paste-suc, take-length, take-append-seam, length-take-le, take-at, drop-at, drop-drop}
 use borrow.Author.Needs.{needs}
 use borrow.Author.Tests.{le-leb, lt-leb}
-use Rattle.wire.specs.declared.Int.the-variants as int
-use Rattle.wire.specs.declared.Number.the-variants as number
 use Rattle.wire.specs.declared.Put.{Put}
 use Rattle.wire.specs.declared.Put.the-variants as put
 use Rattle.wire.specs.declared.Encoded.{Encoded}
-use Rattle.wire.specs.Integer.{encodeInt, encodedInt, readInt}
-use Rattle.wire.specs.Number.{encodeNumber, readNumber}
+use Rattle.wire.specs.Integer.{encodeInt, encodedInt}
+use Rattle.wire.specs.Number.{encodeNumber}
 use Rattle.lists.specs.Lists.{overlay}
 use Rattle.wire.specs.Room.{putResult, putRoom}
-use Rattle.wire.proofs.Order.{lt-or-le, split}
-use Rattle.wire.proofs.RoundTrip.{round-trip}
-use Rattle.wire.proofs.Numbers.{number-length, number-trip}
 
 -- ---- the two cases
 module _ (room : List ℕ) (at : ℕ) (bytes : List ℕ) where
@@ -130,15 +125,6 @@ module _ (at : ℕ) (bytes room : List ℕ) (h : at + length bytes ≤ length ro
   unfolding overlay
   overlay-length = rw (length-append, front-long, length-drop) (omega arith)
 
-  -- the bytes stand at the position, what was before and behind them stays
-  pub overlay-before : take at (overlay at bytes room) ≡ take at room
-  unfolding overlay
-  overlay-before = rw append-assoc (take-at (take at room) (bytes ++ drop (at + length bytes) room) at before-long)
-
-  pub overlay-at : drop at (overlay at bytes room) ≡ bytes ++ drop (at + length bytes) room
-  unfolding overlay
-  overlay-at = rw append-assoc (drop-at (take at room) (bytes ++ drop (at + length bytes) room) at before-long)
-
   pub overlay-behind : drop (at + length bytes) (overlay at bytes room) ≡ drop (at + length bytes) room
   unfolding overlay
   overlay-behind = drop-at (take at room ++ bytes) (drop (at + length bytes) room) (at + length bytes) front-long
@@ -154,46 +140,3 @@ module _ (at : ℕ) (bytes room : List ℕ) (h : at + length bytes ≤ length ro
       let e : at + length (bytes ++ more) ≡ at + length bytes + length more = rw length-append (omega arith) in
       let rest : drop (at + length bytes + length more) (overlay at bytes room) ≡ drop (at + length bytes + length more) room = sym (drop-drop (length more) (at + length bytes) (overlay at bytes room)) ∙ rw overlay-behind (drop-drop (length more) (at + length bytes) room) in
       rw (overlay-until, rest, e) (simp append-assoc)
-
-pub room-length : (room : List ℕ) (at : ℕ) (bytes : List ℕ) → length (putRoom room at bytes) ≡ length room
-room-length room at bytes =
-    split (lt-or-le (length room) (at + length bytes))
-    (λ l. rw (none-room room at bytes l))
-    (λ l. rw (fits-room room at bytes l) (overlay-length at bytes room l))
-
--- ---- what was written reads back from the room
-pub overlay-int : (at : ℕ) (room : List ℕ) (v : ℕ) → at + length (encodeInt v) ≤ length room → v < 2 ^ 64
-    → readInt (overlay at (encodeInt v) room) at ≡ int.Value v (at + length (encodeInt v))
-unfolding overlay
-overlay-int at room v h l =
-    let e : length (take at room) ≡ at = before-long at (encodeInt v) room h in
-    rw append-assoc (rw e at (round-trip (take at room) (drop (at + length (encodeInt v)) room) v l))
-
-pub overlay-number : (at : ℕ) (room : List ℕ) (v : ℕ) → at + 4 ≤ length room → v < 2 ^ 32
-    → readNumber (overlay at (encodeNumber v) room) at ≡ number.Value v (at + 4)
-unfolding overlay
-overlay-number at room v h l =
-    let k : at + length (encodeNumber v) ≤ length room = rw (number-length v) h in
-    let e : length (take at room) ≡ at = before-long at (encodeNumber v) room k in
-    rw append-assoc (rw e at (number-trip (take at room) (drop (at + length (encodeNumber v)) room) v l))
-
--- ---- the answer says which case it was
-Fitted : List ℕ → ℕ → List ℕ → Put → Type 0
-Fitted room at bytes (put.Next next) = (at + length bytes ≤ length room) × (next ≡ at + length bytes)
-Fitted room at bytes put.NoRoom = length room < at + length bytes
-
-fitted : (room : List ℕ) (at : ℕ) (bytes : List ℕ) → Fitted room at bytes (putResult room at bytes)
-unfolding Fitted
-fitted room at bytes =
-    split (lt-or-le (length room) (at + length bytes))
-    (λ l. rw (none-result room at bytes l) l)
-    (λ l. rw (fits-result room at bytes l) (l, refl))
-
-pub put-next : (room : List ℕ) (at : ℕ) (bytes : List ℕ) (next : ℕ) → putResult room at bytes ≡ put.Next next
-    → (at + length bytes ≤ length room) × (next ≡ at + length bytes)
-unfolding Fitted
-put-next room at bytes next e = subst (Fitted room at bytes) e (fitted room at bytes)
-
-pub put-none : (room : List ℕ) (at : ℕ) (bytes : List ℕ) → putResult room at bytes ≡ put.NoRoom → length room < at + length bytes
-unfolding Fitted
-put-none room at bytes e = subst (Fitted room at bytes) e (fitted room at bytes)

@@ -9,7 +9,7 @@ use lib.ListN.{length, getD, take, drop, length-map, length-drop, drop-of-length
 use lib.Seq.{length-take-le, take-all, getD-drop, drop-drop}
 use lib.Dec.{eqb, ltb}
 use mir.Val.{Fits}
-use mir.Syntax.{w32, w64}
+use mir.Syntax.{w32}
 use borrow.Author.Needs.{needs}
 use borrow.Author.Tests.{eqb-true, eq-eqb, ne-eqb, lt-ltb, le-ltb, not-true, not-false}
 use Rattle.lists.specs.Lists.{distinct, every, eqBytes}
@@ -27,17 +27,8 @@ use Rattle.store_soundness.specs.Marks.{markEnd, mixed, wordOf, markWord
 
 -- ---- a number more of a key
 
-module _ {mark n : ℕ} (l : mark < markEnd) (m : n < 2 ^ 32) where
-  pub mix-product : Fits w64 (mark * 65599)
-  mix-product = record { fits = omega arith }
-
-  pub mix-sum : Fits w64 (mark * 65599 + n)
-  mix-sum = record { fits = omega arith }
-
 pub mix-small : (h n : ℕ) → mixed h n < markEnd
 mix-small h n = omega arith
-
-pub ruleset mixing = (needs, mix-product, mix-sum, mix-small)
 
 -- ---- the words of a key
 
@@ -284,7 +275,3 @@ marks-tell entries h =
     by-test (sameKey e f)
     (λ t. never (one-mark e f t) (ap (λ (x : ℕ). sameMark x (entryMark f)) (sym a) ∙ ap (sameMark (getD (map entryMark entries) i 0)) (sym b) ∙ d))
     (λ t. t))
-
-pub told-apart : (entries : List Entry) {marks : List ℕ} {b : Bool} → marks ≡ map entryMark entries → b ≡ distinct sameMark marks → b ≡ true
-    → true ≡ distinct sameKey entries
-told-apart entries {marks} q e t = sym (marks-tell entries (ap (distinct sameMark) (sym q) ∙ sym e ∙ t))
