@@ -9,8 +9,7 @@ use lib.ListN.{length, length-append}
 use lib.IntN.{pos}
 use lib.Dec.{eqb}
 use borrow.Author.Tests.{le-leb, lt-leb, eq-eqb, ne-eqb}
-use Rattle.lists.proofs.Cases.{lt-or-le, eq-or-ne}
-use Rattle.wire.proofs.Order.{split}
+use Rattle.lists.proofs.Cases.{lt-or-le, eq-or-ne, split}
 use Rattle.wire.proofs.Behind.{int-behind, number-behind, server-behind}
 use Rattle.store.specs.declared.Table.{Table}
 use Rattle.store.specs.Limits.{nameMax, keyKind, isString, keyLengthOk, dataTypesOk, present, widthOf, slotTypes, rateTypes}

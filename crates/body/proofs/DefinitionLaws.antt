@@ -7,10 +7,9 @@ use mathlib.Core.Bool.{true}
 use lib.ListN.{length, replicate}
 use borrow.Author.Needs.{needs}
 use borrow.Author.Tests.{eq-eqb, ne-eqb}
-use Rattle.lists.proofs.Cases.{lt-or-le, never}
+use Rattle.lists.proofs.Cases.{lt-or-le, never, split}
 use Rattle.wire.specs.declared.Field.{Field}
 use Rattle.wire.specs.declared.Field.the-variants as field
-use Rattle.wire.proofs.Order.{split}
 use Rattle.store.specs.Limits.{keyLengthOk, dataTypesOk}
 use Rattle.body.specs.declared.Reading.{Reading}
 use Rattle.body.specs.declared.Reading.the-variants as reading

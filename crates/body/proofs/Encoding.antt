@@ -6,7 +6,7 @@ use mathlib.Core.Bool.{Bool, true, false, cond}
 use lib.ListN.{length, take, drop, take-append-drop}
 use lib.Seq.{drop-drop}
 use borrow.Author.Tests.{le-leb, lt-leb}
-use Rattle.lists.proofs.Cases.{lt-or-le}
+use Rattle.lists.proofs.Cases.{lt-or-le, split}
 use Rattle.wire.specs.declared.Int.{Int}
 use Rattle.wire.specs.declared.Int.the-variants as int
 use Rattle.wire.specs.declared.Number.{Number}
@@ -17,7 +17,6 @@ use Rattle.wire.specs.Integer.{encodeInt, readInt}
 use Rattle.wire.specs.Number.{encodeNumber, readNumber}
 use Rattle.wire.specs.Server.{serverWord, readServerId}
 use Rattle.wire.specs.Value.{Bytes}
-use Rattle.wire.proofs.Order.{split}
 use Rattle.wire.proofs.RoundTrip.{one-encoding}
 use Rattle.wire.proofs.Numbers.{number-own, number-length}
 use Rattle.wire.proofs.Server.{server-own}

@@ -10,7 +10,7 @@ use lib.ListN.{length}
 use lib.IntN.{pos}
 use borrow.Author.Needs.{needs}
 use borrow.Author.Tests.{lt-ltb, le-ltb, lt-leb, le-leb, eq-eqb, ne-eqb}
-use Rattle.lists.proofs.Cases.{lt-or-le}
+use Rattle.lists.proofs.Cases.{lt-or-le, split}
 use Rattle.wire.specs.declared.Int.{Int}
 use Rattle.wire.specs.declared.Int.the-variants as int
 use Rattle.wire.specs.declared.Field.{Field}
@@ -20,7 +20,6 @@ use Rattle.wire.specs.declared.ServerId.the-variants as server
 use Rattle.wire.specs.Integer.{readInt}
 use Rattle.wire.specs.Value.{limited, readLimited, readWidth}
 use Rattle.wire.specs.Server.{readServerId}
-use Rattle.wire.proofs.Order.{split}
 use Rattle.wire.proofs.Limited.{limited-value}
 use Rattle.store.specs.declared.KeyKind.{KeyKind}
 use Rattle.store.specs.Limits.{keyKind, isKnown, isString, dataTypesOk, present, isWide, widthOf}

@@ -9,7 +9,7 @@ use lib.ListN.{length, getD, List·getD-eq-default}
 use lib.Signed.{mag}
 use lib.Dec.{ltb, leb}
 use borrow.Author.Tests.{le-leb, lt-leb, ltb-true, leb-true}
-use Rattle.lists.proofs.Cases.{lt-or-le, and-first, and-second}
+use Rattle.lists.proofs.Cases.{lt-or-le, and-first, and-second, split}
 use Rattle.wire.specs.declared.Int.{Int}
 use Rattle.wire.specs.declared.Int.the-variants as int
 use Rattle.wire.specs.declared.ServerId.{ServerId}
@@ -17,7 +17,6 @@ use Rattle.wire.specs.declared.ServerId.the-variants as server
 use Rattle.wire.specs.Integer.{readInt}
 use Rattle.wire.specs.Server.{readServerId}
 use Rattle.wire.specs.Value.{Bytes}
-use Rattle.wire.proofs.Order.{split}
 use Rattle.wire.proofs.Advance.{advance, value-small}
 use Rattle.wire.proofs.Numbers.{number-short, number-value, number-own}
 use Rattle.wire.proofs.Server.{server-own, server-advance}

@@ -9,9 +9,8 @@ use lib.IntN.{ℤ, pos}
 use lib.Signed.{mag}
 use lib.Dec.{ltb, leb, eqb}
 use borrow.Author.Tests.{lt-ltb, le-leb, ltb-true, eq-eqb}
-use Rattle.lists.proofs.Cases.{lt-or-le, never, and-intro, unless-true, unless-false, cond-true, cond-false}
+use Rattle.lists.proofs.Cases.{lt-or-le, never, and-intro, unless-true, unless-false, cond-true, cond-false, split}
 use Rattle.wire.specs.Value.{Bytes}
-use Rattle.wire.proofs.Order.{split}
 use Rattle.store.specs.declared.Table.{Table}
 use Rattle.store.specs.Shape.{Cells}
 use Rattle.store.specs.Limits.{nameMax, keyKind, isKnown, isString, keyLengthOk, dataTypesOk, present, isWide, widthOf, slotTypes, rateTypes}

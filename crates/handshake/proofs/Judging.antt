@@ -11,6 +11,7 @@ use borrow.Author.Needs.{needs}
 use borrow.Author.Tests.{lt-ltb, le-ltb, lt-leb, le-leb, ltb-true, not-true, not-false}
 use mir.Syntax.{w64}
 use mir.Val.{Fits}
+use Rattle.lists.proofs.Prefix.{first-bytes}
 use Rattle.handshake.specs.declared.Hello.{Hello}
 use Rattle.handshake.specs.declared.Hello.the-variants as hello
 use Rattle.handshake.specs.declared.Part.{Part}
@@ -241,7 +242,4 @@ module _ (l r a b c : List ℕ) where
         rw (lt-ltb 9 (length a) h, ← e, not-false t n, lt-ltb 0 (length b) (omega arith))
         (w ∙ ap (λ (x : List ℕ). judgeThird l r x b c) (take-all (length a - 9) (drop 9 a) (omega (arith, length-drop 9 a))))
 
-pub lines-count : (a : List ℕ) → 9 < length a → 9 ≡ length (take 9 a)
-lines-count a h = sym (length-take-le 9 a (omega arith))
-
-pub ruleset judging-lines = (needs, lines-short, lines-other, lines-empty, lines-third, lines-count)
+pub ruleset judging-lines = (needs, lines-short, lines-other, lines-empty, lines-third, first-bytes)

@@ -62,12 +62,16 @@ module _ {A : Type 0} (p : A → Bool) where
   pub every-end : (xs : List A) (i : ℕ) → length xs ≤ i → every p (drop i xs) ≡ true
   every-end xs i h = ap (every p) (drop-of-length-le xs h) ∙ every-nil
 
--- two tests that agree on the elements of a list
-pub every-agree : {A : Type 0} (p q : A → Bool) (xs : List A) (d : A) → ((i : ℕ) → i < length xs → p (getD xs i d) ≡ q (getD xs i d)) → every p xs ≡ every q xs
+-- tests of two lists that agree at every place
+pub every-agree : {A B : Type 0} (p : A → Bool) (q : B → Bool) (d : A) (e : B) (xs : List A) (ys : List B) → length xs ≡ length ys
+    → ((i : ℕ) → i < length xs → p (getD xs i d) ≡ q (getD ys i e)) → every p xs ≡ every q ys
 unfolding every
-every-agree p q [] d f = refl
-every-agree p q (x ∷ xs) d f =
-    ap (λ (b : Bool). b && every p xs) (f 0 (omega arith)) ∙ ap (λ (b : Bool). q x && b) (every-agree p q xs d (λ i l. f (suc i) (omega arith)))
+every-agree p q d e [] [] n f = refl
+every-agree p q d e [] (y ∷ ys) n f = absurd (omega arith)
+every-agree p q d e (x ∷ xs) [] n f = absurd (omega arith)
+every-agree p q d e (x ∷ xs) (y ∷ ys) n f =
+    ap (λ (b : Bool). b && every p xs) (f 0 (omega arith))
+    ∙ ap (λ (b : Bool). q y && b) (every-agree p q d e xs ys (omega arith) (λ i l. f (suc i) (omega arith)))
 
 -- ---- the numbers below n
 

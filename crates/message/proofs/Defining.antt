@@ -18,7 +18,7 @@ use Rattle.lists.proofs.Every.{getD-any}
 use Rattle.store.specs.declared.Table.{Table}
 use Rattle.store.specs.declared.Store.{Store}
 use Rattle.store.specs.Store.{tableFree, tableNamed, findTable, freeTable, makeTable, noTable}
-use Rattle.store.proofs.Typed.{length-mapped}
+use Rattle.lists.proofs.Maps.{length-mapped}
 use Rattle.session.specs.declared.Connection.{Connection}
 use Rattle.session.specs.declared.Reply.{Reply}
 use Rattle.session.specs.declared.Answer.the-variants as answer

@@ -10,6 +10,7 @@ use lib.Seq.{length-take-le, take-all}
 use lib.Dec.{eqb, leb, ltb}
 use borrow.Author.Needs.{needs}
 use borrow.Author.Tests.{eq-eqb, ne-eqb, le-leb, lt-leb, lt-ltb, le-ltb}
+use Rattle.lists.proofs.Prefix.{first-bytes}
 use Rattle.lists.specs.Lists.{allOf, every, distinct, isZero}
 use Rattle.lists.proofs.Cases.{lt-or-le, and-true, and-false, or-true, or-false, cond-true, cond-false, all-true, all-false}
 use Rattle.lists.proofs.Every.{getD-any, drop-step, every-stop, every-next, every-end}
@@ -27,7 +28,8 @@ use Rattle.session.specs.declared.Session.{Session}
 use Rattle.session.specs.Session.{unfinished, localName, remoteName, isClosed, isBound, isUpdated, boundTo, noBinding, bindingAt}
 use Rattle.session_soundness.specs.Sound.{refusesOpening, isClosing, numberOk, nameWithin, namesOk, marksOk, unmarked, placesOk, sameId, otherId, currentOk, fieldTests, bindingTests, soundConnection, nameLength, helloWaits, statusWaits, frameWaits, waits, unfinishedOk, bindingZeros, emptyBinding, emptyBuffer, refusedOpeningTests, isRefusedOpening, soundSession, sound}
 use Rattle.session_soundness.proofs.Waiting.{waits-hello, waits-status, waits-frame, waits-whole}
-use Rattle.session.proofs.Basics.{length-mapped, blank, told}
+use Rattle.lists.proofs.Maps.{length-mapped}
+use Rattle.session.proofs.Basics.{blank, told}
 
 -- ---- numbers
 
@@ -91,16 +93,9 @@ pub name-left : (n : ℕ) (bytes : List ℕ) (r : Bool) → n ≤ 32 → r ≡ n
 unfolding nameWithin
 name-left n bytes r l e = e ∙ sym (and-true _ _ (le-leb n 32 l))
 
--- a first part of an array
-pub part-fits : (n k : ℕ) (xs : List ℕ) → length xs ≡ k → n ≤ k → n ≤ length xs
-part-fits n k xs e l = omega arith
-
-pub part-long : (n k : ℕ) (xs : List ℕ) → length xs ≡ k → n ≤ k → length (take n xs) ≡ n
-part-long n k xs e l = length-take-le n xs (omega arith)
-
 pub ruleset numbering = (needs, number-closed, number-open)
 
-pub ruleset naming = (needs, told, part-fits, part-long, name-long, name-left, local-bad, remote-left)
+pub ruleset naming = (needs, told, first-bytes, name-long, name-left, local-bad, remote-left)
 
 -- ---- four tests in order
 
@@ -356,7 +351,7 @@ unfolding localName remoteName
 hello-judged c u h n m p q i j e =
     e ∙ rw (name-taken (c .«local_len») n (c .local) p i, name-taken (c .«remote_len») m (c .remote) q j)
 
-pub ruleset hellos = (needs, part-fits, part-long, name-whole, name-part, hello-judged)
+pub ruleset hellos = (needs, first-bytes, name-whole, name-part, hello-judged)
 
 pub ruleset waiting = (needs, hello-decides, status-decides, frame-decides)
 
@@ -377,7 +372,7 @@ module _ (s : Session) where
       ∙ waits-whole (s .connection) (take (s .len) (s .buffer))
       ∙ sym (and-true _ _ (le-leb (s .len) 1027 l) ∙ cond-false _ _ _ (ne-eqb (s .connection .closed) 1 e))
 
-pub ruleset unfinishing = (needs, part-fits, part-long, buffer-over, closed-empty, open-waits)
+pub ruleset unfinishing = (needs, first-bytes, buffer-over, closed-empty, open-waits)
 
 -- ---- the record of a refused opening
 

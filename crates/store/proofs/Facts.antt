@@ -1,15 +1,15 @@
 -- Soundness as facts: what a sound store holds, and that such facts make a store sound.
-use Prim.Native.Nat.{ℕ, _+_, _^_, _≤_, _<_, min}
+use Prim.Native.Nat.{ℕ, _^_, _≤_, _<_}
 use native.Mathlib.Omega.{arith}
-use mathlib.Core.Path.{_≡_, refl, sym, ap, _∙_}
-use mathlib.Core.Bool.{Bool, true, false, not, cond, _&&_, _||_}
+use mathlib.Core.Path.{_≡_, sym, _∙_}
+use mathlib.Core.Bool.{Bool, true, false, not, _&&_, _||_}
 use mathlib.Core.List.{List, [], _∷_}
-use lib.ListN.{length, getD, take}
+use lib.ListN.{length, getD}
 use lib.Seq.{length-take-le}
 use lib.Dec.{ltb, leb, eqb}
 use borrow.Author.Tests.{eqb-true, eq-eqb, leb-true, le-leb, ltb-true, lt-ltb}
 use Rattle.lists.specs.Lists.{allOf, every, distinct, eqBytes}
-use Rattle.lists.proofs.Cases.{by-test, never, not-passed, and-first, and-second, and-intro, unless-elim, unless-intro, cond-true, cond-false, all-none, all-first, all-rest, all-intro}
+use Rattle.lists.proofs.Cases.{by-test, and-first, and-second, and-intro, unless-elim, unless-intro, cond-true, cond-false, all-none, all-first, all-rest, all-intro}
 use Rattle.lists.proofs.Every.{every-at, every-from}
 use Rattle.lists.proofs.Distinct.{distinct-at, distinct-from}
 use Rattle.lists.proofs.Bytes.{eq-bytes, bytes-eq}
@@ -19,7 +19,7 @@ use Rattle.store.specs.declared.Store.{Store}
 use Rattle.store.specs.Limits.{keyKind, isKnown, isString, keyLengthOk, dataTypesOk}
 use Rattle.store.specs.Store.{tableHeld, entryHeld, nameOf, keyOf, tableNamed, entryOf, entryKeyed, noTable, noEntry}
 use Rattle.store.specs.Shape.{TableShape, EntryShape}
-use Rattle.store.specs.Sound.{nameLengthOk, keyTypeOk, tableKeyLengthOk, tableTypesOk, timedOk, tableTests, soundTable, sameName, entryTableOk, entryKeyLengthOk, keyRestZero, valuesOk, entryTests, soundEntry, sameKey, storeTests, soundStore}
+use Rattle.store.specs.Sound.{nameLengthOk, keyTypeOk, tableKeyLengthOk, tableTypesOk, timedOk, tableTests, soundTable, sameName, entryTableOk, entryKeyLengthOk, keyRestZero, valuesOk, entryTests, soundEntry, sameKey, soundStore}
 use Rattle.store.proofs.Rules.{key-length-most}
 
 -- ---- facts

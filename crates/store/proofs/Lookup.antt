@@ -1,24 +1,32 @@
 -- The loops over the tables, for a name and for a free place, and the cases of the tests of tables and entries.
-use Prim.Native.Nat.{ℕ, _+_, _≤_, _<_}
+use Prim.Native.Nat.{ℕ, _+_, _<_}
 use native.Mathlib.Omega.{arith}
 use mathlib.Core.Path.{_≡_, sym, ap, _∙_}
 use mathlib.Core.Bool.{Bool, true, false, _&&_}
 use mathlib.Core.List.{List, []}
 use lib.ListN.{length, getD, take, length-take}
-use lib.Seq.{length-take-le}
 use lib.IntN.{pos}
 use lib.Dec.{eqb}
+use mir.Val.{Val}
+use denote.Laws.{Is}
+use denote.Array.{Array}
+use denote.Struct.Declared.{row}
 use borrow.Author.Needs.{needs}
 use borrow.Author.Tests.{eq-eqb, ne-eqb, eqb-true}
+use Rattle.lists.proofs.Prefix.{first-bytes}
 use Rattle.lists.specs.declared.Found.the-variants.{At}
 use Rattle.lists.specs.Lists.{firstPlace, eqBytes}
 use Rattle.lists.proofs.Cases.{and-true, and-false, and-second, and-false-second}
 use Rattle.lists.proofs.Bytes.{bytes-longer}
+use Rattle.lists.proofs.Every.{getD-any}
 use Rattle.lists.proofs.Searching.{Searching, search-start, search-here, search-next, search-end}
 use Rattle.store.specs.declared.Table.{Table}
 use Rattle.store.specs.declared.Entry.{Entry}
-use Rattle.store.specs.Store.{tableHeld, entryHeld, tableFree, entryFree, tableNamed, entryOf, entryKeyed, nameOf, keyOf}
-use Rattle.store.proofs.Typed.{length-mapped}
+use Rattle.store.specs.Store.{tableHeld, entryHeld, tableFree, entryFree, tableNamed, entryOf, entryKeyed, nameOf, keyOf, noTable, noEntry}
+use Rattle.store.proofs.Table as table-type
+use Rattle.store.proofs.Entry as entry-type
+use Rattle.store.proofs.Typed.{tables-shape, entries-shape}
+use Rattle.lists.proofs.Maps.{length-mapped}
 
 -- what the code's reads give past the end of an array
 abbrev pub blankTable : Table
@@ -98,14 +106,7 @@ module _ (t : Table) (name : List ℕ) where
     pub compared : (b : Bool) → b ≡ eqBytes (take (t .«name_len») (t .name)) name → t .«name_len» ≡ length name → b ≡ tableNamed name t
     compared b q e = q ∙ of-length e
 
--- the first bytes of an array
-pub prefix-length : (xs : List ℕ) (n m : ℕ) → length xs ≡ m → n ≤ m → n ≡ length (take n xs)
-prefix-length xs n m e h = sym (length-take-le n xs (omega arith))
-
-pub prefix-within : (xs : List ℕ) (n m : ℕ) → length xs ≡ m → n ≤ m → n ≤ length xs
-prefix-within xs n m e h = omega arith
-
-pub ruleset naming = (needs, not-held, other-length, too-long, compared, prefix-length, prefix-within)
+pub ruleset naming = (needs, not-held, other-length, too-long, compared, first-bytes)
 
 -- ---- keys
 
@@ -153,6 +154,27 @@ module _ (e : Entry) (table : ℕ) (key : List ℕ) where
       and-false-second (entryOf table (length key) e) (eqBytes (keyOf e) key)
       (bytes-longer (take (e .«key_len») (e .key)) key (λ q. omega (arith, length-take (e .«key_len») (e .key))))
 
-pub record Keys (entries : List Entry) : Type 0 where
-  pub count : length entries ≡ 128
-  pub long : (k : ℕ) → k < 128 → length (getD entries k blankEntry .key) ≡ 64
+-- ---- arrays
+
+-- so many elements, each with an array of so many bytes
+pub record Arrays {A : Type 0} (array : A → List ℕ) (blank : A) (many size : ℕ) (xs : List A) : Type 0 where
+  pub count : length xs ≡ many
+  pub long : (k : ℕ) → k < many → length (array (getD xs k blank)) ≡ size
+
+arrays-of : {A : Type 0} (array : A → List ℕ) (blank d : A) (many size : ℕ) (xs : List A) → length xs ≡ many
+    → ((k : ℕ) → k < many → length (array (getD xs k d)) ≡ size) → Arrays array blank many size xs
+arrays-of {A} array blank d many size xs n f =
+    record { count = n; long = λ k l. ap (λ (x : A). length (array x)) (getD-any xs k blank d (omega arith)) ∙ f k l }
+
+abbrev pub Names : List Table → Type 0
+Names tables = Arrays (λ (t : Table). t .name) blankTable 8 32 tables
+
+abbrev pub Keys : List Entry → Type 0
+Keys entries = Arrays (λ (e : Entry). e .key) blankEntry 128 64 entries
+
+-- what the types of the code say of tables and entries
+pub array-names : (ts : List Table) (vs : List Val) → Is (Array (row table-type.the-type) 8) ts vs → Names ts
+array-names ts vs p = let h = tables-shape ts vs p in arrays-of (λ (t : Table). t .name) blankTable noTable 8 32 ts (h .0) (λ k l. h .1 k l .name .size)
+
+pub array-keys : (es : List Entry) (vs : List Val) → Is (Array (row entry-type.the-type) 128) es vs → Keys es
+array-keys es vs p = let h = entries-shape es vs p in arrays-of (λ (e : Entry). e .key) blankEntry noEntry 128 64 es (h .0) (λ k l. h .1 k l .key .size)

@@ -5,13 +5,14 @@ use mathlib.Core.Path.{_≡_, refl, sym, ap, _∙_, subst}
 use mathlib.Core.Bool.{Bool, true, false, cond, _&&_}
 use mathlib.Core.Logic.{_⊎_, ⊎-elim}
 use mathlib.Core.List.{List}
-use lib.ListN.{length, getD, set, length-set}
+use lib.ListN.{length, getD, set}
 use lib.Seq.{getD-set-same, getD-set-other}
 use lib.IntN.{ℤ}
 use lib.Dec.{leb, eqb}
 use borrow.Author.Tests.{eq-eqb}
 use Rattle.lists.specs.Lists.{allOf, every, distinct, isZero}
 use Rattle.lists.proofs.Cases.{never, not-passed, and-first, and-second, and-false-second, eq-or-ne}
+use Rattle.lists.proofs.Stores.{stored-each, stored-apart}
 use Rattle.lists.proofs.Bytes.{pad-take, pad-drop, zeros-zero}
 use Rattle.store.specs.declared.Table.{Table}
 use Rattle.store.specs.declared.Entry.{Entry}
@@ -81,40 +82,16 @@ module _ (s : Store) (h : StoreShape s) (r : SoundStore s) where
         tableMark = r .tableMark;
         table = r .table;
         names = r .names;
-        entryMark = λ i l.
-            let m : i < length es = omega (arith, n) in
-            ⊎-elim
-            (λ z. rw (z, getD-set-same es place e noEntry (omega arith)) (omega (arith, w .mark)))
-            (λ z. rw (getD-set-other es place i e noEntry z) (r .entryMark i m))
-            (eq-or-ne i place);
-        entry = λ i l.
-            let m : i < length es = omega (arith, n) in
-            ⊎-elim
-            (λ z. rw (z, getD-set-same es place e noEntry (omega arith)) (λ q. w .facts))
-            (λ z. rw (getD-set-other es place i e noEntry z) (r .entry i m))
-            (eq-or-ne i place);
-        keys = λ i j k l.
-            let m : j < length es = omega (arith, n) in
-            ⊎-elim
-            (λ z.
-            let g : j ≡ place → ⊥ = λ y. omega arith in
-            rw (z, getD-set-same es place e noEntry (omega arith), getD-set-other es place j e noEntry g) (keyed-first e (getD es j noEntry) (w .fresh j m g)))
-            (λ z.
-            rw (getD-set-other es place i e noEntry z)
-            (⊎-elim
-            (λ y.
-            rw (y, getD-set-same es place e noEntry (omega arith))
-            (keyed-second e (getD es i noEntry) (held-size i (omega arith)) (w .fresh i (omega arith) z)))
-            (λ y. rw (getD-set-other es place j e noEntry y) (r .keys i j k m))
-            (eq-or-ne j place)))
-            (eq-or-ne i place);
+        entryMark = stored-each es place e noEntry (λ (f : Entry). f .held ≤ 1) (omega (arith, w .mark)) (r .entryMark);
+        entry = stored-each es place e noEntry (λ (f : Entry). entryHeld f ≡ true → EntryFacts (s .tables) f) (λ q. w .facts) (r .entry);
+        keys = stored-apart es place e noEntry sameKey
+            (λ j l f.
+            (keyed-first e (getD es j noEntry) (w .fresh j l f), keyed-second e (getD es j noEntry) (held-size j l) (w .fresh j l f)))
+            (r .keys);
       }
     where
       es : List Entry
       es = s .entries
-
-      n : length (set (s .entries) place e) ≡ length (s .entries)
-      n = length-set (s .entries) place e
 
 -- ---- a table
 
@@ -193,33 +170,12 @@ module _ (s : Store) (h : StoreShape s) (r : SoundStore s) where
   unfolding putTable
   put-table-facts place t inside w =
       record {
-        tableMark = λ i l.
-            let m : i < length ts = omega (arith, n) in
-            ⊎-elim
-            (λ z. rw (z, getD-set-same ts place t noTable (omega arith)) (omega (arith, w .mark)))
-            (λ z. rw (getD-set-other ts place i t noTable z) (r .tableMark i m))
-            (eq-or-ne i place);
-        table = λ i l.
-            let m : i < length ts = omega (arith, n) in
-            ⊎-elim
-            (λ z. rw (z, getD-set-same ts place t noTable (omega arith)) (λ q. w .facts))
-            (λ z. rw (getD-set-other ts place i t noTable z) (r .table i m))
-            (eq-or-ne i place);
-        names = λ i j k l.
-            let m : j < length ts = omega (arith, n) in
-            ⊎-elim
-            (λ z.
-            let g : j ≡ place → ⊥ = λ y. omega arith in
-            rw (z, getD-set-same ts place t noTable (omega arith), getD-set-other ts place j t noTable g) (named-first t (getD ts j noTable) (w .fresh j m g)))
-            (λ z.
-            rw (getD-set-other ts place i t noTable z)
-            (⊎-elim
-            (λ y.
-            rw (y, getD-set-same ts place t noTable (omega arith))
-            (named-second t (getD ts i noTable) (named-size i (omega arith)) (w .fresh i (omega arith) z)))
-            (λ y. rw (getD-set-other ts place j t noTable y) (r .names i j k m))
-            (eq-or-ne j place)))
-            (eq-or-ne i place);
+        tableMark = stored-each ts place t noTable (λ (u : Table). u .held ≤ 1) (omega (arith, w .mark)) (r .tableMark);
+        table = stored-each ts place t noTable (λ (u : Table). tableHeld u ≡ true → TableFacts u) (λ q. w .facts) (r .table);
+        names = stored-apart ts place t noTable sameName
+            (λ j l f.
+            (named-first t (getD ts j noTable) (w .fresh j l f), named-second t (getD ts j noTable) (named-size j l) (w .fresh j l f)))
+            (r .names);
         entryMark = r .entryMark;
         entry = λ i l q. entry-stays ts place t (w .mark) (omega (arith, h .tables)) (w .keeps) (getD (s .entries) i noEntry) (r .entry i l q);
         keys = r .keys;
@@ -227,9 +183,6 @@ module _ (s : Store) (h : StoreShape s) (r : SoundStore s) where
     where
       ts : List Table
       ts = s .tables
-
-      n : length (set (s .tables) place t) ≡ length (s .tables)
-      n = length-set (s .tables) place t
 
 -- ---- a made entry and a made table
 

@@ -21,7 +21,7 @@ use Rattle.store.specs.Store.{tableHeld, entryHeld, noTable}
 use Rattle.store.specs.Sound.{nameLengthOk, keyTypeOk, tableKeyLengthOk, tableTypesOk, timedOk, tableTests, soundTable, entryTableOk, entryKeyLengthOk, keyRestZero, slotOk, slotsOk, valuesOk, entryTests, soundEntry}
 use Rattle.store.proofs.Rules.{slot-count}
 use Rattle.store.proofs.Lookup.{blankTable}
-use Rattle.store.proofs.Typed.{length-mapped}
+use Rattle.lists.proofs.Maps.{length-mapped}
 
 -- ---- a table
 
@@ -37,13 +37,13 @@ pub length-row : (t : Table) (b : Bool) → b ≡ keyLengthOk (t .«key_type») 
 unfolding tableKeyLengthOk
 length-row t b e = e
 
-pub types-stop : (t : Table) (ts : List Bool) → 524288 ≤ t .«data_types» → false ≡ allOf (tableTypesOk t ∷ ts)
+pub types-stop : (t : Table) (ts : List Bool) → 524287 < t .«data_types» → false ≡ allOf (tableTypesOk t ∷ ts)
 unfolding tableTypesOk dataTypesOk
-types-stop t ts l = sym (all-false (ltb (t .«data_types») (2 ^ 19)) ts (le-ltb (t .«data_types») (2 ^ 19) l))
+types-stop t ts l = sym (all-false (ltb (t .«data_types») (2 ^ 19)) ts (le-ltb (t .«data_types») (2 ^ 19) (omega arith)))
 
-pub types-next : (t : Table) (r : Bool) (ts : List Bool) → t .«data_types» < 524288 → r ≡ allOf ts → r ≡ allOf (tableTypesOk t ∷ ts)
+pub types-next : (t : Table) (r : Bool) (ts : List Bool) → t .«data_types» ≤ 524287 → r ≡ allOf ts → r ≡ allOf (tableTypesOk t ∷ ts)
 unfolding tableTypesOk dataTypesOk
-types-next t r ts l e = e ∙ sym (all-true (ltb (t .«data_types») (2 ^ 19)) ts (lt-ltb (t .«data_types») (2 ^ 19) l))
+types-next t r ts l e = e ∙ sym (all-true (ltb (t .«data_types») (2 ^ 19)) ts (lt-ltb (t .«data_types») (2 ^ 19) (omega arith)))
 
 pub timed-last : (t : Table) → leb (t .timed) 1 ≡ allOf (timedOk t ∷ [])
 unfolding timedOk

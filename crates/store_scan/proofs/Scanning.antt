@@ -16,17 +16,18 @@ use Rattle.lists.proofs.Cases.{by-test, never, cond-true, cond-false, and-first
 use Rattle.lists.proofs.Every.{getD-any, every-at}
 use Rattle.lists.proofs.Distinct.{distinct-at}
 use Rattle.lists.proofs.Bytes.{eq-bytes, pad-take}
-use Rattle.lists.proofs.Places.{First, first-at, first-nothing, first-is, first-none, place-from}
+use Rattle.lists.proofs.Places.{first-at, first-nothing, first-is, first-none, first-agree}
 use Rattle.store.specs.declared.Table.{Table}
 use Rattle.store.specs.declared.Entry.{Entry}
 use Rattle.store.specs.declared.Store.{Store}
 use Rattle.store.specs.Store.{entryHeld, entryFree, entryOf, entryKeyed, keyOf, noEntry}
 use Rattle.store.specs.Sound.{soundEntry, sameKey}
 use Rattle.store.specs.Shape.{StoreShape}
-use Rattle.store.proofs.Lookup.{blankEntry, long-key, prefix-length, prefix-within}
-use Rattle.store.proofs.Typed.{length-mapped}
+use Rattle.lists.proofs.Prefix.{first-bytes}
+use Rattle.store.proofs.Lookup.{blankEntry, long-key}
+use Rattle.lists.proofs.Maps.{mapped-at}
 use Rattle.store_soundness.specs.Marks.{markEnd, markKey, entryMark, sameMark}
-use Rattle.store_soundness.proofs.marks.Marking.{key-below, start-small, held-is, same-alike, mapped-at, marks-tell}
+use Rattle.store_soundness.proofs.marks.Marking.{key-below, start-small, held-is, same-alike, marks-tell}
 use Rattle.store_soundness.specs.Codes.{entryCode, soundCode, isCode}
 use Rattle.store_soundness.proofs.codes.Coding.{codes-sound, codes-marks, free-marked}
 use Rattle.store.specs.declared.entries.Place.{Place}
@@ -72,7 +73,7 @@ module _ (entry e : Entry) where
   unfolding keyedAs keyOf
   short-as l q = q ∙ sym (and-true (leb (entry .«key_len») 64) _ (le-leb (entry .«key_len») 64 l))
 
-pub ruleset keying = (needs, long-other, short-as, prefix-length, prefix-within)
+pub ruleset keying = (needs, long-other, short-as, first-bytes)
 
 -- ---- the lowest free place
 
@@ -108,18 +109,6 @@ module _ {q : Query} {codes : List ℕ} {entries : List Entry} {p : Place} {b : 
 pub ruleset comparing-keys = (needs, keys-unsound, keys-sound)
 
 -- ---- places of codes and of entries
-
--- a test of what f makes of each element, and a test of the elements
-module _ {X : Type 0} (f : X → ℕ) (p : ℕ → Bool) (q : X → Bool) (d : X) where
-  agree-from : (xs : List X) (k : ℕ) → ((i : ℕ) → i < length xs → p (f (getD xs i d)) ≡ q (getD xs i d)) → firstFrom k p (map f xs) ≡ firstFrom k q xs
-  unfolding firstFrom
-  agree-from [] k h = refl
-  agree-from (x ∷ xs) k h =
-      ap (λ (t : Bool). cond t (found.At k) (firstFrom (k + 1) p (map f xs))) (h 0 (omega arith))
-      ∙ ap (λ (g : Found). cond (q x) (found.At k) g) (agree-from xs (k + 1) (λ i l. h (suc i) (omega arith)))
-
-  first-agree : (xs : List X) → ((i : ℕ) → i < length xs → p (f (getD xs i d)) ≡ q (getD xs i d)) → firstPlace p (map f xs) ≡ firstPlace q xs
-  first-agree xs h = place-from p (map f xs) ∙ agree-from xs 0 h ∙ sym (place-from q xs)
 
 -- an entry that has the table and the key has their mark
 keyed-mark : (table : ℕ) (key : List ℕ) (e : Entry) → entryKeyed table key e ≡ true → entryMark e ≡ markKey (table % markEnd) key
@@ -169,13 +158,15 @@ module _ (q : Query) (t : Store) (shape : StoreShape t) (codes : List ℕ) (ce :
       keys-apart = marks-tell entries (ap (distinct sameMark) (sym marks-are) ∙ apart)
 
       mark-at : (i : ℕ) → i < 128 → getD codes i 0 ≡ entryMark (getD entries i blankEntry)
-      mark-at i l = ap (λ (xs : List ℕ). getD xs i 0) marks-are ∙ mapped-at entries i (omega (arith, shape .entries))
+      mark-at i l = ap (λ (xs : List ℕ). getD xs i 0) marks-are ∙ mapped-at entryMark entries i blankEntry 0 (omega (arith, shape .entries))
 
       free-place : firstPlace (isCode markEnd) codes ≡ firstPlace entryFree entries
       free-place =
-          ap (firstPlace (isCode markEnd)) marks-are
-          ∙ first-agree entryMark (isCode markEnd) entryFree blankEntry entries
-          (λ i l. free-marked (q .tables) (getD entries i blankEntry) (every-at (soundEntry (q .tables)) entries blankEntry i all l))
+          let n = ap length marks-are ∙ length-map entries entryMark in
+          first-agree (isCode markEnd) entryFree 0 blankEntry codes entries n
+          (λ i l.
+          ap (isCode markEnd) (mark-at i (omega (arith, n, shape .entries)))
+          ∙ free-marked (q .tables) (getD entries i blankEntry) (every-at (soundEntry (q .tables)) entries blankEntry i all (omega (arith, n))))
 
       abbrev entry : Entry
       entry = q .entry

@@ -6,19 +6,13 @@ ghost use Rattle.lists.specs.Lists.{every, distinct};
 ghost use Rattle.store.specs.Store.{keyOf};
 ghost use Rattle.store_soundness.specs.Marks.{markEnd, mixed, wordOf, markWords, markBytes, markKey, sameMark, otherMark};
 use lists::shorter;
+use lists::wide;
 use store::ENTRIES;
 use store::Entry;
 use store::KEY_MAX;
 
 // Marks of held entries are below this prime, which is the mark of a free place.
 pub const MARK_END: u32 = 2147483647;
-
-// A byte as a u64, with its bound.
-fn wide(b: u8) -> u64
-    ensures { λ r. ⌜ (r ≡ b) × (r < 256) ⌝ }
-{
-    b as u64
-}
 
 // The mark after a number more of a key.
 fn mix(mark: u64, n: u64) -> u64

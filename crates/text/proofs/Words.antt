@@ -12,6 +12,7 @@ use borrow.Author.Tests.{lt-ltb, le-ltb}
 use mir.Syntax.{w32, w64}
 use mir.Facts.{toZ-ofZ}
 use mir.Val.{Fits, SFits, toZ, ofZ}
+use Rattle.lists.proofs.Prefix.{first-bytes}
 use Rattle.wire.specs.Server.{serverWord}
 use Rattle.wire.proofs.Server.{word-neg}
 use Rattle.handshake.specs.declared.Digits.{Digits}
@@ -177,7 +178,4 @@ two-words w v p q = words (w ∷ []) (v ∷ []) p q
 pub ruleset putting-line = (needs, line-0, line-of, line-2, line-1-2, line-2-2, two-words)
 
 -- ---- the first bytes of a room
-pub part-length : (xs : List ℕ) (n : ℕ) → n ≤ length xs → n ≡ length (take n xs)
-part-length xs n h = sym (length-take-le n xs h)
-
-pub ruleset parts = (needs, part-length)
+pub ruleset parts = (needs, first-bytes)

@@ -16,7 +16,7 @@ use Rattle.wire.specs.declared.ServerId.the-variants as server
 use Rattle.wire.specs.Integer.{Later, ended, cut, endless, before, laterBytes, weighted, withLater, readFirst, readInt}
 use Rattle.wire.specs.Number.{readNumber}
 use Rattle.wire.specs.Server.{serverOf, readServerId}
-use Rattle.wire.proofs.Order.{lt-or-le, split}
+use Rattle.lists.proofs.Cases.{lt-or-le, split}
 use Rattle.wire.proofs.Read.{fitting-value, fitting-over, first-end}
 use Rattle.wire.proofs.Numbers.{number-short, number-value}
 

@@ -1,4 +1,3 @@
-pub mod Order
 pub mod Read
 pub mod Reading
 pub mod Write

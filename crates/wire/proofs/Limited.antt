@@ -14,7 +14,7 @@ use Rattle.wire.specs.declared.Field.{Field}
 use Rattle.wire.specs.declared.Field.the-variants as field
 use Rattle.wire.specs.Integer.{encodeInt, readInt}
 use Rattle.wire.specs.Value.{limited, readLimited, readWidth, WidthRule}
-use Rattle.wire.proofs.Order.{lt-or-le, split}
+use Rattle.lists.proofs.Cases.{lt-or-le, split}
 use Rattle.wire.proofs.RoundTrip.{round-trip, one-encoding}
 
 -- ---- the code's ways, where r is what `read_int` gives

@@ -11,7 +11,7 @@ use Rattle.wire.specs.declared.Number.{Number}
 use Rattle.wire.specs.declared.Number.the-variants.{Value, Short}
 use Rattle.wire.specs.Number.{numberOf, readNumber, encodeNumber}
 use Rattle.wire.specs.Value.{Bytes}
-use Rattle.wire.proofs.Order.{lt-or-le, split}
+use Rattle.lists.proofs.Cases.{lt-or-le, split}
 
 module _ (s : List ℕ) (at : ℕ) where
   pub number-short : length s < at + 4 → readNumber s at ≡ Short

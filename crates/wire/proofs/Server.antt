@@ -21,7 +21,7 @@ use Rattle.wire.specs.declared.ServerId.{ServerId}
 use Rattle.wire.specs.declared.ServerId.the-variants as server
 use Rattle.wire.specs.Integer.{encodeInt, readInt}
 use Rattle.wire.specs.Server.{serverWord, serverIdOf, serverBefore, serverOf, readServerId}
-use Rattle.wire.proofs.Order.{lt-or-le, split}
+use Rattle.lists.proofs.Cases.{lt-or-le, split}
 use Rattle.wire.proofs.RoundTrip.{round-trip}
 use Rattle.wire.proofs.Advance.{advance, value-small}
 

@@ -7,7 +7,7 @@ use lib.ListN.{length, getD, drop}
 use lib.Seq.{getD-drop}
 use Rattle.wire.specs.Integer.{encodeRest, encodeInt, smallest, encodedInt}
 use Rattle.wire.specs.Value.{Bytes}
-use Rattle.wire.proofs.Order.{lt-or-le, split}
+use Rattle.lists.proofs.Cases.{lt-or-le, split}
 use Rattle.wire.proofs.Write.{rest-last, rest-more, int-alone, int-more}
 
 -- ---- at most ten bytes, and one at least

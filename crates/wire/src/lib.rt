@@ -3,8 +3,8 @@ pub mod buffer;
 pub mod fixed;
 pub mod values;
 
+use lists::wide;
 ghost use mathlib.Core.Path.{_≡_};
-ghost use Prim.Native.Nat.{_<_};
 ghost use lib.ListN.{drop};
 ghost use Rattle.wire.specs.Integer.{readInt, tenthByte, encodedInt};
 
@@ -13,13 +13,6 @@ pub enum Int {
     Value { value: u64, next: usize },
     Short,
     Overflow,
-}
-
-// A byte as a u64, with its bound.
-fn wide(b: u8) -> u64
-    ensures { λ r. ⌜ (r ≡ b) × (r < 256) ⌝ }
-{
-    b as u64
 }
 
 // The tenth byte, at `i`, after nine bytes that give `value`.

@@ -10,13 +10,14 @@ use lib.ListN.{length, take, getD}
 use lib.Seq.{take-all, take-suc, length-take-le}
 use borrow.Author.Needs.{needs}
 use borrow.Author.Tests.{eq-eqb, ne-eqb}
+use Rattle.lists.proofs.Prefix.{first-bytes, prefix-whole}
 use Rattle.lists.proofs.Cases.{cond-true, cond-false}
 use Rattle.handshake.specs.Bytes.{decimal}
 use Rattle.session.specs.declared.Binding.{Binding}
 use Rattle.session.specs.declared.Connection.{Connection}
 use Rattle.session.specs.declared.Session.{Session}
 use Rattle.session.specs.Session.{isClosed, isBound, isUpdated, unfinished}
-use Rattle.session.proofs.Basics.{length-mapped}
+use Rattle.lists.proofs.Maps.{length-mapped}
 use Rattle.text.specs.Text.{ascii, hexOrNone, spaced, line}
 use Rattle.text.specs.Room.{Wrote}
 use Rattle.text.proofs.Rooms.{joined, retold, nothing}
@@ -24,15 +25,6 @@ use Rattle.text.proofs.Words.{line-of, line-2}
 use Rattle.dump.specs.Lines.{phaseLine, unfinishedLine, currentLine, bindingLines, bindingsLines, recordLines}
 
 -- ---- the first bytes of an array
-pub prefix-length : (xs : List ℕ) (n m : ℕ) → length xs ≡ m → n < m → n ≡ length (take n xs)
-prefix-length xs n m e h = sym (length-take-le n xs (omega arith))
-
-pub prefix-within : (xs : List ℕ) (n m : ℕ) → length xs ≡ m → n < m → n ≤ length xs
-prefix-within xs n m e h = omega arith
-
-whole : (xs : List ℕ) (n m : ℕ) → length xs ≡ m → m ≤ n → xs ≡ take n xs
-whole xs n m e h = let l : length xs ≤ n = omega arith in sym (take-all n xs l)
-
 module _ {room x : List ℕ} {at k : ℕ} where
   pub unfinished-part : (s : Session) → Wrote room at (spaced (hexOrNone (take (s .len) (s .buffer)) ∷ [])) x k → Wrote room at (spaced (hexOrNone (unfinished s) ∷ [])) x k
   unfolding unfinished
@@ -41,9 +33,9 @@ module _ {room x : List ℕ} {at k : ℕ} where
   pub unfinished-whole : (s : Session) → length (s .buffer) ≡ 1027 → 1027 ≤ s .len
       → Wrote room at (spaced (hexOrNone (s .buffer) ∷ [])) x k → Wrote room at (spaced (hexOrNone (unfinished s) ∷ [])) x k
   unfolding unfinished
-  unfinished-whole s l h w = retold (ap (λ (b : List ℕ). spaced (hexOrNone b ∷ [])) (whole (s .buffer) (s .len) 1027 l h)) w
+  unfinished-whole s l h w = retold (ap (λ (b : List ℕ). spaced (hexOrNone b ∷ [])) (prefix-whole (s .buffer) (s .len) 1027 l h)) w
 
-pub ruleset prefixes = (needs, prefix-length, prefix-within, unfinished-part, unfinished-whole)
+pub ruleset prefixes = (needs, first-bytes, unfinished-part, unfinished-whole)
 
 -- ---- the phase
 module _ (c : Connection) {room x : List ℕ} {at k : ℕ} where

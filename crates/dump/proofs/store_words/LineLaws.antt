@@ -14,6 +14,7 @@ use borrow.Author.Tests.{eq-eqb, ne-eqb}
 use mir.Facts.{toZ-ofZ}
 use mir.Syntax.{w32}
 use mir.Val.{SFits, toZ, ofZ}
+use Rattle.lists.proofs.Prefix.{first-bytes, prefix-whole}
 use Rattle.lists.proofs.Cases.{by-test, cond-true, cond-false}
 use Rattle.handshake.specs.Bytes.{decimal}
 use Rattle.store.specs.declared.Table.{Table}
@@ -28,15 +29,6 @@ use Rattle.text.proofs.Words.{line-of, words, no-words}
 use Rattle.dump.specs.StoreWordsLines.{presentAmong, valuesOf, periodsOf, timesWords, tableLine, entryLine}
 
 -- ---- the first bytes of an array
-pub prefix-length : (xs : List ℕ) (n m : ℕ) → length xs ≡ m → n < m → n ≡ length (take n xs)
-prefix-length xs n m e h = sym (length-take-le n xs (omega arith))
-
-pub prefix-within : (xs : List ℕ) (n m : ℕ) → length xs ≡ m → n < m → n ≤ length xs
-prefix-within xs n m e h = omega arith
-
-whole : (xs : List ℕ) (n m : ℕ) → length xs ≡ m → m ≤ n → xs ≡ take n xs
-whole xs n m e h = let l : length xs ≤ n = omega arith in sym (take-all n xs l)
-
 module _ {room x : List ℕ} {at k : ℕ} where
   pub name-part : (t : Table) → Wrote room at (spaced (hex (take (t .«name_len») (t .name)) ∷ [])) x k → Wrote room at (spaced (hex (nameOf t) ∷ [])) x k
   unfolding nameOf
@@ -45,7 +37,7 @@ module _ {room x : List ℕ} {at k : ℕ} where
   pub name-whole : (t : Table) → length (t .name) ≡ 32 → 32 ≤ t .«name_len»
       → Wrote room at (spaced (hex (t .name) ∷ [])) x k → Wrote room at (spaced (hex (nameOf t) ∷ [])) x k
   unfolding nameOf
-  name-whole t l h w = retold (ap (λ (b : List ℕ). spaced (hex b ∷ [])) (whole (t .name) (t .«name_len») 32 l h)) w
+  name-whole t l h w = retold (ap (λ (b : List ℕ). spaced (hex b ∷ [])) (prefix-whole (t .name) (t .«name_len») 32 l h)) w
 
   pub key-part : (e : Entry) → Wrote room at (spaced (hexOrNone (take (e .«key_len») (e .key)) ∷ [])) x k → Wrote room at (spaced (hexOrNone (keyOf e) ∷ [])) x k
   unfolding keyOf
@@ -54,9 +46,9 @@ module _ {room x : List ℕ} {at k : ℕ} where
   pub key-whole : (e : Entry) → length (e .key) ≡ 64 → 64 ≤ e .«key_len»
       → Wrote room at (spaced (hexOrNone (e .key) ∷ [])) x k → Wrote room at (spaced (hexOrNone (keyOf e) ∷ [])) x k
   unfolding keyOf
-  key-whole e l h w = retold (ap (λ (b : List ℕ). spaced (hexOrNone b ∷ [])) (whole (e .key) (e .«key_len») 64 l h)) w
+  key-whole e l h w = retold (ap (λ (b : List ℕ). spaced (hexOrNone b ∷ [])) (prefix-whole (e .key) (e .«key_len») 64 l h)) w
 
-pub ruleset prefixes = (needs, prefix-length, prefix-within, name-part, name-whole, key-part, key-whole)
+pub ruleset prefixes = (needs, first-bytes, name-part, name-whole, key-part, key-whole)
 
 -- ---- one value, if its data type is present
 module _ {A : Type 0} (types t : ℕ) (v : A) where

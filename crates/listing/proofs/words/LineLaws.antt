@@ -6,8 +6,9 @@ use mathlib.Core.List.{List, [], _∷_}
 use lib.ListN.{length, take, getD, List·getD-eq-default}
 use lib.Seq.{take-all, length-take-le}
 use borrow.Author.Needs.{needs}
+use Rattle.lists.proofs.Prefix.{first-bytes, prefix-whole}
 use Rattle.lists.proofs.Every.{getD-any}
-use Rattle.store.proofs.Typed.{length-mapped}
+use Rattle.lists.proofs.Maps.{length-mapped}
 use Rattle.store.specs.declared.Table.{Table}
 use Rattle.store.specs.Store.{noTable}
 use Rattle.session.specs.declared.Connection.{Connection}
@@ -28,17 +29,9 @@ module _ (c : Connection) {room x : List ℕ} {at k : ℕ} where
   pub peer-whole : length (c .remote) ≡ 32 → 32 ≤ c .«remote_len» → Wrote room at (spaced (c .remote ∷ [])) x k → Wrote room at (spaced (remoteName c ∷ [])) x k
   unfolding remoteName
   peer-whole l h w =
-      let e : length (c .remote) ≤ c .«remote_len» = omega arith in
-      retold (ap (λ (n : List ℕ). spaced (n ∷ [])) (sym (take-all (c .«remote_len») (c .remote) e))) w
+      retold (ap (λ (n : List ℕ). spaced (n ∷ [])) (prefix-whole (c .remote) (c .«remote_len») 32 l h)) w
 
--- the first bytes of an array
-pub prefix-length : (xs : List ℕ) (n m : ℕ) → length xs ≡ m → n < m → n ≡ length (take n xs)
-prefix-length xs n m e h = sym (length-take-le n xs (omega arith))
-
-pub prefix-within : (xs : List ℕ) (n m : ℕ) → length xs ≡ m → n < m → n ≤ length xs
-prefix-within xs n m e h = omega arith
-
-pub ruleset names = (needs, peer-part, peer-whole, prefix-length, prefix-within)
+pub ruleset names = (needs, peer-part, peer-whole, first-bytes)
 
 -- ---- the word of a commit
 module _ {room x : List ℕ} {at k : ℕ} (how : Commit) where

@@ -1,18 +1,18 @@
 -- Codes of entries: of one entry, along the loops over them, and what the codes of all entries say of the entries.
-use Prim.Native.Nat.{ℕ, _+_, _%_, _^_, _≤_, _<_}
+use Prim.Native.Nat.{ℕ, _+_, _%_, _≤_, _<_}
 use native.Mathlib.Omega.{arith}
 use mathlib.Core.Path.{_≡_, refl, sym, ap, _∙_, subst}
 use mathlib.Core.Bool.{Bool, true, false, not, _&&_}
 use mathlib.Core.List.{List, [], _∷_, map}
-use lib.ListN.{length, getD, length-map, List·getD-map}
+use lib.ListN.{length, getD, length-map}
 use lib.Seq.{ext-getD}
-use lib.Dec.{eqb, ltb}
+use lib.Dec.{eqb}
 use borrow.Author.Needs.{needs}
-use borrow.Author.Tests.{eq-eqb, ne-eqb, eqb-true, lt-ltb, le-ltb, not-true, not-false}
+use borrow.Author.Tests.{eq-eqb, ne-eqb, lt-ltb, le-ltb, not-true, not-false}
 use Rattle.lists.specs.Lists.{allOf, every, firstPlace}
 use mathlib.Core.Logic.{⊎-elim}
 use Rattle.lists.proofs.Cases.{by-test, never, cond-true, cond-false, eq-or-ne}
-use Rattle.lists.proofs.Every.{getD-any, every-at, every-from, every-agree}
+use Rattle.lists.proofs.Every.{every-at, every-agree}
 use Rattle.lists.specs.declared.Found.the-variants as found
 use Rattle.lists.proofs.Searching.{Searching, search-start, search-here, search-next, search-end}
 use Rattle.store.specs.declared.Table.{Table}
@@ -20,7 +20,7 @@ use Rattle.store.specs.declared.Entry.{Entry}
 use Rattle.store.specs.Store.{tableHeld, entryHeld, entryFree, keyOf}
 use Rattle.store.specs.Sound.{soundEntry, entryKeyLengthOk, keyRestZero, valuesOk}
 use Rattle.store.proofs.Lookup.{blankTable, blankEntry}
-use Rattle.store.proofs.Typed.{length-mapped}
+use Rattle.lists.proofs.Maps.{length-mapped, mapped-at}
 use Rattle.store.proofs.Tested.{free-entry-sound, entry-mark-unsound, place-unsound, rows-sound}
 use Rattle.store_soundness.specs.Marks.{markEnd, markKey, entryMark}
 use Rattle.store_soundness.proofs.marks.Marking.{key-below, start-small, held-is}
@@ -126,19 +126,13 @@ tells-sound tables e =
     (λ h. ap soundCode (bad-code tables e h) ∙ sym h)
 
 module _ (tables : List Table) (entries : List Entry) where
-  pub code-at : (k : ℕ) → k < length entries → getD (map (entryCode tables) entries) k 0 ≡ entryCode tables (getD entries k blankEntry)
-  code-at k l =
-      getD-any (map (entryCode tables) entries) k 0 (entryCode tables blankEntry) (omega (arith, length-map entries (entryCode tables)))
-      ∙ List·getD-map (entryCode tables) entries k blankEntry
-
-  every-map : (es : List Entry) → every soundCode (map (entryCode tables) es) ≡ every (soundEntry tables) es
-  unfolding every
-  every-map [] = refl
-  every-map (e ∷ es) = ap (λ (x : Bool). x && every soundCode (map (entryCode tables) es)) (tells-sound tables e) ∙ ap (λ (x : Bool). soundEntry tables e && x) (every-map es)
-
   -- all codes are of sound entries if all entries are sound
   pub codes-sound : every soundCode (map (entryCode tables) entries) ≡ every (soundEntry tables) entries
-  codes-sound = every-map entries
+  codes-sound =
+      every-agree soundCode (soundEntry tables) 0 blankEntry (map (entryCode tables) entries) entries (length-map entries (entryCode tables))
+      (λ k l.
+      ap soundCode (mapped-at (entryCode tables) entries k blankEntry 0 (omega (arith, length-map entries (entryCode tables))))
+      ∙ tells-sound tables (getD entries k blankEntry))
 
   -- the codes of sound entries are their marks
   pub codes-marks : every (soundEntry tables) entries ≡ true → map (entryCode tables) entries ≡ map entryMark entries
@@ -146,10 +140,6 @@ module _ (tables : List Table) (entries : List Entry) where
       ext-getD 0 (map (entryCode tables) entries) (map entryMark entries) (length-map entries (entryCode tables) ∙ sym (length-map entries entryMark))
       (λ k l.
       let m : k < length entries = omega (arith, length-map entries (entryCode tables)) in
-      code-at k m
+      mapped-at (entryCode tables) entries k blankEntry 0 m
       ∙ sound-code tables (getD entries k blankEntry) (every-at (soundEntry tables) entries blankEntry k h m)
-      ∙ sym (mark-at k m))
-    where
-      mark-at : (k : ℕ) → k < length entries → getD (map entryMark entries) k 0 ≡ entryMark (getD entries k blankEntry)
-      mark-at k l =
-          getD-any (map entryMark entries) k 0 (entryMark blankEntry) (omega (arith, length-map entries entryMark)) ∙ List·getD-map entryMark entries k blankEntry
+      ∙ sym (mapped-at entryMark entries k blankEntry 0 m))

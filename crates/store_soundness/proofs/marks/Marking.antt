@@ -5,8 +5,8 @@ use mathlib.Core.Path.{_≡_, refl, sym, ap, _∙_, subst}
 use mathlib.Core.Bool.{Bool, true, false, not, _&&_}
 use mathlib.Core.Logic.{⊎-elim}
 use mathlib.Core.List.{List, [], _∷_, map}
-use lib.ListN.{length, getD, take, drop, length-map, length-drop, drop-of-length-le, List·getD-map}
-use lib.Seq.{length-take-le, take-all, getD-drop, drop-drop}
+use lib.ListN.{length, getD, take, drop, length-map, length-drop, drop-of-length-le}
+use lib.Seq.{take-all, getD-drop, drop-drop}
 use lib.Dec.{eqb, ltb}
 use mir.Val.{Fits}
 use mir.Syntax.{w32}
@@ -14,14 +14,15 @@ use borrow.Author.Needs.{needs}
 use borrow.Author.Tests.{eqb-true, eq-eqb, ne-eqb, lt-ltb, le-ltb, not-true, not-false}
 use Rattle.lists.specs.Lists.{distinct, every, eqBytes}
 use Rattle.lists.proofs.Cases.{and-first, and-second, and-true, and-false, by-test, cond-true, never, eq-or-ne}
-use Rattle.lists.proofs.Every.{drop-step, getD-any, every-agree}
+use Rattle.lists.proofs.Maps.{mapped-at}
+use Rattle.lists.proofs.Prefix.{shorter-bytes, prefix-shorter}
+use Rattle.lists.proofs.Every.{drop-step, every-agree}
 use Rattle.lists.proofs.Bytes.{eq-bytes}
 use Rattle.lists.proofs.Distinct.{distinct-at, distinct-from}
-use Rattle.lists.proofs.Twins.{Outer, outer-start, outer-skip, outer-next, outer-stop, outer-end}
+use Rattle.lists.proofs.Pairs.{Outer, outer-start, outer-skip, outer-next, outer-stop, outer-end}
 use Rattle.store.specs.declared.Entry.{Entry}
 use Rattle.store.specs.Store.{entryHeld, entryOf, entryKeyed, keyOf}
 use Rattle.store.specs.Sound.{sameKey}
-use Rattle.store.proofs.TwinLoops.{take-min}
 use Rattle.store.proofs.Lookup.{blankEntry}
 use Rattle.store_soundness.specs.Marks.{markEnd, mixed, wordOf, markWords, markBytes, markKey, entryMark, sameMark, otherMark}
 
@@ -163,18 +164,12 @@ pub ruleset key-marking = (needs, key-marked, words-inside)
 -- ---- the mark of an entry
 
 module _ (e : Entry) (n : ℕ) (z : length (e .key) ≡ 64) (q : n ≡ min (e .«key_len») 64) where
-  pub key-fits : n ≤ length (e .key)
-  key-fits = omega arith
-
-  pub key-size : n ≡ length (take n (e .key))
-  key-size = sym (length-take-le n (e .key) key-fits)
-
   pub held-mark : {m start : ℕ} → start ≡ e .table % markEnd → m ≡ markKey start (take n (e .key)) → m ≡ markKey (e .table % markEnd) (keyOf e)
   unfolding keyOf
   held-mark {m} {start} s p =
       p
       ∙ ap (λ (x : ℕ). markKey x (take n (e .key))) s
-      ∙ ap (markKey (e .table % markEnd)) (ap (λ (k : ℕ). take k (e .key)) q ∙ take-min (e .key) (e .«key_len») 64 z)
+      ∙ ap (markKey (e .table % markEnd)) (ap (λ (k : ℕ). take k (e .key)) q ∙ prefix-shorter (e .key) (e .«key_len») 64 z)
 
 pub start-small : (t : ℕ) → t % markEnd < markEnd
 start-small t = omega arith
@@ -182,13 +177,7 @@ start-small t = omega arith
 pub mark-narrow : {m : ℕ} → m < markEnd → Fits w32 m
 mark-narrow l = record { fits = omega arith }
 
-pub ruleset entry-marks = (needs, key-fits, key-size, held-mark, start-small, mark-narrow)
-
--- ---- the marks of entries
-
-pub mapped-at : (es : List Entry) (k : ℕ) → k < length es → getD (map entryMark es) k 0 ≡ entryMark (getD es k blankEntry)
-mapped-at es k l =
-    getD-any (map entryMark es) k 0 (entryMark blankEntry) (omega (arith, length-map es entryMark)) ∙ List·getD-map entryMark es k blankEntry
+pub ruleset entry-marks = (needs, shorter-bytes, held-mark, start-small, mark-narrow)
 
 -- ---- pairs of marks
 
@@ -230,7 +219,7 @@ module _ {marks : List ℕ} {i : ℕ} (r : Outer sameMark marks 128 i) where
   module _ {b : Bool} (l : i < 128) (h : getD marks i 0 < markEnd) (q : b ≡ every (otherMark (getD marks i 0)) (take (128 - (i + 1)) (drop (i + 1) marks))) where
     later : every (λ (y : ℕ). not (sameMark (getD marks i 0) y)) (drop (i + 1) marks) ≡ b
     later =
-        every-agree (λ (y : ℕ). not (sameMark (getD marks i 0) y)) (otherMark (getD marks i 0)) (drop (i + 1) marks) 0
+        every-agree (λ (y : ℕ). not (sameMark (getD marks i 0) y)) (otherMark (getD marks i 0)) 0 0 (drop (i + 1) marks) (drop (i + 1) marks) refl
         (λ k m. unlike-other (getD marks i 0) h (getD (drop (i + 1) marks) k 0))
         ∙ ap (every (otherMark (getD marks i 0))) (sym (take-all (128 - (i + 1)) (drop (i + 1) marks) (omega (arith, length-drop (i + 1) marks, r .size))))
         ∙ sym q
@@ -269,8 +258,8 @@ marks-tell entries h =
     let e = getD entries i blankEntry in
     let f = getD entries j blankEntry in
     let n = length-map entries entryMark in
-    let a = mapped-at entries i (omega arith) in
-    let b = mapped-at entries j m in
+    let a = mapped-at entryMark entries i blankEntry 0 (omega arith) in
+    let b = mapped-at entryMark entries j blankEntry 0 m in
     let d = distinct-at sameMark (map entryMark entries) 0 i j h l (omega (arith, n)) in
     by-test (sameKey e f)
     (λ t. never (one-mark e f t) (ap (λ (x : ℕ). sameMark x (entryMark f)) (sym a) ∙ ap (sameMark (getD (map entryMark entries) i 0)) (sym b) ∙ d))

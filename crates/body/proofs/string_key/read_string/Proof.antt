@@ -1,5 +1,4 @@
 use Rattle.body.proofs.FieldLaws.{key-laws}
-use borrow.Author.Needs.{needs}
 use Rattle.body.proofs.string_key.read_string.Statement.{statement}
 use Rattle.body.proofs.string_key.read_string.Tie as tie
 

@@ -1,5 +1,4 @@
 use Rattle.body.proofs.FieldLaws.{presence-laws}
-use borrow.Author.Needs.{needs}
 use Rattle.body.proofs.times.read_period.Statement.{statement}
 use Rattle.body.proofs.times.read_period.Tie as tie
 

@@ -1,5 +1,4 @@
 use Rattle.body.proofs.DefinitionLaws.{times-laws, ended, expiry-short, expiry-out, expiry-value}
-use borrow.Author.Needs.{needs}
 use Rattle.body.proofs.times.read_times.Statement.{statement}
 use Rattle.body.proofs.times.read_times.Tie as tie
 

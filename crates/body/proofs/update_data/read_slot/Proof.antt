@@ -1,5 +1,4 @@
 use Rattle.body.proofs.FieldLaws.{presence-laws}
-use borrow.Author.Needs.{needs}
 use Rattle.body.proofs.update_data.read_slot.Statement.{statement}
 use Rattle.body.proofs.update_data.read_slot.Tie as tie
 

@@ -1,7 +1,7 @@
 use lib.ListN.{length}
 use mathlib.Core.Path.{_≡_}
 use borrow.Author.Needs.{needs}
-use Rattle.store.proofs.Typed.{length-mapped}
+use Rattle.lists.proofs.Maps.{length-mapped}
 use Rattle.store_soundness.proofs.codes.Coding.{coding, code-free, code-mark, code-place, code-rows, code-held}
 use Rattle.store_soundness.proofs.codes.entry_code.Statement.{statement}
 use Rattle.store_soundness.proofs.codes.entry_code.Tie as tie

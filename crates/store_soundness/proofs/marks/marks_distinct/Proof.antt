@@ -1,6 +1,6 @@
 use mathlib.Core.Logic.{⊎-elim}
 use Prim.Native.Nat.{_-_}
-use Rattle.lists.proofs.Twins.{Outer}
+use Rattle.lists.proofs.Pairs.{Outer}
 use Rattle.store_soundness.specs.Marks.{sameMark}
 use Rattle.store_soundness.proofs.marks.Marking.{pairs, pair-free, pair-apart}
 use Rattle.store_soundness.proofs.marks.marks_distinct.Statement.{statement}

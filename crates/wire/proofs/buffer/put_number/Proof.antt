@@ -1,5 +1,4 @@
 use Rattle.wire.proofs.Room.{putting-number}
-use borrow.Author.Needs.{needs}
 use Rattle.wire.proofs.buffer.put_number.Statement.{statement}
 use Rattle.wire.proofs.buffer.put_number.Tie as tie
 
