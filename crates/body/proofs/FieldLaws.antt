@@ -1,11 +1,10 @@
 -- Each way through a field reader, in the form of what it has to show.
 use Prim.Native.Nat.{ℕ, _+_, _-_, _^_, _≤_, _<_}
 use native.Mathlib.Omega.{arith}
-use native.Mathlib.Nat.{pow-le-pow-right}
 use mathlib.Core.Path.{_≡_, refl, sym, _∙_}
 use mathlib.Core.List.{List}
 use mathlib.Core.Bool.{Bool, true, false}
-use lib.Dec.{ltb, eqb, lit<}
+use lib.Dec.{ltb, eqb, lit≤}
 use lib.ListN.{length}
 use lib.IntN.{pos}
 use borrow.Author.Needs.{needs}
@@ -18,9 +17,9 @@ use Rattle.wire.specs.declared.Field.the-variants as field
 use Rattle.wire.specs.declared.ServerId.{ServerId}
 use Rattle.wire.specs.declared.ServerId.the-variants as server
 use Rattle.wire.specs.Integer.{readInt}
-use Rattle.wire.specs.Value.{limited, readLimited, readWidth}
+use Rattle.wire.specs.Value.{readWidth, WidthRule}
 use Rattle.wire.specs.Server.{readServerId}
-use Rattle.wire.proofs.Limited.{limited-value}
+use Rattle.wire.proofs.Limited.{width-rule}
 use Rattle.store.specs.declared.KeyKind.{KeyKind}
 use Rattle.store.specs.Limits.{keyKind, isKnown, isString, dataTypesOk, present, isWide, widthOf}
 use Rattle.body.specs.declared.Word.{Word}
@@ -100,27 +99,27 @@ types-between n =
     (λ l. rw (le-leb 0 n (omega arith), lt-leb n 0x7ffff l, le-ltb n (2 ^ 19) (omega arith)))
     (λ l. rw (le-leb 0 n (omega arith), le-leb n 0x7ffff l, lt-ltb n (2 ^ 19) (omega arith)))
 
--- ---- an integer of k bits: what wire's reader of that width gives
-width-tested : (k : ℕ) (i : Int) → fieldRead (limited (2 ^ k - 1) i) ≡ tested (λ v. ltb v (2 ^ k)) i
-unfolding limited tested fieldRead
-width-tested k (int.Value v next) =
-    let z : 0 ≤ k = omega arith in
-    split (lt-or-le (2 ^ k - 1) v)
-    (λ l. rw (lt-ltb (2 ^ k - 1) v l, le-ltb v (2 ^ k) (omega arith)))
-    (λ l. rw (le-ltb (2 ^ k - 1) v l, lt-ltb v (2 ^ k) (omega (arith, pow-le-pow-right {n = 2} (lit< tt) z))))
-width-tested k int.Short = refl
-width-tested k int.Overflow = refl
+-- ---- an integer of k bits: what wire's reader of that width gives, by the one rule over the width
+module _ (k : ℕ) (h : k ≤ 64) (s : List ℕ) (at : ℕ) where
+  rule : WidthRule k
+  rule = width-rule k h
 
-pub of-width : (k : ℕ) (s : List ℕ) (at : ℕ) (r : Field) → r ≡ readWidth k s at → fieldRead r ≡ integerOf k s at
-unfolding readWidth readLimited integerOf integer
-of-width k s at r p = rw p (width-tested k (readInt s at))
+  width-read : (i : Int) → readInt s at ≡ i → fieldRead (readWidth k s at) ≡ tested (λ v. ltb v (2 ^ k)) i
+  unfolding tested fieldRead
+  width-read (int.Value v next) e =
+      split (lt-or-le v (2 ^ k))
+      (λ l. rw (rule .within s at v next e l, lt-ltb v (2 ^ k) l))
+      (λ l. rw (rule .over s at v next e l, le-ltb v (2 ^ k) l))
+  width-read int.Short e = rw (rule .short s at e)
+  width-read int.Overflow e = rw (rule .overflow s at e)
 
--- a value of k bits is below 2^k
-pub width-small : (k : ℕ) (s : List ℕ) (at : ℕ) (r : Field) → r ≡ readWidth k s at → (v next : ℕ) → r ≡ field.Value v next → v < 2 ^ k
-unfolding readWidth
-width-small k s at r p v next e =
-    let z : 0 ≤ k = omega arith in
-    omega (arith, limited-value (2 ^ k - 1) s at v next (sym p ∙ e), pow-le-pow-right {n = 2} (lit< tt) z)
+  pub of-width : (r : Field) → r ≡ readWidth k s at → fieldRead r ≡ integerOf k s at
+  unfolding integerOf integer
+  of-width r p = rw p (width-read (readInt s at) refl)
+
+  -- a value of k bits is below 2^k
+  pub width-small : (r : Field) → r ≡ readWidth k s at → (v next : ℕ) → r ≡ field.Value v next → v < 2 ^ k
+  width-small r p v next e = rule .small s at v next (sym p ∙ e)
 
 -- ---- what an enum says was read
 pub field-got : (x : Read ℕ) (r : Field) → fieldRead r ≡ x → (v next : ℕ) → r ≡ field.Value v next → x ≡ got v next
@@ -151,18 +150,18 @@ word-over x r p e = sym p ∙ rw e
 module _ (s : List ℕ) (at : ℕ) (r : Field) (p : r ≡ readWidth 32 s at) where
   pub word-value : (v next : ℕ) → r ≡ field.Value v next → wordRead (word.Value v next) ≡ integerOf 32 s at
   unfolding wordRead
-  word-value v next e = sym (field-got (integerOf 32 s at) r (of-width 32 s at r p) v next e)
+  word-value v next e = sym (field-got (integerOf 32 s at) r (of-width 32 (lit≤ tt) s at r p) v next e)
 
   pub word-short : r ≡ field.Short → wordRead word.Short ≡ integerOf 32 s at
   unfolding wordRead
-  word-short e = sym (field-short (integerOf 32 s at) r (of-width 32 s at r p) e)
+  word-short e = sym (field-short (integerOf 32 s at) r (of-width 32 (lit≤ tt) s at r p) e)
 
   pub word-out : r ≡ field.OutOfRange → wordRead word.OutOfRange ≡ integerOf 32 s at
   unfolding wordRead
-  word-out e = sym (field-out (integerOf 32 s at) r (of-width 32 s at r p) e)
+  word-out e = sym (field-out (integerOf 32 s at) r (of-width 32 (lit≤ tt) s at r p) e)
 
   pub word-fits : (v next : ℕ) → r ≡ field.Value v next → v < 2 ^ 32
-  word-fits v next e = width-small 32 s at r p v next e
+  word-fits v next e = width-small 32 (lit≤ tt) s at r p v next e
 
 pub ruleset word-laws = (needs, word-value, word-short, word-out, word-fits)
 
@@ -202,11 +201,11 @@ module _ (types t : ℕ) (s : List ℕ) (at : ℕ) where
 
   pub slot-wide : (r : Field) → present types t ≡ true → isWide t ≡ true → r ≡ readWidth 64 s at → fieldRead r ≡ slotField types t s at
   unfolding slotField widthOf
-  slot-wide r e w p = rw (e, w) (of-width 64 s at r p)
+  slot-wide r e w p = rw (e, w) (of-width 64 (lit≤ tt) s at r p)
 
   pub slot-narrow : (r : Field) → present types t ≡ true → isWide t ≡ false → r ≡ readWidth 32 s at → fieldRead r ≡ slotField types t s at
   unfolding slotField widthOf
-  slot-narrow r e w p = rw (e, w) (of-width 32 s at r p)
+  slot-narrow r e w p = rw (e, w) (of-width 32 (lit≤ tt) s at r p)
 
   pub period-absent : present types t ≡ false → wordRead (word.Value 0 at) ≡ periodField types t s at
   unfolding periodField wordRead

@@ -2,6 +2,7 @@
 use Prim.Native.Nat.{ℕ}
 use mathlib.Core.Path.{_≡_, refl, ap, _∙_}
 use mathlib.Core.List.{List}
+use lib.Dec.{lit≤}
 use borrow.Author.Needs.{needs}
 use Rattle.wire.specs.declared.Field.{Field}
 use Rattle.wire.specs.declared.Field.the-variants as field
@@ -25,7 +26,7 @@ switch-field field.OutOfRange = refl
 
 pub switch-read : (s : List ℕ) (r : Field) → r ≡ readWidth 32 s 0 → r ≡ switchBody (switchFields s)
 unfolding switchFields
-switch-read s r p = switch-field r ∙ ap switchBody (of-width 32 s 0 r p)
+switch-read s r p = switch-field r ∙ ap switchBody (of-width 32 (lit≤ tt) s 0 r p)
 
 pub ruleset switch-laws = (needs, switch-read)
 

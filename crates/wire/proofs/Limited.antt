@@ -35,15 +35,11 @@ module _ (limit : ℕ) (s : List ℕ) (at : ℕ) (r : Int) (p : r ≡ readInt s 
   unfolding readLimited limited
   overflow e = rw (← p, e)
 
-pub value32 : (s : List ℕ) (at : ℕ) (r : Field) → r ≡ readLimited 0xffffffff s at → r ≡ readWidth 32 s at
+pub at-width : (k : ℕ) (s : List ℕ) (at : ℕ) (r : Field) → r ≡ readLimited (2 ^ k - 1) s at → r ≡ readWidth k s at
 unfolding readWidth
-value32 s at r e = e
+at-width k s at r e = e
 
-pub value64 : (s : List ℕ) (at : ℕ) (r : Field) → r ≡ readLimited 0xffffffffffffffff s at → r ≡ readWidth 64 s at
-unfolding readWidth
-value64 s at r e = e
-
-pub ruleset limiting = (needs, over, within, short, overflow, value32, value64)
+pub ruleset limiting = (needs, over, within, short, overflow, at-width)
 
 -- ---- a value that is read with a limit is the integer, and at most the limit
 Held : ℕ → Int → Field → Type 0
@@ -62,23 +58,35 @@ pub limited-value : (limit : ℕ) (s : List ℕ) (at v next : ℕ) → readLimit
 unfolding readLimited Held
 limited-value limit s at v next e = subst (Held limit (readInt s at)) e (held limit (readInt s at))
 
--- reading what was written gives the value, if it is within the limit, and is out of range if not
-module _ (limit : ℕ) (p t : List ℕ) (v : ℕ) (h : v < 2 ^ 64) where
-  pub limited-trip : v ≤ limit → readLimited limit (p ++ (encodeInt v ++ t)) (length p) ≡ field.Value v (length p + length (encodeInt v))
-  limited-trip l = sym (within limit (p ++ (encodeInt v ++ t)) (length p) _ refl v _ (round-trip p t v h) l)
+-- ---- the value rule over the width, said once: the readers of 32-bit and of 64-bit values cite it
+module _ (k : ℕ) where
+  some : 1 ≤ 2 ^ k
+  some = let z : 0 ≤ k = omega arith in omega (arith, pow-le-pow-right {n = 2} (lit< tt) z)
 
--- ---- The value rule over the width, said once; both widths cite it.
+  width-within : (s : List ℕ) (at v next : ℕ) → readInt s at ≡ int.Value v next → v < 2 ^ k → readWidth k s at ≡ field.Value v next
+  unfolding readWidth
+  width-within s at v next e l = sym (within (2 ^ k - 1) s at _ refl v next e (omega arith))
+
+  width-over : (s : List ℕ) (at v next : ℕ) → readInt s at ≡ int.Value v next → 2 ^ k ≤ v → readWidth k s at ≡ field.OutOfRange
+  unfolding readWidth
+  width-over s at v next e l = sym (over (2 ^ k - 1) s at _ refl v next e (omega (arith, some)))
+
+  width-value : (s : List ℕ) (at v next : ℕ) → readWidth k s at ≡ field.Value v next → (readInt s at ≡ int.Value v next) × (v ≤ 2 ^ k - 1)
+  unfolding readWidth
+  width-value s at v next e = limited-value (2 ^ k - 1) s at v next e
+
 power-le : (k : ℕ) → k ≤ 64 → 2 ^ k ≤ 2 ^ 64
 power-le k h = pow-le-pow-right {n = 2} (lit< tt) h
 
 pub width-rule : (k : ℕ) → k ≤ 64 → WidthRule k
 unfolding readWidth
 width-rule k h = record {
-  trip = λ p t v l. limited-trip (2 ^ k - 1) p t v (omega (arith, power-le k h)) (omega arith);
-  own = λ s at v next b e.
-      let q = limited-value (2 ^ k - 1) s at v next e in
-      let o = one-encoding s at v next b (q .0) in
-      let z : 0 ≤ k = omega arith in
-      let l : v < 2 ^ k = omega (arith, pow-le-pow-right {n = 2} (lit< tt) z) in
-      (l, o .0, o .1);
+  within = width-within k;
+  over = width-over k;
+  short = λ s at e. sym (short (2 ^ k - 1) s at _ refl e);
+  overflow = λ s at e. sym (overflow (2 ^ k - 1) s at _ refl e);
+  small = λ s at v next e. let q = width-value k s at v next e .1 in omega (arith, some k);
+  trip = λ p t v l. width-within k (p ++ (encodeInt v ++ t)) (length p) v _ (round-trip p t v (omega (arith, power-le k h))) l;
+  trip-over = λ p t v m l. width-over k (p ++ (encodeInt v ++ t)) (length p) v _ (round-trip p t v m) l;
+  own = λ s at v next b e. one-encoding s at v next b (width-value k s at v next e .0);
 }
