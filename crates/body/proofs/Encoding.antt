@@ -19,7 +19,7 @@ use Rattle.wire.specs.Server.{serverWord, readServerId}
 use Rattle.wire.specs.Value.{Bytes}
 use Rattle.wire.proofs.RoundTrip.{one-encoding}
 use Rattle.wire.proofs.Numbers.{number-own, number-length}
-use Rattle.wire.proofs.Server.{server-own}
+use Rattle.wire.proofs.values.Server.{server-own}
 use Rattle.body.specs.Fields.{Read, got, short, outside, Reader, andThen, forEach, tested, integer, integerOf, Span, spanIn, bytes, numberRead, number4, serverRead, serverId}
 use Rattle.body.specs.Encodings.{eachBytes}
 use Rattle.body.proofs.Taken.{Holds}

@@ -1,9 +1,7 @@
 pub mod FieldLaws
 pub mod Filling
 pub mod Taken
-pub mod DefinitionLaws
 pub mod OtherLaws
-pub mod UpdateLaws
 pub mod Within
 pub mod Behind
 pub mod Given

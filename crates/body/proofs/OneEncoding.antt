@@ -19,7 +19,7 @@ use Rattle.wire.specs.Server.{serverWord, serverIdOf}
 use Rattle.wire.proofs.Advance.{advance}
 use Rattle.wire.proofs.RoundTrip.{round-trip}
 use Rattle.wire.proofs.Numbers.{number-trip}
-use Rattle.wire.proofs.Server.{word-small, id-of-word}
+use Rattle.wire.proofs.values.Server.{word-small, id-of-word}
 use Rattle.store.specs.declared.Table.{Table}
 use Rattle.store.specs.declared.Entry.{Entry}
 use Rattle.store.specs.Limits.{keyKind, isString, present, slotTypes, rateTypes}

@@ -19,7 +19,7 @@ use Rattle.wire.specs.Server.{readServerId}
 use Rattle.wire.specs.Value.{Bytes}
 use Rattle.wire.proofs.Advance.{advance, value-small}
 use Rattle.wire.proofs.Numbers.{number-short, number-value, number-own}
-use Rattle.wire.proofs.Server.{server-own, server-advance}
+use Rattle.wire.proofs.values.Server.{server-own, server-advance}
 use Rattle.store.specs.Shape.{Cells}
 use Rattle.body.specs.Fields.{Read, got, short, outside, Reader, andThen, forEach, tested, integer, between, integerOf, Span, bytes, numberRead, number4, serverRead, serverId}
 

@@ -17,10 +17,20 @@ use Rattle.lists.proofs.Places.{place-from, from-here, from-next, from-end}
 use Rattle.lists.proofs.Searching.{Searching, search-start, search-here, search-next, search-end}
 use Rattle.store.specs.declared.Entry.{Entry}
 use Rattle.store.specs.Store.{entryOf, entryKeyed, entryFree}
-use Rattle.store.proofs.Lookup.{blankEntry, entry-free, entry-not-free, not-of, by-bytes, long-key, Keys}
+use Rattle.store.proofs.Lookup.{blankEntry, not-of, by-bytes, long-key, Keys}
 use Rattle.store.specs.declared.entries.Place.{Place}
 use Rattle.store.specs.declared.entries.Place.the-variants as place
 use Rattle.store.specs.Places.{freeOf, placeOf, nextFree, freePlace}
+
+-- ---- a free place
+
+entry-free : (e : Entry) → e .held ≡ 0 → entryFree e ≡ true
+unfolding entryFree
+entry-free e h = eq-eqb (e .held) 0 h
+
+entry-not-free : (e : Entry) → (e .held ≡ 0 → ⊥) → entryFree e ≡ false
+unfolding entryFree
+entry-not-free e f = ne-eqb (e .held) 0 f
 
 -- ---- the lowest free place as a number
 

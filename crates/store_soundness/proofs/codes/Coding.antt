@@ -21,7 +21,7 @@ use Rattle.store.specs.Store.{tableHeld, entryHeld, entryFree, keyOf}
 use Rattle.store.specs.Sound.{soundEntry, entryKeyLengthOk, keyRestZero, valuesOk}
 use Rattle.store.proofs.Lookup.{blankTable, blankEntry}
 use Rattle.lists.proofs.Maps.{length-mapped, mapped-at}
-use Rattle.store.proofs.Tested.{free-entry-sound, entry-mark-unsound, place-unsound, rows-sound}
+use Rattle.store_soundness.proofs.entry.EntryTests.{free-entry-sound, entry-mark-unsound, place-unsound, rows-sound}
 use Rattle.store_soundness.specs.Marks.{markEnd, markKey, entryMark}
 use Rattle.store_soundness.proofs.marks.Marking.{key-below, start-small, held-is}
 use Rattle.store_soundness.specs.Codes.{unsoundCode, entryCode, soundCode, isCode}

@@ -13,7 +13,7 @@ use Rattle.store.specs.declared.Table.{Table}
 use Rattle.store.specs.declared.Entry.{Entry}
 use Rattle.store.specs.Limits.{present, isWide, slotTypes}
 use Rattle.store.specs.Sound.{slotOk, slotsOk, valuesOk}
-use Rattle.store.proofs.Tested.{values-row, table-gone, table-there}
+use Rattle.store_soundness.proofs.entry.EntryTests.{values-row, table-gone, table-there}
 use Rattle.store_soundness.specs.Narrow.{isNarrow}
 
 pub narrow-passes : (v : ℕ) → v < 4294967296 → isNarrow v ≡ true

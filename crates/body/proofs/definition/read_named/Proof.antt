@@ -1,4 +1,4 @@
-use Rattle.body.proofs.DefinitionLaws.{id-short, id-out, length-short, length-out, name-short, name-out, name-bytes}
+use Rattle.body.proofs.definition.DefinitionLaws.{id-short, id-out, length-short, length-out, name-short, name-out, name-bytes}
 use borrow.Author.Needs.{needs}
 use Rattle.body.proofs.definition.read_named.Statement.{statement}
 use Rattle.body.proofs.definition.read_named.Tie as tie

@@ -1,4 +1,4 @@
-use Rattle.body.proofs.DefinitionLaws.{shape-laws}
+use Rattle.body.proofs.shape.ShapeLaws.{shape-laws}
 use Rattle.body.proofs.shape.read_shape.Statement.{statement}
 use Rattle.body.proofs.shape.read_shape.Tie as tie
 

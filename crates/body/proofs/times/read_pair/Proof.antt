@@ -1,4 +1,4 @@
-use Rattle.body.proofs.FieldLaws.{pair-laws}
+use Rattle.body.proofs.times.TimesLaws.{pair-laws}
 use Rattle.body.proofs.times.read_pair.Statement.{statement}
 use Rattle.body.proofs.times.read_pair.Tie as tie
 

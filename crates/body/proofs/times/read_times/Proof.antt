@@ -1,4 +1,4 @@
-use Rattle.body.proofs.DefinitionLaws.{times-laws, ended, expiry-short, expiry-out, expiry-value}
+use Rattle.body.proofs.times.TimesLaws.{times-laws, ended, expiry-short, expiry-out, expiry-value}
 use Rattle.body.proofs.times.read_times.Statement.{statement}
 use Rattle.body.proofs.times.read_times.Tie as tie
 

@@ -1,5 +1,5 @@
 use Rattle.store_soundness.proofs.entry.Narrow.{entry-rows, narrow-values}
-use Rattle.store.proofs.Tested.{table-gone, table-there, values-row}
+use Rattle.store_soundness.proofs.entry.EntryTests.{table-gone, table-there, values-row}
 use Rattle.lists.proofs.Cases.{all-stop, all-next, all-last}
 use Rattle.store_soundness.proofs.entry.held_entry_ok.Statement.{statement}
 use Rattle.store_soundness.proofs.entry.held_entry_ok.Tie as tie

@@ -1,21 +1,21 @@
-use Rattle.store.proofs.Tested.{rows, name-row, kind-row, length-row, types-stop, types-next, timed-last}
+use Rattle.store_soundness.proofs.table.TableTests.{table-rows, name-row, kind-row, length-row, types-stop, types-next, timed-last}
 use Rattle.lists.proofs.Cases.{all-stop, all-next}
 use borrow.Author.Needs.{needs}
 use Rattle.store_soundness.proofs.table.held_table_ok.Statement.{statement}
 use Rattle.store_soundness.proofs.table.held_table_ok.Tie as tie
 
 within-requires : tie.Need-within-requires
-within-requires c κs = search rows
+within-requires c κs = search table-rows
 
 returns : tie.Need-returns
 returns c =
     all-stop _ _ _ (name-row _ _ (c .before .within .ensures)) (c .if1 .taken)
 
 key-kind-requires : tie.Need-key-kind-requires
-key-kind-requires c κs = search rows
+key-kind-requires c κs = search table-rows
 
 is-known-requires : tie.Need-is-known-requires
-is-known-requires c κs = search rows
+is-known-requires c κs = search table-rows
 
 returns-2 : tie.Need-returns-2
 returns-2 c =
@@ -24,7 +24,7 @@ returns-2 c =
     (all-stop _ _ _ (kind-row _ _ _ (c .before .before .key-kind .ensures) (c .before .is-known .ensures)) (c .if2 .taken))
 
 key-length-ok-requires : tie.Need-key-length-ok-requires
-key-length-ok-requires c κs = search rows
+key-length-ok-requires c κs = search table-rows
 
 returns-3 : tie.Need-returns-3
 returns-3 c =

@@ -1,6 +1,6 @@
 use Prim.Native.Nat.{_-_}
 use lib.ListN.{length}
-use Rattle.wire.proofs.Room.{putting, Putting}
+use Rattle.wire.proofs.buffer.Room.{putting, Putting}
 use Rattle.wire.proofs.buffer.put_bytes.Statement.{statement}
 use Rattle.wire.proofs.buffer.put_bytes.Tie as tie
 

@@ -1,4 +1,4 @@
-use Rattle.wire.proofs.Room.{putting-int}
+use Rattle.wire.proofs.buffer.Room.{putting-int}
 use Rattle.wire.proofs.buffer.put_int.Statement.{statement}
 use Rattle.wire.proofs.buffer.put_int.Tie as tie
 

@@ -1,4 +1,4 @@
-use Rattle.wire.proofs.Room.{putting-number}
+use Rattle.wire.proofs.buffer.Room.{putting-number}
 use Rattle.wire.proofs.buffer.put_number.Statement.{statement}
 use Rattle.wire.proofs.buffer.put_number.Tie as tie
 

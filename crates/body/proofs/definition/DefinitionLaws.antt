@@ -1,16 +1,11 @@
 -- Each way through the readers of a definition, in the form of what it has to show.
-use Prim.Native.Nat.{ℕ, _-_, _^_, _<_}
-use native.Mathlib.Omega.{arith}
-use mathlib.Core.Path.{_≡_, refl, sym, _∙_}
+use Prim.Native.Nat.{ℕ, _-_}
+use mathlib.Core.Path.{_≡_, refl, _∙_}
 use mathlib.Core.List.{List}
-use mathlib.Core.Bool.{true}
-use lib.ListN.{length, replicate}
+use lib.ListN.{replicate}
 use borrow.Author.Needs.{needs}
-use borrow.Author.Tests.{eq-eqb, ne-eqb}
-use Rattle.lists.proofs.Cases.{lt-or-le, never, split}
 use Rattle.wire.specs.declared.Field.{Field}
 use Rattle.wire.specs.declared.Field.the-variants as field
-use Rattle.store.specs.Limits.{keyLengthOk, dataTypesOk}
 use Rattle.body.specs.declared.Reading.{Reading}
 use Rattle.body.specs.declared.Reading.the-variants as reading
 use Rattle.body.specs.declared.Word.{Word}
@@ -22,11 +17,9 @@ use Rattle.body.specs.declared.NamedRead.the-variants as named-read
 use Rattle.body.specs.declared.ShapeRead.{ShapeRead}
 use Rattle.body.specs.declared.ShapeRead.the-variants as shape-read
 use Rattle.body.specs.declared.DefinitionBody.{DefinitionBody}
-use Rattle.body.specs.Fields.{Read, got, andThen, integer, between, integerOf, bytes}
-use Rattle.body.specs.Bodies.{Named, named, namedFields, isKeyType, shapeFields, periodFields, Times, noTimes, timesThere, timesFields, restFields, definitionFields}
+use Rattle.body.specs.Fields.{andThen, integer, between, integerOf, bytes}
+use Rattle.body.specs.Bodies.{Named, named, namedFields, shapeFields, Times, timesFields, restFields, definitionFields}
 use Rattle.body.specs.Results.{fieldRead, wordRead, partRead, namedRead, shapeRead, readAs, definitionStruct, noDefinition, definitionBody}
-use Rattle.body.proofs.FieldLaws.{same-integer, types-between, no-type, field-got}
-use Rattle.body.proofs.Taken.{integer-passed, between-high}
 
 -- ---- `read_named`, where w, f and q are what was read of ID, length and name
 module _ (s : List ℕ) (at : ℕ) (w : Word) (p : wordRead w ≡ integerOf 32 s at) where
@@ -59,82 +52,6 @@ module _ (s : List ℕ) (at : ℕ) (w : Word) (p : wordRead w ≡ integerOf 32 s
       pub name-bytes : (start n next : ℕ) → q ≡ part.Bytes start n next → namedRead (named-read.Fields id start n next) ≡ namedFields s at
       unfolding namedFields namedRead andThen wordRead fieldRead partRead
       name-bytes start n next e₂ = rw (← p, e, ← p₁, e₁, ← p₂, e₂)
-
--- ---- `read_shape`, where f, g and h are what was read of key type, key length and data types
-small-type : (n : ℕ) → isKeyType n ≡ true → n < 256
-small-type n t = split (lt-or-le n 256) (λ l. l) (λ l. never t (sym (no-type n (omega arith))))
-
-module _ (s : List ℕ) (at : ℕ) (f : Field) (p : fieldRead f ≡ integer isKeyType s at) where
-  pub type-short : f ≡ field.Short → shapeRead shape-read.Short ≡ shapeFields s at
-  unfolding shapeFields shapeRead andThen fieldRead
-  type-short e = rw (← p, e)
-
-  pub type-out : f ≡ field.OutOfRange → shapeRead shape-read.OutOfRange ≡ shapeFields s at
-  unfolding shapeFields shapeRead andThen fieldRead
-  type-out e = rw (← p, e)
-
-  pub type-fits : (kind at₁ : ℕ) → f ≡ field.Value kind at₁ → kind < 256
-  type-fits kind at₁ e = small-type kind (integer-passed isKeyType s at kind at₁ (field-got _ f p kind at₁ e))
-
-  module _ (kind at₁ : ℕ) (e : f ≡ field.Value kind at₁) (g : Field) (p₁ : fieldRead g ≡ integer (keyLengthOk kind) s at₁) where
-    pub len-short : g ≡ field.Short → shapeRead shape-read.Short ≡ shapeFields s at
-    unfolding shapeFields shapeRead andThen fieldRead
-    len-short e₁ = rw (← p, e, ← p₁, e₁)
-
-    pub len-out : g ≡ field.OutOfRange → shapeRead shape-read.OutOfRange ≡ shapeFields s at
-    unfolding shapeFields shapeRead andThen fieldRead
-    len-out e₁ = rw (← p, e, ← p₁, e₁)
-
-    module _ (len at₂ : ℕ) (e₁ : g ≡ field.Value len at₂) (h : Field) (p₂ : fieldRead h ≡ integer (between 0 0x7ffff) s at₂) where
-      types-read : fieldRead h ≡ integer dataTypesOk s at₂
-      types-read = p₂ ∙ same-integer (between 0 0x7ffff) dataTypesOk types-between s at₂
-
-      pub types-short : h ≡ field.Short → shapeRead shape-read.Short ≡ shapeFields s at
-      unfolding shapeFields shapeRead andThen fieldRead
-      types-short e₂ = rw (← p, e, ← p₁, e₁, ← types-read, e₂)
-
-      pub types-out : h ≡ field.OutOfRange → shapeRead shape-read.OutOfRange ≡ shapeFields s at
-      unfolding shapeFields shapeRead andThen fieldRead
-      types-out e₂ = rw (← p, e, ← p₁, e₁, ← types-read, e₂)
-
-      pub types-value : (types next : ℕ) → h ≡ field.Value types next → shapeRead (shape-read.Fields kind len types next) ≡ shapeFields s at
-      unfolding shapeFields shapeRead andThen fieldRead
-      types-value types next e₂ = rw (← p, e, ← p₁, e₁, ← types-read, e₂)
-
-pub types-fits : (high : ℕ) (s : List ℕ) (at : ℕ) (h : Field) → fieldRead h ≡ integer (between 0 high) s at → high < 2 ^ 32
-    → (types next : ℕ) → h ≡ field.Value types next → types < 2 ^ 32
-types-fits high s at h p l types next e =
-    omega (arith, between-high 0 high types (integer-passed (between 0 high) s at types next (field-got _ h p types next e)))
-
-pub ruleset shape-laws = (needs, type-short, type-out, type-fits, len-short, len-out, types-short, types-out, types-value, types-fits)
-
--- ---- `read_times`, where x is what `no_times` says was read and w what was read of the expiry
-module _ (types : ℕ) (s : List ℕ) (at : ℕ) where
-  pub ended : (x : Read Times) → x ≡ readAs (reading.Whole at) noTimes → at ≡ length s → x ≡ timesFields types s at
-  unfolding timesFields readAs
-  ended x p h = p ∙ rw (eq-eqb at (length s) h)
-
-  module _ (h : at ≡ length s → ⊥) (w : Word) (p : wordRead w ≡ integerOf 32 s at) where
-    pub expiry-short : (x : Read Times) → x ≡ readAs reading.Short noTimes → w ≡ word.Short → x ≡ timesFields types s at
-    unfolding timesFields timesThere readAs andThen wordRead
-    expiry-short x q e = q ∙ rw (ne-eqb at (length s) h, ← p, e)
-
-    pub expiry-out : (x : Read Times) → x ≡ readAs reading.OutOfRange noTimes → w ≡ word.OutOfRange → x ≡ timesFields types s at
-    unfolding timesFields timesThere readAs andThen wordRead
-    expiry-out x q e = q ∙ rw (ne-eqb at (length s) h, ← p, e)
-
-    pub expiry-value : (expiry at₁ : ℕ) → w ≡ word.Value expiry at₁ → (how : Reading) (ps : List ℕ) → readAs how ps ≡ periodFields types s at₁
-        → readAs {A = Times} how (record { timed = 1; expiry = expiry; periods = ps }) ≡ timesFields types s at
-    unfolding timesFields timesThere andThen wordRead readAs
-    expiry-value expiry at₁ e how ps q = rw (ne-eqb at (length s) h, ← p, e, ← q) (by-reading how)
-      where
-        by-reading : (how : Reading) → readAs {A = Times} how (record { timed = 1; expiry = expiry; periods = ps })
-            ≡ andThen (readAs how ps) λ periods at₂. got (record { timed = 1; expiry = expiry; periods = periods }) at₂
-        by-reading (reading.Whole n) = refl
-        by-reading reading.Short = refl
-        by-reading reading.OutOfRange = refl
-
-pub ruleset times-laws = (needs, ended, expiry-short, expiry-out, expiry-value)
 
 -- ---- `read_rest`, where q is what was read of the shape and t of the times
 module _ (n : Named) (s : List ℕ) (at : ℕ) (q : ShapeRead) (p : shapeRead q ≡ shapeFields s at) where

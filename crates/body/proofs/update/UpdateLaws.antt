@@ -1,47 +1,39 @@
 -- Each way through the readers of an update, in the form of what it has to show.
-use Prim.Native.Nat.{ℕ}
+use Prim.Native.Nat.{ℕ, _-_}
 use mathlib.Core.Path.{_≡_, refl, _∙_}
 use mathlib.Core.List.{List}
+use mathlib.Core.Bool.{true, false}
 use lib.ListN.{replicate}
-use lib.IntN.{ℤ, pos}
+use lib.IntN.{pos, ℤ}
 use borrow.Author.Needs.{needs}
+use Rattle.wire.specs.declared.ServerId.the-variants as server
+use Rattle.store.specs.declared.KeyKind.{KeyKind}
+use Rattle.store.specs.Limits.{keyKind, isString}
+use Rattle.body.specs.declared.Part.{Part}
+use Rattle.body.specs.declared.Part.the-variants as part
+use Rattle.body.specs.Fields.{andThen, bytes, numberRead, number4}
+use Rattle.body.specs.Bodies.{stringField, keyField, Data, dataFields, entryFields, updateFields, incrementalFields}
+use Rattle.body.specs.Results.{partRead, readAs, updateStruct, noUpdate, updateBody}
 use Rattle.wire.specs.declared.Number.{Number}
 use Rattle.wire.specs.declared.Number.the-variants as number
-use Rattle.wire.specs.declared.ServerId.{ServerId}
-use Rattle.wire.specs.declared.ServerId.the-variants as server
 use Rattle.wire.specs.Number.{readNumber}
 use Rattle.store.specs.declared.Table.{Table}
 use Rattle.body.specs.declared.Reading.{Reading}
 use Rattle.body.specs.declared.Reading.the-variants as reading
-use Rattle.body.specs.declared.Part.{Part}
-use Rattle.body.specs.declared.Part.the-variants as part
 use Rattle.body.specs.declared.UpdateBody.{UpdateBody}
-use Rattle.body.specs.Fields.{Read, got, andThen, numberRead, number4, serverRead}
-use Rattle.body.specs.Bodies.{keyField, serverField, valueFields, Data, dataFields, entryFields, updateFields, incrementalFields}
-use Rattle.body.specs.Results.{partRead, readAs, noData, updateStruct, noUpdate, updateBody}
+use Rattle.body.proofs.FieldLaws.{so-true, so-false}
 
--- ---- `read_data`, where x is what `no_data` says was read and r what was read of the server ID
-module _ (types : ℕ) (s : List ℕ) (at : ℕ) (r : ServerId) (p : serverRead r ≡ serverField types s at) where
-  pub server-short : (x : Read Data) → x ≡ readAs reading.Short noData → r ≡ server.Short → x ≡ dataFields types s at
-  unfolding dataFields readAs andThen serverRead
-  server-short x q e = q ∙ rw (← p, e)
+-- ---- `read_key`
+module _ (keyType n : ℕ) (s : List ℕ) (at : ℕ) (kind : KeyKind) (k : kind ≡ keyKind keyType) (q : Part) where
+  pub key-string : isString kind ≡ true → partRead q ≡ stringField n s at → partRead q ≡ keyField keyType n s at
+  unfolding keyField
+  key-string e h = rw (← k, e) h
 
-  pub server-out : (x : Read Data) → x ≡ readAs reading.OutOfRange noData → r ≡ server.OutOfRange → x ≡ dataFields types s at
-  unfolding dataFields readAs andThen serverRead
-  server-out x q e = q ∙ rw (← p, e)
+  pub key-bytes : isString kind ≡ false → partRead q ≡ bytes n s at → partRead q ≡ keyField keyType n s at
+  unfolding keyField
+  key-bytes e h = rw (← k, e) h
 
-  pub server-id : (id : ℤ) (at₁ : ℕ) → r ≡ server.Id id at₁ → (how : Reading) (vs : List ℕ) → readAs how vs ≡ valueFields types s at₁
-      → readAs {A = Data} how (record { server = id; values = vs }) ≡ dataFields types s at
-  unfolding dataFields andThen serverRead readAs
-  server-id id at₁ e how vs q = rw (← p, e, ← q) (by-reading how)
-    where
-      by-reading : (how : Reading) → readAs {A = Data} how (record { server = id; values = vs })
-          ≡ andThen (readAs how vs) λ values at₂. got (record { server = id; values = values }) at₂
-      by-reading (reading.Whole n) = refl
-      by-reading reading.Short = refl
-      by-reading reading.OutOfRange = refl
-
-pub ruleset data-laws = (needs, server-short, server-out, server-id)
+pub ruleset key-laws = (needs, so-true, so-false, key-string, key-bytes)
 
 -- ---- `read_entry`, where q is what was read of the key and d of the data
 module _ (t : Table) (id : ℕ) (s : List ℕ) (at : ℕ) (q : Part) (p : partRead q ≡ keyField (t .«key_type») (t .«key_len») s at) where
