@@ -171,13 +171,13 @@ acknowledgement-behind body more a next e =
 -- ---- a definition that has its expiry
 -- a first field and what follows it, where both were read
 module _ {A B : Type 0} where
-  record Step (x : Read A) (f : A → ℕ → Read B) (b : B) (next : ℕ) : Type 0 where
+  record Through (x : Read A) (f : A → ℕ → Read B) (b : B) (next : ℕ) : Type 0 where
     value : A
     position : ℕ
     first : x ≡ got value position
     later : f value position ≡ got b next
 
-  stepped : (x : Read A) (f : A → ℕ → Read B) (b : B) (next : ℕ) → andThen x f ≡ got b next → Step x f b next
+  stepped : (x : Read A) (f : A → ℕ → Read B) (b : B) (next : ℕ) → andThen x f ≡ got b next → Through x f b next
   unfolding andThen
   stepped (got a n) f b next e = record { value = a; position = n; first = refl; later = e }
   stepped short f b next e = let z : _≡_ {A = ℕ} 0 1 = cc in absurd (omega arith)

@@ -18,7 +18,7 @@ use Rattle.wire.specs.Value.{readWidth, WidthRule}
 use Rattle.wire.proofs.values.Limited.{width-rule}
 use Rattle.body.specs.declared.Word.{Word}
 use Rattle.body.specs.declared.Word.the-variants as word
-use Rattle.body.specs.declared.Part.the-variants as part
+use Rattle.body.specs.declared.PartRead.the-variants as part
 use Rattle.body.specs.Fields.{Read, got, short, outside, tested, integer, between, integerOf, bytes}
 use Rattle.body.specs.Results.{fieldRead, wordRead, partRead}
 

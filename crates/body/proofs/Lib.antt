@@ -1,3 +1,4 @@
+pub mod Holds
 pub mod FieldLaws
 pub mod Filling
 pub mod Taken

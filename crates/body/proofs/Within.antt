@@ -18,7 +18,8 @@ use Rattle.store.specs.Sound.{slotOk, slotsOk}
 use Rattle.store.proofs.Rules.{slot-count, rate-count}
 use Rattle.body.specs.Fields.{got, between, Span}
 use Rattle.body.specs.Bodies.{Named, namedFields, isKeyType, Shape, shapeFields, pairField, periodField, Times, noTimes, timesThere, timesFields, Definition, defined, restFields, definitionFields, switchFields, stringField, keyField, serverField, slotField, Data, dataFields, Update, keyed, entryFields, updateFields, incrementalFields}
-use Rattle.body.proofs.Taken.{Holds, held, Taken, taken-got, weaken, taken-cond, taken-then, Along, along-at, along-cells, each-holds, Tested, integer-holds, Width, width-holds, PartOf, bytes-holds, number-holds, server-holds, between-low, between-high}
+use Rattle.body.proofs.Holds.{Holds, held, holds-cond}
+use Rattle.body.proofs.Taken.{Taken, taken-got, weaken, taken-then, Along, along-at, along-cells, each-holds, Tested, integer-holds, Width, width-holds, PartOf, bytes-holds, number-holds, server-holds, between-low, between-high}
 
 -- ---- a definition
 record NamedWithin (s : List ℕ) (n : Named) : Type 0 where
@@ -66,7 +67,7 @@ Period t v = v < 2 ^ 32
 period-holds : (types : ℕ) (s : List ℕ) (t at : ℕ) → at ≤ length s → Holds (Taken (Period t) s at) (periodField types t s at)
 unfolding periodField pairField Period Width
 period-holds types s t at l =
-    taken-cond (Period t) s at (present types t) _ _
+    holds-cond (Taken (Period t) s at) (present types t) _ _
     (λ e.
     taken-then (Tested λ n. eqb n t) (Period t) s at _ _ (integer-holds (λ n. eqb n t) s at) λ n at₁ h l₁.
     weaken (Width 32) (Period t) (λ v h. h .0) s at₁ _ (width-holds 32 s at₁))
@@ -80,7 +81,7 @@ record TimesWithin (t : Times) : Type 0 where
 times-holds : (types : ℕ) (s : List ℕ) (at : ℕ) → at ≤ length s → Holds (Taken TimesWithin s at) (timesFields types s at)
 unfolding timesFields timesThere Width Period
 times-holds types s at l =
-    taken-cond TimesWithin s at (eqb at (length s)) _ _
+    holds-cond (Taken TimesWithin s at) (eqb at (length s)) _ _
     (λ e.
     taken-got TimesWithin s at noTimes
     (record { timed = omega arith; expiry = omega arith; periods = record { size = refl; small = λ i. zeros i } })
@@ -160,7 +161,7 @@ record KeyWithin (keyType n : ℕ) (s : List ℕ) (key : Span) : Type 0 where
 key-holds : (keyType n : ℕ) (s : List ℕ) (at : ℕ) → Holds (Taken (KeyWithin keyType n s) s at) (keyField keyType n s at)
 unfolding keyField stringField Tested PartOf
 key-holds keyType n s at =
-    taken-cond (KeyWithin keyType n s) s at (isString (keyKind keyType)) _ _
+    holds-cond (Taken (KeyWithin keyType n s) s at) (isString (keyKind keyType)) _ _
     (λ e.
     taken-then (Tested (between 0 n)) (KeyWithin keyType n s) s at _ _ (integer-holds (between 0 n) s at) λ len at₁ h l₁.
     weaken (PartOf len s) (KeyWithin keyType n s)
@@ -180,7 +181,7 @@ record ServerWithin (types : ℕ) (z : ℤ) : Type 0 where
 server-field-holds : (types : ℕ) (s : List ℕ) (at : ℕ) → at ≤ length s → Holds (Taken (ServerWithin types) s at) (serverField types s at)
 unfolding serverField
 server-field-holds types s at l =
-    taken-cond (ServerWithin types) s at (present types 0) _ _
+    holds-cond (Taken (ServerWithin types) s at) (present types 0) _ _
     (λ e. weaken (λ z. mag z < 2 ^ 31) (ServerWithin types) (λ z h. record { small = h; none = λ q. never e q }) s at _ (server-holds s at))
     (λ e. taken-got (ServerWithin types) s at (pos 0) (record { small = omega arith; none = λ q. refl }) l)
 
@@ -204,7 +205,7 @@ slot-none types t v e = unless-false _ _ e
 slot-holds : (types : ℕ) (s : List ℕ) (t at : ℕ) → at ≤ length s → Holds (Taken (Slot types t) s at) (slotField types t s at)
 unfolding slotField Width
 slot-holds types s t at l =
-    taken-cond (Slot types t) s at (present types t) _ _
+    holds-cond (Taken (Slot types t) s at) (present types t) _ _
     (λ e.
     weaken (Width (widthOf t)) (Slot types t)
     (λ v h. record { ok = slot-ok types t v e (h .0); small = h .1; none = λ q. never e q })

@@ -10,8 +10,8 @@ use Rattle.body.specs.declared.Reading.{Reading}
 use Rattle.body.specs.declared.Reading.the-variants as reading
 use Rattle.body.specs.declared.Word.{Word}
 use Rattle.body.specs.declared.Word.the-variants as word
-use Rattle.body.specs.declared.Part.{Part}
-use Rattle.body.specs.declared.Part.the-variants as part
+use Rattle.body.specs.declared.PartRead.{PartRead}
+use Rattle.body.specs.declared.PartRead.the-variants as part
 use Rattle.body.specs.declared.NamedRead.{NamedRead}
 use Rattle.body.specs.declared.NamedRead.the-variants as named
 use Rattle.body.specs.declared.ShapeRead.{ShapeRead}
@@ -39,7 +39,7 @@ wordRead (word.Value v next) = got v next
 wordRead word.Short = short
 wordRead word.OutOfRange = outside
 
-unfoldable pub partRead : Part → Read Span
+unfoldable pub partRead : PartRead → Read Span
 partRead (part.Bytes start len next) = got (record { start = start; len = len }) next
 partRead part.Short = short
 partRead part.OutOfRange = outside

@@ -4,7 +4,7 @@ ghost use Rattle.body.specs.Bodies.{named, namedFields, restFields, defi
 ghost use Rattle.body.specs.Results.{namedRead, definitionStruct, noDefinition, definitionBody};
 use crate::DefinitionBody;
 use crate::NamedRead;
-use crate::Part;
+use crate::PartRead;
 use crate::Reading;
 use crate::ShapeRead;
 use crate::Word;
@@ -27,7 +27,7 @@ fn read_named(body: &[u8], at: usize) -> NamedRead
                 value: len,
                 next: at2,
             } => match read_part(len as usize, body, at2) {
-                Part::Bytes {
+                PartRead::Bytes {
                     start,
                     len: n,
                     next: end,
@@ -37,8 +37,8 @@ fn read_named(body: &[u8], at: usize) -> NamedRead
                     name_len: n,
                     next: end,
                 },
-                Part::Short => NamedRead::Short,
-                Part::OutOfRange => NamedRead::OutOfRange,
+                PartRead::Short => NamedRead::Short,
+                PartRead::OutOfRange => NamedRead::OutOfRange,
             },
             Field::Short => NamedRead::Short,
             Field::OutOfRange => NamedRead::OutOfRange,

@@ -13,8 +13,8 @@ ghost use Rattle.body.specs.Results.{fieldRead, wordRead, partRead, swit
 use store::RATES;
 use store::VALUES;
 use wire::Field;
+use wire::FourBytes;
 use wire::Int;
-use wire::Number;
 
 // How far a body could be read: all its known fields, up to the position after them; or it ends before a field is whole; or a field
 // overflows or is out of range.
@@ -34,7 +34,7 @@ pub enum Word {
 }
 
 // What reading a part of a body finds: `len` bytes from `start` on.
-pub enum Part {
+pub enum PartRead {
     Bytes {
         start: usize,
         len: usize,
@@ -78,16 +78,16 @@ pub fn read_word(body: &[u8], at: usize) -> Word
 }
 
 // The `n` bytes at `at`.
-pub fn read_part(n: usize, body: &[u8], at: usize) -> Part
+pub fn read_part(n: usize, body: &[u8], at: usize) -> PartRead
     ensures { λ r. ⌜ partRead r ≡ bytes n (now (body .entry)) at ⌝ }
 {
     if body.len() < at {
-        return Part::Short;
+        return PartRead::Short;
     }
     if body.len() - at < n {
-        return Part::Short;
+        return PartRead::Short;
     }
-    Part::Bytes {
+    PartRead::Bytes {
         start: at,
         len: n,
         next: at + n,
@@ -170,7 +170,7 @@ pub fn read_acknowledgement(body: &[u8]) -> AcknowledgementBody
 {
     match read_word(body, 0) {
         Word::Value { value: id, next } => match wire::fixed::read_number(body, next) {
-            Number::Value {
+            FourBytes::Value {
                 value: update,
                 next: end,
             } => AcknowledgementBody::Fields {
@@ -178,7 +178,7 @@ pub fn read_acknowledgement(body: &[u8]) -> AcknowledgementBody
                 update,
                 next: end,
             },
-            Number::Short => AcknowledgementBody::Short,
+            FourBytes::Short => AcknowledgementBody::Short,
         },
         Word::Short => AcknowledgementBody::Short,
         Word::OutOfRange => AcknowledgementBody::OutOfRange,

@@ -147,10 +147,10 @@ fn number(v: u32) {
     hex(&bytes);
     space();
     match wire::fixed::read_number(&bytes, 0) {
-        wire::Number::Value { value, next } => {
+        wire::FourBytes::Value { value, next } => {
             show_value(value as u64, next);
         }
-        wire::Number::Short => {
+        wire::FourBytes::Short => {
             io::write_all(1, b"short");
         }
     }
@@ -159,7 +159,7 @@ fn number(v: u32) {
 
 fn put(v: u64, at: usize) {
     let mut room = [170u8; 4];
-    let r = wire::buffer::put_int(&mut room, at, v);
+    let r = wire::buffer::fit_int(&mut room, at, v);
     io::write_all(1, b"put ");
     decimal(v);
     space();

@@ -28,7 +28,7 @@ use Rattle.store.proofs.Facts.{TableFacts, EntryFacts, SoundStore, name
 
 -- "A known table and key has its values replaced. Otherwise the entry takes the lowest free place": no other place holds its table and key
 pub record EntryRules (s : Store) (place : ℕ) (e : Entry) : Type 0 where
-  pub mark : e .held ≡ 1
+  pub flag : e .held ≡ 1
   pub facts : EntryFacts (s .tables) e
   pub shape : EntryShape e
   pub fresh : (j : ℕ) → j < length (s .entries) → (j ≡ place → ⊥) → entryKeyed (e .table) (keyOf e) (getD (s .entries) j noEntry) ≡ false
@@ -40,7 +40,7 @@ pub record Agrees (t u : Table) : Type 0 where
   pub dataTypes : t .«data_types» ≡ u .«data_types»
 
 pub record TableRules (s : Store) (place : ℕ) (t : Table) : Type 0 where
-  pub mark : t .held ≡ 1
+  pub flag : t .held ≡ 1
   pub facts : TableFacts t
   pub shape : TableShape t
   pub fresh : (j : ℕ) → j < length (s .tables) → (j ≡ place → ⊥) → tableNamed (nameOf t) (getD (s .tables) j noTable) ≡ false
@@ -79,10 +79,10 @@ module _ (s : Store) (h : StoreShape s) (r : SoundStore s) where
   unfolding putEntry
   put-entry-facts place e w =
       record {
-        tableMark = r .tableMark;
+        tableFlag = r .tableFlag;
         table = r .table;
         names = r .names;
-        entryMark = stored-each es place e noEntry (λ (f : Entry). f .held ≤ 1) (omega (arith, w .mark)) (r .entryMark);
+        entryFlag = stored-each es place e noEntry (λ (f : Entry). f .held ≤ 1) (omega (arith, w .flag)) (r .entryFlag);
         entry = stored-each es place e noEntry (λ (f : Entry). entryHeld f ≡ true → EntryFacts (s .tables) f) (λ q. w .facts) (r .entry);
         keys = stored-apart es place e noEntry sameKey
             (λ j l f.
@@ -170,14 +170,14 @@ module _ (s : Store) (h : StoreShape s) (r : SoundStore s) where
   unfolding putTable
   put-table-facts place t inside w =
       record {
-        tableMark = stored-each ts place t noTable (λ (u : Table). u .held ≤ 1) (omega (arith, w .mark)) (r .tableMark);
+        tableFlag = stored-each ts place t noTable (λ (u : Table). u .held ≤ 1) (omega (arith, w .flag)) (r .tableFlag);
         table = stored-each ts place t noTable (λ (u : Table). tableHeld u ≡ true → TableFacts u) (λ q. w .facts) (r .table);
         names = stored-apart ts place t noTable sameName
             (λ j l f.
             (named-first t (getD ts j noTable) (w .fresh j l f), named-second t (getD ts j noTable) (named-size j l) (w .fresh j l f)))
             (r .names);
-        entryMark = r .entryMark;
-        entry = λ i l q. entry-stays ts place t (w .mark) (omega (arith, h .tables)) (w .keeps) (getD (s .entries) i noEntry) (r .entry i l q);
+        entryFlag = r .entryFlag;
+        entry = λ i l q. entry-stays ts place t (w .flag) (omega (arith, h .tables)) (w .keeps) (getD (s .entries) i noEntry) (r .entry i l q);
         keys = r .keys;
       }
     where

@@ -10,8 +10,8 @@ use lib.Seq.{drop-append-le, drop-append-add, getD-append-add}
 use borrow.Author.Tests.{lt-ltb, le-ltb}
 use Rattle.wire.specs.declared.Int.{Int}
 use Rattle.wire.specs.declared.Int.the-variants as int
-use Rattle.wire.specs.declared.Number.{Number}
-use Rattle.wire.specs.declared.Number.the-variants as number
+use Rattle.wire.specs.declared.FourBytes.{FourBytes}
+use Rattle.wire.specs.declared.FourBytes.the-variants as number
 use Rattle.wire.specs.declared.ServerId.the-variants as server
 use Rattle.wire.specs.Integer.{Later, ended, cut, endless, before, laterBytes, weighted, withLater, readFirst, readInt}
 use Rattle.wire.specs.Number.{readNumber}
@@ -89,7 +89,7 @@ number-behind s t at =
 pub number-value-behind : (s t : List ℕ) (at v next : ℕ) → readNumber s at ≡ number.Value v next → readNumber (s ++ t) at ≡ number.Value v next
 number-value-behind s t at v next e = split (number-behind s t at) (λ q. cc) (λ q. q ∙ e)
 
-unfoldable pub movedNumber : ℕ → Number → Number
+unfoldable pub movedNumber : ℕ → FourBytes → FourBytes
 movedNumber n (number.Value v next) = number.Value v (n + next)
 movedNumber n number.Short = number.Short
 

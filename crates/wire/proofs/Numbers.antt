@@ -7,8 +7,8 @@ use lib.ListN.{length, getD, take, drop, length-append}
 use lib.Seq.{getD-append-add, drop-cons}
 use borrow.Author.Needs.{needs}
 use borrow.Author.Tests.{le-leb, lt-leb}
-use Rattle.wire.specs.declared.Number.{Number}
-use Rattle.wire.specs.declared.Number.the-variants.{Value, Short}
+use Rattle.wire.specs.declared.FourBytes.{FourBytes}
+use Rattle.wire.specs.declared.FourBytes.the-variants.{Value, Short}
 use Rattle.wire.specs.Number.{numberOf, readNumber, encodeNumber}
 use Rattle.wire.specs.Value.{Bytes}
 use Rattle.lists.proofs.Cases.{lt-or-le, split}
@@ -86,7 +86,7 @@ four-taken s at h =
     let e₃ : at + 3 ≡ suc (suc (suc at)) = omega arith in
     rw (e₁, e₂, e₃, drop-cons s at 0 (omega arith), drop-cons s (suc at) 0 (omega arith), drop-cons s (suc (suc at)) 0 (omega arith), drop-cons s (suc (suc (suc at))) 0 (omega arith))
 
-Own : ℕ → List ℕ → Number → Type 0
+Own : ℕ → List ℕ → FourBytes → Type 0
 Own at s (Value v next) = (v < 2 ^ 32) × (next ≡ at + 4) × (next ≤ length s) × (take 4 (drop at s) ≡ encodeNumber v)
 Own at s Short = Unit {0}
 

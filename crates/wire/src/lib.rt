@@ -3,10 +3,10 @@ pub mod buffer;
 pub mod fixed;
 pub mod values;
 
-use lists::wide;
 ghost use mathlib.Core.Path.{_≡_};
 ghost use lib.ListN.{drop};
 ghost use Rattle.wire.specs.Integer.{readInt, tenthByte, encodedInt};
+use lists::wide;
 
 // What reading an encoded integer finds.
 pub enum Int {
@@ -101,7 +101,7 @@ pub fn write_int(v: u64) -> Encoded
 }
 
 // What reading a 4-byte number finds.
-pub enum Number {
+pub enum FourBytes {
     Value { value: u32, next: usize },
     Short,
 }

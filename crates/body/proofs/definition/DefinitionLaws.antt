@@ -10,8 +10,8 @@ use Rattle.body.specs.declared.Reading.{Reading}
 use Rattle.body.specs.declared.Reading.the-variants as reading
 use Rattle.body.specs.declared.Word.{Word}
 use Rattle.body.specs.declared.Word.the-variants as word
-use Rattle.body.specs.declared.Part.{Part}
-use Rattle.body.specs.declared.Part.the-variants as part
+use Rattle.body.specs.declared.PartRead.{PartRead}
+use Rattle.body.specs.declared.PartRead.the-variants as part
 use Rattle.body.specs.declared.NamedRead.{NamedRead}
 use Rattle.body.specs.declared.NamedRead.the-variants as named-read
 use Rattle.body.specs.declared.ShapeRead.{ShapeRead}
@@ -40,7 +40,7 @@ module _ (s : List ℕ) (at : ℕ) (w : Word) (p : wordRead w ≡ integerOf 32 s
     unfolding namedFields namedRead andThen wordRead fieldRead
     length-out e₁ = rw (← p, e, ← p₁, e₁)
 
-    module _ (len at₂ : ℕ) (e₁ : f ≡ field.Value len at₂) (q : Part) (p₂ : partRead q ≡ bytes len s at₂) where
+    module _ (len at₂ : ℕ) (e₁ : f ≡ field.Value len at₂) (q : PartRead) (p₂ : partRead q ≡ bytes len s at₂) where
       pub name-short : q ≡ part.Short → namedRead named-read.Short ≡ namedFields s at
       unfolding namedFields namedRead andThen wordRead fieldRead partRead
       name-short e₂ = rw (← p, e, ← p₁, e₁, ← p₂, e₂)
@@ -52,6 +52,8 @@ module _ (s : List ℕ) (at : ℕ) (w : Word) (p : wordRead w ≡ integerOf 32 s
       pub name-bytes : (start n next : ℕ) → q ≡ part.Bytes start n next → namedRead (named-read.Fields id start n next) ≡ namedFields s at
       unfolding namedFields namedRead andThen wordRead fieldRead partRead
       name-bytes start n next e₂ = rw (← p, e, ← p₁, e₁, ← p₂, e₂)
+
+pub ruleset named-laws = (needs, id-short, id-out, length-short, length-out, name-short, name-out, name-bytes)
 
 -- ---- `read_rest`, where q is what was read of the shape and t of the times
 module _ (n : Named) (s : List ℕ) (at : ℕ) (q : ShapeRead) (p : shapeRead q ≡ shapeFields s at) where

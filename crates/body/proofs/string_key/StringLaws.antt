@@ -5,8 +5,8 @@ use mathlib.Core.List.{List}
 use borrow.Author.Needs.{needs}
 use Rattle.wire.specs.declared.Field.{Field}
 use Rattle.wire.specs.declared.Field.the-variants as field
-use Rattle.body.specs.declared.Part.{Part}
-use Rattle.body.specs.declared.Part.the-variants as part
+use Rattle.body.specs.declared.PartRead.{PartRead}
+use Rattle.body.specs.declared.PartRead.the-variants as part
 use Rattle.body.specs.Fields.{andThen, integer, between, bytes}
 use Rattle.body.specs.Bodies.{stringField}
 use Rattle.body.specs.Results.{fieldRead, partRead}
@@ -21,7 +21,7 @@ module _ (n : ℕ) (s : List ℕ) (at : ℕ) (r : Field) (p : fieldRead r ≡ in
   unfolding stringField andThen partRead fieldRead
   string-out e = rw (← p, e)
 
-  pub string-bytes : (len next : ℕ) → r ≡ field.Value len next → (q : Part) → partRead q ≡ bytes len s next → partRead q ≡ stringField n s at
+  pub string-bytes : (len next : ℕ) → r ≡ field.Value len next → (q : PartRead) → partRead q ≡ bytes len s next → partRead q ≡ stringField n s at
   unfolding stringField andThen fieldRead
   string-bytes len next e q h = rw (← p, e) h
 

@@ -9,13 +9,13 @@ use borrow.Author.Needs.{needs}
 use Rattle.wire.specs.declared.ServerId.the-variants as server
 use Rattle.store.specs.declared.KeyKind.{KeyKind}
 use Rattle.store.specs.Limits.{keyKind, isString}
-use Rattle.body.specs.declared.Part.{Part}
-use Rattle.body.specs.declared.Part.the-variants as part
+use Rattle.body.specs.declared.PartRead.{PartRead}
+use Rattle.body.specs.declared.PartRead.the-variants as part
 use Rattle.body.specs.Fields.{andThen, bytes, numberRead, number4}
 use Rattle.body.specs.Bodies.{stringField, keyField, Data, dataFields, entryFields, updateFields, incrementalFields}
 use Rattle.body.specs.Results.{partRead, readAs, updateStruct, noUpdate, updateBody}
-use Rattle.wire.specs.declared.Number.{Number}
-use Rattle.wire.specs.declared.Number.the-variants as number
+use Rattle.wire.specs.declared.FourBytes.{FourBytes}
+use Rattle.wire.specs.declared.FourBytes.the-variants as number
 use Rattle.wire.specs.Number.{readNumber}
 use Rattle.store.specs.declared.Table.{Table}
 use Rattle.body.specs.declared.Reading.{Reading}
@@ -24,7 +24,7 @@ use Rattle.body.specs.declared.UpdateBody.{UpdateBody}
 use Rattle.body.proofs.FieldLaws.{so-true, so-false}
 
 -- ---- `read_key`
-module _ (keyType n : ℕ) (s : List ℕ) (at : ℕ) (kind : KeyKind) (k : kind ≡ keyKind keyType) (q : Part) where
+module _ (keyType n : ℕ) (s : List ℕ) (at : ℕ) (kind : KeyKind) (k : kind ≡ keyKind keyType) (q : PartRead) where
   pub key-string : isString kind ≡ true → partRead q ≡ stringField n s at → partRead q ≡ keyField keyType n s at
   unfolding keyField
   key-string e h = rw (← k, e) h
@@ -36,7 +36,7 @@ module _ (keyType n : ℕ) (s : List ℕ) (at : ℕ) (kind : KeyKind) (k : kind 
 pub ruleset key-laws = (needs, so-true, so-false, key-string, key-bytes)
 
 -- ---- `read_entry`, where q is what was read of the key and d of the data
-module _ (t : Table) (id : ℕ) (s : List ℕ) (at : ℕ) (q : Part) (p : partRead q ≡ keyField (t .«key_type») (t .«key_len») s at) where
+module _ (t : Table) (id : ℕ) (s : List ℕ) (at : ℕ) (q : PartRead) (p : partRead q ≡ keyField (t .«key_type») (t .«key_len») s at) where
   pub key-short : (x : UpdateBody) → x ≡ updateStruct reading.Short noUpdate
       → q ≡ part.Short → x ≡ updateBody (entryFields t id s at)
   unfolding entryFields updateBody andThen partRead
@@ -71,7 +71,7 @@ module _ (t : Table) (id : ℕ) (s : List ℕ) (at : ℕ) (q : Part) (p : partRe
 pub ruleset entry-laws = (needs, key-short, key-out, data-short, data-out, data-whole)
 
 -- ---- `read_update` and `read_incremental`, where m is what was read of the ID
-module _ (t : Table) (s : List ℕ) (m : Number) (p : m ≡ readNumber s 0) where
+module _ (t : Table) (s : List ℕ) (m : FourBytes) (p : m ≡ readNumber s 0) where
   pub id-short : (x : UpdateBody) → x ≡ updateStruct reading.Short noUpdate
       → m ≡ number.Short → x ≡ updateBody (updateFields t s)
   unfolding updateFields updateBody andThen number4 numberRead

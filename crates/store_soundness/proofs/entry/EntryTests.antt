@@ -55,7 +55,7 @@ rest-is e b z l q =
 -- ---- an entry's values
 
 module _ (types t v : ℕ) where
-  narrow-value : v < 2 ^ 32 → slotOk types t v ≡ true
+  pub narrow-value : v < 2 ^ 32 → slotOk types t v ≡ true
   unfolding slotOk
   narrow-value l =
       let n = lt-ltb v (2 ^ 32) l in
@@ -144,9 +144,9 @@ module _ (tables : List Table) (e : Entry) where
       and-true (leb (e .held) 1) (not (eqb (e .held) 1) || allOf (entryTests tables e)) (le-leb (e .held) 1 (omega arith))
       ∙ unless-false (eqb (e .held) 1) (allOf (entryTests tables e)) (ne-eqb (e .held) 1 (λ z. omega arith))
 
-  pub entry-mark-unsound : (e .held ≡ 0 → ⊥) → (e .held ≡ 1 → ⊥) → soundEntry tables e ≡ false
+  pub entry-flag-unsound : (e .held ≡ 0 → ⊥) → (e .held ≡ 1 → ⊥) → soundEntry tables e ≡ false
   unfolding soundEntry
-  entry-mark-unsound f g = and-false (leb (e .held) 1) (not (entryHeld e) || allOf (entryTests tables e)) (lt-leb (e .held) 1 (omega arith))
+  entry-flag-unsound f g = and-false (leb (e .held) 1) (not (entryHeld e) || allOf (entryTests tables e)) (lt-leb (e .held) 1 (omega arith))
 
   module _ (h : e .held ≡ 1) where
     held-rows : soundEntry tables e ≡ allOf (entryTests tables e)

@@ -50,9 +50,9 @@ module _ (t : Table) where
   unfolding soundTable tableHeld
   free-sound e = rw e
 
-  pub mark-unsound : (t .held ≡ 0 → ⊥) → (t .held ≡ 1 → ⊥) → false ≡ soundTable t
+  pub flag-unsound : (t .held ≡ 0 → ⊥) → (t .held ≡ 1 → ⊥) → false ≡ soundTable t
   unfolding soundTable
-  mark-unsound f g =
+  flag-unsound f g =
       sym (and-false (leb (t .held) 1) (not (tableHeld t) || allOf (tableTests t)) (lt-leb (t .held) 1 (omega arith)))
 
   pub held-sound : {b : Bool} → t .held ≡ 1 → b ≡ allOf (tableTests t) → b ≡ soundTable t
@@ -63,7 +63,7 @@ module _ (t : Table) where
       (and-true (leb (t .held) 1) (not (eqb (t .held) 1) || allOf (tableTests t)) (le-leb (t .held) 1 (omega arith))
       ∙ unless-true (eqb (t .held) 1) (allOf (tableTests t)) (eq-eqb (t .held) 1 e))
 
-pub ruleset tables = (needs, free-sound, mark-unsound, held-sound)
+pub ruleset tables = (needs, free-sound, flag-unsound, held-sound)
 
 module _ {ts : List Table} {i : ℕ} {b : Bool} (r : Testing soundTable ts 8 i) (l : i < 8) (e : b ≡ soundTable (getD ts i blankTable)) where
   pub tables-stop : not b ≡ true → false ≡ every soundTable ts

@@ -1,4 +1,4 @@
--- Writing into lent room: a law for each way through `put_bytes`, `put_int` and `put_number`, and the laws of the room afterwards.
+-- Writing into lent room: a law for each way through `fit_bytes`, `fit_int` and `fit_number`, and the laws of the room afterwards.
 --
 use Prim.Native.Nat.{ℕ, _+_, _-_, _≤_, _<_}
 use native.Mathlib.Omega.{arith}
@@ -35,7 +35,7 @@ module _ (room : List ℕ) (at : ℕ) (bytes : List ℕ) where
   unfolding putRoom
   fits-room h = rw (le-leb (at + length bytes) (length room) h)
 
-  -- ---- `put_bytes`
+  -- ---- `fit_bytes`
   pub past-result : length room < at → put.NoRoom ≡ putResult room at bytes
   past-result h = sym (none-result (omega arith))
 
@@ -80,7 +80,7 @@ module _ {room₀ : List ℕ} {at : ℕ} {bytes room : List ℕ} {i : ℕ} (p : 
 
 pub ruleset putting = (needs, past-result, past-room, full-result, full-room, next-result, start, turn, kept, done)
 
--- ---- `put_int` and `put_number`: the bytes lent are the encoding
+-- ---- `fit_int` and `fit_number`: the bytes lent are the encoding
 module _ (e : Encoded) (v : ℕ) (h : e ≡ encodedInt v) where
   pub len-le : e .len ≤ length (e .bytes)
   unfolding encodedInt

@@ -2,16 +2,16 @@ use mathlib.Core.Logic.{⊎-elim}
 use Prim.Native.Nat.{_-_}
 use lib.ListN.{length}
 use Rattle.lists.proofs.Passing.{passing, Passing, pass-good, pass-bad}
-use Rattle.store_soundness.specs.Marks.{otherMark}
-use Rattle.store_soundness.proofs.marks.Marking.{mark-same, mark-other}
-use Rattle.store_soundness.proofs.marks.mark_apart.Statement.{statement}
-use Rattle.store_soundness.proofs.marks.mark_apart.Tie as tie
+use Rattle.store_soundness.specs.Hashes.{otherHash}
+use Rattle.store_soundness.proofs.hashes.Hashing.{hash-same, hash-other}
+use Rattle.store_soundness.proofs.hashes.hash_apart.Statement.{statement}
+use Rattle.store_soundness.proofs.hashes.hash_apart.Tie as tie
 
 abbrev Inv-loop : tie.InvT-loop
-Inv-loop marks mark apart₀ i₀ apart i = Passing (otherMark mark) marks (length marks) apart i
+Inv-loop hashes hash apart₀ i₀ apart i = Passing (otherHash hash) hashes (length hashes) apart i
 
 abbrev μ-loop : tie.MeasureT-loop
-μ-loop marks mark apart₀ i₀ apart i = length marks - i
+μ-loop hashes hash apart₀ i₀ apart i = length hashes - i
 
 loop-holds : tie.Need-loop-holds Inv-loop μ-loop
 loop-holds c = search passing
@@ -33,15 +33,15 @@ loop-again c =
     let a = c .before .before in
     let r = a .before .loop .inv in
     ⊎-elim
-    (λ w. pass-bad r 0 (a .loop-test .taken) (mark-same _ _ (w .0 .taken)) (w .1))
-    (λ w. pass-good r 0 (a .loop-test .taken) (mark-other _ _ (w .0 .left)) (w .1))
+    (λ w. pass-bad r 0 (a .loop-test .taken) (hash-same _ _ (w .0 .taken)) (w .1))
+    (λ w. pass-good r 0 (a .loop-test .taken) (hash-other _ _ (w .0 .left)) (w .1))
     (c .if1 .came)
 
 returns : tie.Need-returns Inv-loop μ-loop
 returns c = search passing
 
-pub mark-apart-spec : {M : Type 1} → statement M
-mark-apart-spec =
+pub hash-apart-spec : {M : Type 1} → statement M
+hash-apart-spec =
     tie.close
     (tie.spec
     Inv-loop

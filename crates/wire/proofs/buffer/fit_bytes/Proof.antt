@@ -1,8 +1,8 @@
 use Prim.Native.Nat.{_-_}
 use lib.ListN.{length}
 use Rattle.wire.proofs.buffer.Room.{putting, Putting}
-use Rattle.wire.proofs.buffer.put_bytes.Statement.{statement}
-use Rattle.wire.proofs.buffer.put_bytes.Tie as tie
+use Rattle.wire.proofs.buffer.fit_bytes.Statement.{statement}
+use Rattle.wire.proofs.buffer.fit_bytes.Tie as tie
 
 abbrev Inv-loop : tie.InvT-loop
 Inv-loop room₀ at bytes i₀ room i = Putting room₀ at bytes room i
@@ -49,8 +49,8 @@ same-length c = search putting
 returns-3 : tie.Need-returns-3 Inv-loop μ-loop
 returns-3 c = search putting
 
-pub put-bytes-spec : {M : Type 1} → statement M
-put-bytes-spec =
+pub fit-bytes-spec : {M : Type 1} → statement M
+fit-bytes-spec =
     tie.close
     (tie.spec
     Inv-loop

@@ -1,13 +1,13 @@
 use Prim.Native.Nat.{_-_}
-use Rattle.store_soundness.proofs.marks.Marking.{wording, Words}
-use Rattle.store_soundness.proofs.marks.mark_words.Statement.{statement}
-use Rattle.store_soundness.proofs.marks.mark_words.Tie as tie
+use Rattle.store_soundness.proofs.hashes.Hashing.{wording, Words}
+use Rattle.store_soundness.proofs.hashes.hash_words.Statement.{statement}
+use Rattle.store_soundness.proofs.hashes.hash_words.Tie as tie
 
 abbrev Inv-loop : tie.InvT-loop
-Inv-loop start words key mark₀ k₀ mark k = Words words start key mark k
+Inv-loop start words key hash₀ k₀ hash k = Words words start key hash k
 
 abbrev μ-loop : tie.MeasureT-loop
-μ-loop start words key mark₀ k₀ mark k = words - k
+μ-loop start words key hash₀ k₀ hash k = words - k
 
 loop-holds : tie.Need-loop-holds Inv-loop μ-loop
 loop-holds c = search wording
@@ -33,8 +33,8 @@ loop-again c = search wording
 returns : tie.Need-returns Inv-loop μ-loop
 returns c = search wording
 
-pub mark-words-spec : {M : Type 1} → statement M
-mark-words-spec =
+pub hash-words-spec : {M : Type 1} → statement M
+hash-words-spec =
     tie.close
     (tie.spec
     Inv-loop

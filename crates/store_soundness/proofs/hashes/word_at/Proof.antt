@@ -1,7 +1,6 @@
-use Rattle.store_soundness.proofs.marks.Marking.{wording}
-use borrow.Author.Needs.{needs}
-use Rattle.store_soundness.proofs.marks.word_at.Statement.{statement}
-use Rattle.store_soundness.proofs.marks.word_at.Tie as tie
+use Rattle.store_soundness.proofs.hashes.Hashing.{wording}
+use Rattle.store_soundness.proofs.hashes.word_at.Statement.{statement}
+use Rattle.store_soundness.proofs.hashes.word_at.Tie as tie
 
 shared-slice-read-wide : tie.Need-shared-slice-read-wide
 shared-slice-read-wide c = search wording
