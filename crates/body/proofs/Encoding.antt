@@ -9,10 +9,10 @@ use borrow.Author.Tests.{le-leb, lt-leb}
 use Rattle.lists.proofs.Cases.{lt-or-le, split}
 use Rattle.wire.specs.declared.Int.{Int}
 use Rattle.wire.specs.declared.Int.the-variants as int
-use Rattle.wire.specs.declared.FourBytes.{FourBytes}
-use Rattle.wire.specs.declared.FourBytes.the-variants as number
-use Rattle.wire.specs.declared.ServerId.{ServerId}
-use Rattle.wire.specs.declared.ServerId.the-variants as server
+use Rattle.wire.specs.declared.fixed.FourBytes.{FourBytes}
+use Rattle.wire.specs.declared.fixed.FourBytes.the-variants as number
+use Rattle.wire.specs.declared.values.ServerId.{ServerId}
+use Rattle.wire.specs.declared.values.ServerId.the-variants as server
 use Rattle.wire.specs.Integer.{encodeInt, readInt}
 use Rattle.wire.specs.Number.{encodeNumber, readNumber}
 use Rattle.wire.specs.Server.{serverWord, readServerId}

@@ -1,12 +1,12 @@
 -- From what a public function gave to what was read of the body.
 use Prim.Native.Nat.{ℕ}
 use mathlib.Core.Path.{_≡_, refl, sym, ap, _∙_}
-use Rattle.wire.specs.declared.Field.{Field}
-use Rattle.wire.specs.declared.Field.the-variants as field
+use Rattle.wire.specs.declared.values.Field.{Field}
+use Rattle.wire.specs.declared.values.Field.the-variants as field
 use Rattle.body.specs.declared.Reading.{Reading}
 use Rattle.body.specs.declared.Reading.the-variants as reading
-use Rattle.body.specs.declared.DefinitionBody.{DefinitionBody}
-use Rattle.body.specs.declared.UpdateBody.{UpdateBody}
+use Rattle.body.specs.declared.definition.DefinitionBody.{DefinitionBody}
+use Rattle.body.specs.declared.update.UpdateBody.{UpdateBody}
 use Rattle.body.specs.declared.AcknowledgementBody.{AcknowledgementBody}
 use Rattle.body.specs.declared.AcknowledgementBody.the-variants as acked
 use Rattle.body.specs.Fields.{Read, got, short, outside}

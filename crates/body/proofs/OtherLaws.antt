@@ -4,10 +4,10 @@ use mathlib.Core.Path.{_≡_, refl, ap, _∙_}
 use mathlib.Core.List.{List}
 use lib.Dec.{lit≤}
 use borrow.Author.Needs.{needs}
-use Rattle.wire.specs.declared.Field.{Field}
-use Rattle.wire.specs.declared.Field.the-variants as field
-use Rattle.wire.specs.declared.FourBytes.{FourBytes}
-use Rattle.wire.specs.declared.FourBytes.the-variants as number
+use Rattle.wire.specs.declared.values.Field.{Field}
+use Rattle.wire.specs.declared.values.Field.the-variants as field
+use Rattle.wire.specs.declared.fixed.FourBytes.{FourBytes}
+use Rattle.wire.specs.declared.fixed.FourBytes.the-variants as number
 use Rattle.wire.specs.Value.{readWidth}
 use Rattle.wire.specs.Number.{readNumber}
 use Rattle.body.specs.declared.Word.{Word}

@@ -11,8 +11,8 @@ use borrow.Author.Tests.{le-leb, lt-leb, ltb-true, leb-true}
 use Rattle.lists.proofs.Cases.{lt-or-le, and-first, and-second, split}
 use Rattle.wire.specs.declared.Int.{Int}
 use Rattle.wire.specs.declared.Int.the-variants as int
-use Rattle.wire.specs.declared.ServerId.{ServerId}
-use Rattle.wire.specs.declared.ServerId.the-variants as server
+use Rattle.wire.specs.declared.values.ServerId.{ServerId}
+use Rattle.wire.specs.declared.values.ServerId.the-variants as server
 use Rattle.wire.specs.Integer.{readInt}
 use Rattle.wire.specs.Server.{readServerId}
 use Rattle.wire.specs.Value.{Bytes}

@@ -10,11 +10,9 @@ ghost use mathlib.Core.Path.{_≡_};
 ghost use Rattle.body.specs.Fields.{integer, between, integerOf, bytes};
 ghost use Rattle.body.specs.Bodies.{switchFields, acknowledgementFields};
 ghost use Rattle.body.specs.Results.{fieldRead, wordRead, partRead, switchBody, acknowledgementBody};
-use store::RATES;
-use store::VALUES;
-use wire::Field;
-use wire::FourBytes;
 use wire::Int;
+use wire::fixed::FourBytes;
+use wire::values::Field;
 
 // How far a body could be read: all its known fields, up to the position after them; or it ends before a field is whole; or a field
 // overflows or is out of range.
@@ -94,60 +92,6 @@ pub fn read_part(n: usize, body: &[u8], at: usize) -> PartRead
     }
 }
 
-// ---- definition
-
-// A definition's ID and name.
-pub enum NamedRead {
-    Fields {
-        id: u32,
-        name_at: usize,
-        name_len: usize,
-        next: usize,
-    },
-    Short,
-    OutOfRange,
-}
-
-// Key type, key length and data types.
-pub enum ShapeRead {
-    Fields {
-        key_type: u8,
-        key_len: usize,
-        data_types: u32,
-        next: usize,
-    },
-    Short,
-    OutOfRange,
-}
-
-// A period for each rate type.
-pub struct PeriodsRead {
-    pub reading: Reading,
-    pub periods: [u32; RATES],
-}
-
-// Expiry and periods. `timed` is 1 where the body has them.
-pub struct TimesRead {
-    pub reading: Reading,
-    pub timed: u8,
-    pub expiry: u32,
-    pub periods: [u32; RATES],
-}
-
-// The fields of a definition. Its name stands in the body from `name_at` on. `timed` is 1 where the body has expiry and periods.
-pub struct DefinitionBody {
-    pub reading: Reading,
-    pub id: u32,
-    pub name_at: usize,
-    pub name_len: usize,
-    pub key_type: u8,
-    pub key_len: usize,
-    pub data_types: u32,
-    pub timed: u8,
-    pub expiry: u32,
-    pub periods: [u32; RATES],
-}
-
 // ---- switch and acknowledgement
 
 // The ID of a switch.
@@ -183,29 +127,4 @@ pub fn read_acknowledgement(body: &[u8]) -> AcknowledgementBody
         Word::Short => AcknowledgementBody::Short,
         Word::OutOfRange => AcknowledgementBody::OutOfRange,
     }
-}
-
-// ---- update
-
-// A value for each slot.
-pub struct ValuesRead {
-    pub reading: Reading,
-    pub values: [u64; VALUES],
-}
-
-// Server ID and values.
-pub struct DataRead {
-    pub reading: Reading,
-    pub server_id: i32,
-    pub values: [u64; VALUES],
-}
-
-// The fields of an update. Its key stands in the body from `key_at` on.
-pub struct UpdateBody {
-    pub reading: Reading,
-    pub id: u32,
-    pub key_at: usize,
-    pub key_len: usize,
-    pub server_id: i32,
-    pub values: [u64; VALUES],
 }

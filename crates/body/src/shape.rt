@@ -4,11 +4,22 @@ ghost use Rattle.store.specs.Limits.{keyLengthOk};
 ghost use Rattle.body.specs.Fields.{integer};
 ghost use Rattle.body.specs.Bodies.{isKeyType, shapeFields};
 ghost use Rattle.body.specs.Results.{fieldRead, shapeRead};
-use crate::ShapeRead;
 use crate::read_between;
 use store::DATA_TYPES_MAX;
-use wire::Field;
 use wire::Int;
+use wire::values::Field;
+
+// Key type, key length and data types.
+pub enum ShapeRead {
+    Fields {
+        key_type: u8,
+        key_len: usize,
+        data_types: u32,
+        next: usize,
+    },
+    Short,
+    OutOfRange,
+}
 
 // Whether a number is a key type.
 fn is_key_type(n: u64) -> bool

@@ -2,7 +2,7 @@
 use crate::PartRead;
 use crate::read_between;
 use crate::read_part;
-use wire::Field;
+use wire::values::Field;
 ghost use mathlib.Core.Path.{_≡_};
 ghost use Rattle.body.specs.Bodies.{stringField};
 ghost use Rattle.body.specs.Results.{partRead};

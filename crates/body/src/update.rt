@@ -1,16 +1,25 @@
 // The fields of an update, read from its body.
 use crate::PartRead;
 use crate::Reading;
-use crate::UpdateBody;
 use crate::read_part;
 use crate::string_key::read_string;
 use crate::update_data::read_data;
 use store::Table;
 use store::VALUES;
-use wire::FourBytes;
+use wire::fixed::FourBytes;
 ghost use mathlib.Core.Path.{_≡_};
 ghost use Rattle.body.specs.Bodies.{keyField, entryFields, updateFields, incrementalFields};
 ghost use Rattle.body.specs.Results.{partRead, updateStruct, noUpdate, updateBody};
+
+// The fields of an update. Its key stands in the body from `key_at` on.
+pub struct UpdateBody {
+    pub reading: Reading,
+    pub id: u32,
+    pub key_at: usize,
+    pub key_len: usize,
+    pub server_id: i32,
+    pub values: [u64; VALUES],
+}
 
 // The key at `at`, of a table with this key type and key length.
 fn read_key(key_type: u8, key_len: usize, body: &[u8], at: usize) -> PartRead

@@ -21,7 +21,7 @@ use Rattle.lists.proofs.Maps.{length-mapped}
 use Rattle.session.proofs.Basics.{blank}
 use Rattle.body.specs.declared.Reading.{Reading}
 use Rattle.body.specs.declared.Reading.the-variants as reading
-use Rattle.body.specs.declared.UpdateBody.{UpdateBody}
+use Rattle.body.specs.declared.update.UpdateBody.{UpdateBody}
 use Rattle.body.specs.Fields.{Read, spanIn}
 use Rattle.body.specs.Bodies.{Update}
 use Rattle.body.specs.Results.{readAs}

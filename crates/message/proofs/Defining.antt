@@ -25,7 +25,7 @@ use Rattle.session.specs.declared.Answer.the-variants as answer
 use Rattle.session.specs.Answers.{replyOf}
 use Rattle.session.specs.Session.{bind}
 use Rattle.body.specs.declared.Reading.the-variants as reading
-use Rattle.body.specs.declared.DefinitionBody.{DefinitionBody}
+use Rattle.body.specs.declared.definition.DefinitionBody.{DefinitionBody}
 use Rattle.body.specs.Fields.{spanIn}
 use Rattle.body.specs.Bodies.{definitionFields}
 use Rattle.body.specs.Results.{definitionBody}

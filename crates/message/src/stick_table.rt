@@ -15,7 +15,7 @@ use session::Connection;
 use session::reply_bytes::no_reply;
 use store::TABLES;
 use store::Table;
-use wire::Field;
+use wire::values::Field;
 ghost use Rattle.message.specs.OnStores.{switchToOn, switchOn, acknowledgementOn, stickTableOn};
 ghost use Rattle.message.specs.Settled.{SettlesAll, AsksWith};
 

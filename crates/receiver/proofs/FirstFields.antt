@@ -11,8 +11,8 @@ use lib.Dec.{eqb, ltb, leb}
 use Rattle.lists.proofs.Cases.{by-test, cond-true, cond-false}
 use Rattle.wire.specs.declared.Int.{Int}
 use Rattle.wire.specs.declared.Int.the-variants as int
-use Rattle.wire.specs.declared.FourBytes.{FourBytes}
-use Rattle.wire.specs.declared.FourBytes.the-variants as number
+use Rattle.wire.specs.declared.fixed.FourBytes.{FourBytes}
+use Rattle.wire.specs.declared.fixed.FourBytes.the-variants as number
 use Rattle.wire.specs.Integer.{readInt}
 use Rattle.wire.specs.Number.{readNumber}
 use Rattle.wire.specs.Value.{Bytes}

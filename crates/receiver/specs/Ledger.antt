@@ -10,8 +10,8 @@ use lib.ListN.{length, take, drop, getD}
 use lib.Dec.{ltb, eqb}
 use Rattle.wire.specs.declared.Int.{Int}
 use Rattle.wire.specs.declared.Int.the-variants as int
-use Rattle.wire.specs.declared.FourBytes.{FourBytes}
-use Rattle.wire.specs.declared.FourBytes.the-variants as number
+use Rattle.wire.specs.declared.fixed.FourBytes.{FourBytes}
+use Rattle.wire.specs.declared.fixed.FourBytes.the-variants as number
 use Rattle.wire.specs.Integer.{readInt}
 use Rattle.wire.specs.Number.{readNumber}
 use Rattle.session.specs.declared.Binding.{Binding}

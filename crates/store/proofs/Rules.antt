@@ -11,8 +11,8 @@ use borrow.Author.Tests.{eqb-true, ne-eqb, leb-true, le-leb, lt-leb}
 use Rattle.lists.specs.Lists.{every, upTo, among}
 use Rattle.lists.proofs.Cases.{never, and-second, and-true, and-false}
 use Rattle.lists.proofs.Every.{every-at, up-at, up-length}
-use Rattle.store.specs.declared.KeyKind.{KeyKind}
-use Rattle.store.specs.declared.KeyKind.the-variants.{Integer, Ipv4, Ipv6, Str, Binary, Unknown}
+use Rattle.store.specs.declared.types.KeyKind.{KeyKind}
+use Rattle.store.specs.declared.types.KeyKind.the-variants.{Integer, Ipv4, Ipv6, Str, Binary, Unknown}
 use Rattle.store.specs.Limits.{keyMax, keyKind, keyLengthFits, keyLengthOk, present, isRate, rateTypes, slotTypes, slotsFor, integersOf}
 
 pub kind-unknown : (n : ℕ) → (n ≡ 0 → ⊥) → (n ≡ 1 → ⊥) → (n ≡ 2 → ⊥) → (n ≡ 3 → ⊥) → (n ≡ 4 → ⊥) → Unknown ≡ keyKind n
@@ -64,7 +64,7 @@ pub present-at : (types t : ℕ) → t < 32 → eqb ((types / getD powers t 0) %
 unfolding present
 present-at types t h = rw (power-at t h)
 
--- 34 slots, each of a data type from 1 to 18
+-- 10 single integers and 8 times 3: 34 slots, each of a data type from 1 to 18
 pub slot-count : length slotTypes ≡ 34
 unfolding slotTypes slotsFor integersOf isRate rateTypes among
 slot-count = refl

@@ -57,17 +57,6 @@ pub struct Store {
     pub entries: [Entry; ENTRIES],
 }
 
-// ---- key types
-
-pub enum KeyKind {
-    Integer,
-    Ipv4,
-    Ipv6,
-    Str,
-    Binary,
-    Unknown,
-}
-
 // ---- putting a table or an entry
 
 // A held entry. Key bytes past the longest key are left out.

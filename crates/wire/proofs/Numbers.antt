@@ -7,8 +7,8 @@ use lib.ListN.{length, getD, take, drop, length-append}
 use lib.Seq.{getD-append-add, drop-cons}
 use borrow.Author.Needs.{needs}
 use borrow.Author.Tests.{le-leb, lt-leb}
-use Rattle.wire.specs.declared.FourBytes.{FourBytes}
-use Rattle.wire.specs.declared.FourBytes.the-variants.{Value, Short}
+use Rattle.wire.specs.declared.fixed.FourBytes.{FourBytes}
+use Rattle.wire.specs.declared.fixed.FourBytes.the-variants.{Value, Short}
 use Rattle.wire.specs.Number.{numberOf, readNumber, encodeNumber}
 use Rattle.wire.specs.Value.{Bytes}
 use Rattle.lists.proofs.Cases.{lt-or-le, split}

@@ -7,8 +7,8 @@ use lib.Dec.{ltb}
 use lib.ListN.{length, getD, take, drop}
 use Rattle.wire.specs.declared.Int.{Int}
 use Rattle.wire.specs.declared.Int.the-variants as int
-use Rattle.wire.specs.declared.Field.{Field}
-use Rattle.wire.specs.declared.Field.the-variants as field
+use Rattle.wire.specs.declared.values.Field.{Field}
+use Rattle.wire.specs.declared.values.Field.the-variants as field
 use Rattle.wire.specs.Integer.{encodeInt, readInt}
 
 -- A list of bytes.

@@ -3,9 +3,14 @@ ghost use mathlib.Core.Path.{_≡_};
 ghost use Rattle.wire.specs.Integer.{encodeInt};
 ghost use Rattle.wire.specs.Number.{encodeNumber};
 ghost use Rattle.wire.specs.Room.{putResult, putRoom};
-use crate::Put;
 use crate::fixed::write_number;
 use crate::write_int;
+
+// What writing into lent room gives: the position after the bytes written, or no room for them.
+pub enum Put {
+    Next(usize),
+    NoRoom,
+}
 
 // `bytes` go to `room` from `at` on, if they fit whole.
 pub fn fit_bytes(room: &mut [u8], at: usize, bytes: &[u8]) -> Put

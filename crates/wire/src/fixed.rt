@@ -2,7 +2,12 @@
 ghost use mathlib.Core.Path.{_≡_};
 ghost use Prim.Native.Nat.{_<_};
 ghost use Rattle.wire.specs.Number.{readNumber, encodeNumber};
-use crate::FourBytes;
+
+// What reading a 4-byte number finds.
+pub enum FourBytes {
+    Value { value: u32, next: usize },
+    Short,
+}
 
 // A byte as a u32, with its bound.
 fn word(b: u8) -> u32

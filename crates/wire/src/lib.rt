@@ -99,35 +99,3 @@ pub fn write_int(v: u64) -> Encoded
         len: len + 1,
     }
 }
-
-// What reading a 4-byte number finds.
-pub enum FourBytes {
-    Value { value: u32, next: usize },
-    Short,
-}
-
-// What reading a value with a limit finds. OutOfRange: the integer overflows or is over the limit.
-pub enum Field {
-    Value { value: u64, next: usize },
-    Short,
-    OutOfRange,
-}
-
-// What a 64-bit word stands for as a server ID.
-pub enum Signed {
-    Id(i32),
-    OutOfRange,
-}
-
-// What reading a server ID finds.
-pub enum ServerId {
-    Id { id: i32, next: usize },
-    Short,
-    OutOfRange,
-}
-
-// What writing into lent room gives: the position after the bytes written, or no room for them.
-pub enum Put {
-    Next(usize),
-    NoRoom,
-}

@@ -4,19 +4,19 @@ use mathlib.Core.Path.{_≡_, refl, _∙_}
 use mathlib.Core.List.{List}
 use lib.ListN.{replicate}
 use borrow.Author.Needs.{needs}
-use Rattle.wire.specs.declared.Field.{Field}
-use Rattle.wire.specs.declared.Field.the-variants as field
+use Rattle.wire.specs.declared.values.Field.{Field}
+use Rattle.wire.specs.declared.values.Field.the-variants as field
 use Rattle.body.specs.declared.Reading.{Reading}
 use Rattle.body.specs.declared.Reading.the-variants as reading
 use Rattle.body.specs.declared.Word.{Word}
 use Rattle.body.specs.declared.Word.the-variants as word
 use Rattle.body.specs.declared.PartRead.{PartRead}
 use Rattle.body.specs.declared.PartRead.the-variants as part
-use Rattle.body.specs.declared.NamedRead.{NamedRead}
-use Rattle.body.specs.declared.NamedRead.the-variants as named-read
-use Rattle.body.specs.declared.ShapeRead.{ShapeRead}
-use Rattle.body.specs.declared.ShapeRead.the-variants as shape-read
-use Rattle.body.specs.declared.DefinitionBody.{DefinitionBody}
+use Rattle.body.specs.declared.definition.NamedRead.{NamedRead}
+use Rattle.body.specs.declared.definition.NamedRead.the-variants as named-read
+use Rattle.body.specs.declared.shape.ShapeRead.{ShapeRead}
+use Rattle.body.specs.declared.shape.ShapeRead.the-variants as shape-read
+use Rattle.body.specs.declared.definition.DefinitionBody.{DefinitionBody}
 use Rattle.body.specs.Fields.{andThen, integer, between, integerOf, bytes}
 use Rattle.body.specs.Bodies.{Named, named, namedFields, shapeFields, Times, timesFields, restFields, definitionFields}
 use Rattle.body.specs.Results.{fieldRead, wordRead, partRead, namedRead, shapeRead, readAs, definitionStruct, noDefinition, definitionBody}

@@ -7,14 +7,14 @@ use mathlib.Core.Bool.{Bool, true, false}
 use borrow.Author.Needs.{needs}
 use borrow.Author.Tests.{lt-ltb, le-ltb, lt-leb, le-leb, ne-eqb}
 use Rattle.lists.proofs.Cases.{lt-or-le, split, never}
-use Rattle.wire.specs.declared.Field.{Field}
-use Rattle.wire.specs.declared.Field.the-variants as field
-use Rattle.store.specs.declared.KeyKind.{KeyKind}
+use Rattle.wire.specs.declared.values.Field.{Field}
+use Rattle.wire.specs.declared.values.Field.the-variants as field
+use Rattle.store.specs.declared.types.KeyKind.{KeyKind}
 use Rattle.store.specs.Limits.{keyKind, isKnown, dataTypesOk, keyLengthOk}
 use Rattle.body.specs.Fields.{andThen, integer, between}
 use Rattle.body.specs.Bodies.{isKeyType, shapeFields}
 use Rattle.body.specs.Results.{fieldRead, shapeRead}
-use Rattle.body.specs.declared.ShapeRead.the-variants as shape-read
+use Rattle.body.specs.declared.shape.ShapeRead.the-variants as shape-read
 use Rattle.body.proofs.FieldLaws.{same-integer, field-got}
 use Rattle.body.proofs.Taken.{integer-passed, between-high}
 

@@ -6,21 +6,21 @@ use mathlib.Core.Bool.{true, false}
 use lib.ListN.{replicate}
 use lib.IntN.{pos, ℤ}
 use borrow.Author.Needs.{needs}
-use Rattle.wire.specs.declared.ServerId.the-variants as server
-use Rattle.store.specs.declared.KeyKind.{KeyKind}
+use Rattle.wire.specs.declared.values.ServerId.the-variants as server
+use Rattle.store.specs.declared.types.KeyKind.{KeyKind}
 use Rattle.store.specs.Limits.{keyKind, isString}
 use Rattle.body.specs.declared.PartRead.{PartRead}
 use Rattle.body.specs.declared.PartRead.the-variants as part
 use Rattle.body.specs.Fields.{andThen, bytes, numberRead, number4}
 use Rattle.body.specs.Bodies.{stringField, keyField, Data, dataFields, entryFields, updateFields, incrementalFields}
 use Rattle.body.specs.Results.{partRead, readAs, updateStruct, noUpdate, updateBody}
-use Rattle.wire.specs.declared.FourBytes.{FourBytes}
-use Rattle.wire.specs.declared.FourBytes.the-variants as number
+use Rattle.wire.specs.declared.fixed.FourBytes.{FourBytes}
+use Rattle.wire.specs.declared.fixed.FourBytes.the-variants as number
 use Rattle.wire.specs.Number.{readNumber}
 use Rattle.store.specs.declared.Table.{Table}
 use Rattle.body.specs.declared.Reading.{Reading}
 use Rattle.body.specs.declared.Reading.the-variants as reading
-use Rattle.body.specs.declared.UpdateBody.{UpdateBody}
+use Rattle.body.specs.declared.update.UpdateBody.{UpdateBody}
 use Rattle.body.proofs.FieldLaws.{so-true, so-false}
 
 -- ---- `read_key`

@@ -6,10 +6,10 @@ use mathlib.Core.Bool.{true, false}
 use lib.Dec.{lit≤}
 use lib.IntN.{pos, ℤ}
 use borrow.Author.Needs.{needs}
-use Rattle.wire.specs.declared.Field.{Field}
-use Rattle.wire.specs.declared.Field.the-variants as field
-use Rattle.wire.specs.declared.ServerId.{ServerId}
-use Rattle.wire.specs.declared.ServerId.the-variants as server
+use Rattle.wire.specs.declared.values.Field.{Field}
+use Rattle.wire.specs.declared.values.Field.the-variants as field
+use Rattle.wire.specs.declared.values.ServerId.{ServerId}
+use Rattle.wire.specs.declared.values.ServerId.the-variants as server
 use Rattle.wire.specs.Value.{readWidth}
 use Rattle.wire.specs.Server.{readServerId}
 use Rattle.store.specs.Limits.{present, isWide, widthOf}

@@ -14,7 +14,7 @@ use Rattle.lists.proofs.Cases.{and-true, and-false, or-true, or-false, or-secon
 use Rattle.lists.proofs.Every.{getD-any, drop-step}
 use Rattle.store.specs.declared.Table.{Table}
 use Rattle.store.specs.declared.Entry.{Entry}
-use Rattle.store.specs.declared.KeyKind.{KeyKind}
+use Rattle.store.specs.declared.types.KeyKind.{KeyKind}
 use Rattle.store.specs.Limits.{keyKind, isString, present, isWide, slotTypes}
 use Rattle.store.specs.Store.{tableHeld, entryHeld, noTable}
 use Rattle.store.specs.Sound.{entryTableOk, entryKeyLengthOk, keyRestZero, slotOk, slotsOk, valuesOk, entryTests, soundEntry}

@@ -12,7 +12,7 @@ use Rattle.lists.specs.Lists.{allOf, every}
 use Rattle.lists.proofs.Cases.{and-true, and-false, unless-true, all-true, all-false, all-only, all-stop, all-next}
 use Rattle.lists.proofs.Testing.{Testing, test-start, test-stop, test-next, test-end}
 use Rattle.store.specs.declared.Table.{Table}
-use Rattle.store.specs.declared.KeyKind.{KeyKind}
+use Rattle.store.specs.declared.types.KeyKind.{KeyKind}
 use Rattle.store.specs.Limits.{keyKind, isKnown, keyLengthOk, dataTypesOk}
 use Rattle.store.specs.Store.{tableHeld}
 use Rattle.store.specs.Sound.{nameLengthOk, keyTypeOk, tableKeyLengthOk, tableTypesOk, timedOk, tableTests, soundTable}

@@ -9,8 +9,8 @@ use lib.ListN.{length, getD, take, drop, set, replicate, length-set, length-appe
 use lib.Seq.{paste, paste-zero, paste-suc, take-length, take-append-seam, length-take-le, take-at, drop-at, drop-drop}
 use borrow.Author.Needs.{needs}
 use borrow.Author.Tests.{le-leb, lt-leb}
-use Rattle.wire.specs.declared.Put.{Put}
-use Rattle.wire.specs.declared.Put.the-variants as put
+use Rattle.wire.specs.declared.buffer.Put.{Put}
+use Rattle.wire.specs.declared.buffer.Put.the-variants as put
 use Rattle.wire.specs.declared.Encoded.{Encoded}
 use Rattle.wire.specs.Integer.{encodeInt, encodedInt}
 use Rattle.wire.specs.Number.{encodeNumber}

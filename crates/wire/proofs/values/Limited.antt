@@ -10,8 +10,8 @@ use borrow.Author.Needs.{needs}
 use borrow.Author.Tests.{lt-ltb, le-ltb}
 use Rattle.wire.specs.declared.Int.{Int}
 use Rattle.wire.specs.declared.Int.the-variants as int
-use Rattle.wire.specs.declared.Field.{Field}
-use Rattle.wire.specs.declared.Field.the-variants as field
+use Rattle.wire.specs.declared.values.Field.{Field}
+use Rattle.wire.specs.declared.values.Field.the-variants as field
 use Rattle.wire.specs.Integer.{encodeInt, readInt}
 use Rattle.wire.specs.Value.{limited, readLimited, readWidth, WidthRule}
 use Rattle.lists.proofs.Cases.{lt-or-le, split}

@@ -15,10 +15,10 @@ use mir.Syntax.{w32, w64}
 use mir.Val.{Fits, SFits, toZ, ofZ}
 use Rattle.wire.specs.declared.Int.{Int}
 use Rattle.wire.specs.declared.Int.the-variants as int
-use Rattle.wire.specs.declared.Signed.{Signed}
-use Rattle.wire.specs.declared.Signed.the-variants as signed
-use Rattle.wire.specs.declared.ServerId.{ServerId}
-use Rattle.wire.specs.declared.ServerId.the-variants as server
+use Rattle.wire.specs.declared.values.Signed.{Signed}
+use Rattle.wire.specs.declared.values.Signed.the-variants as signed
+use Rattle.wire.specs.declared.values.ServerId.{ServerId}
+use Rattle.wire.specs.declared.values.ServerId.the-variants as server
 use Rattle.wire.specs.Integer.{encodeInt, readInt}
 use Rattle.wire.specs.Server.{serverWord, serverIdOf, serverBefore, serverOf, readServerId}
 use Rattle.lists.proofs.Cases.{lt-or-le, split}
