@@ -9,8 +9,7 @@ use lib.ListN.{length, length-append}
 use lib.IntN.{pos}
 use lib.Dec.{eqb}
 use borrow.Author.Tests.{le-leb, lt-leb, eq-eqb, ne-eqb}
-use Rattle.lists.proofs.Cases.{lt-or-le, eq-or-ne}
-use Rattle.wire.proofs.Order.{split}
+use Rattle.lists.proofs.Cases.{lt-or-le, eq-or-ne, split}
 use Rattle.wire.proofs.Behind.{int-behind, number-behind, server-behind}
 use Rattle.store.specs.declared.Table.{Table}
 use Rattle.store.specs.Limits.{nameMax, keyKind, isString, keyLengthOk, dataTypesOk, present, widthOf, slotTypes, rateTypes}
@@ -172,13 +171,13 @@ acknowledgement-behind body more a next e =
 -- ---- a definition that has its expiry
 -- a first field and what follows it, where both were read
 module _ {A B : Type 0} where
-  record Step (x : Read A) (f : A → ℕ → Read B) (b : B) (next : ℕ) : Type 0 where
+  record Through (x : Read A) (f : A → ℕ → Read B) (b : B) (next : ℕ) : Type 0 where
     value : A
     position : ℕ
     first : x ≡ got value position
     later : f value position ≡ got b next
 
-  stepped : (x : Read A) (f : A → ℕ → Read B) (b : B) (next : ℕ) → andThen x f ≡ got b next → Step x f b next
+  stepped : (x : Read A) (f : A → ℕ → Read B) (b : B) (next : ℕ) → andThen x f ≡ got b next → Through x f b next
   unfolding andThen
   stepped (got a n) f b next e = record { value = a; position = n; first = refl; later = e }
   stepped short f b next e = let z : _≡_ {A = ℕ} 0 1 = cc in absurd (omega arith)

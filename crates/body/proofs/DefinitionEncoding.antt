@@ -18,8 +18,9 @@ use Rattle.store.proofs.Rules.{rate-count}
 use Rattle.body.specs.Fields.{got, forEach, integer, between, integerOf, spanIn, bytes}
 use Rattle.body.specs.Bodies.{Named, namedFields, isKeyType, Shape, shapeFields, pairField, periodField, periodFields, Times, noTimes, timesThere, timesFields, Definition, defined, restFields, definitionFields}
 use Rattle.body.specs.Encodings.{eachBytes, periodBytes, timesBytes, definitionBytes}
-use Rattle.body.proofs.Taken.{Holds, held, Along, along-at}
-use Rattle.body.proofs.Encoding.{holds-cond, holds-got, holds-each, holds-both, holds-then, Stands, stands-none, stands-then, Encoded, Passed, integer-passed, integer-encoded, width-encoded, PartOf, bytes-encoded, each-encoded}
+use Rattle.body.proofs.Holds.{Holds, held, holds-cond, holds-got, holds-each, holds-both, holds-then}
+use Rattle.body.proofs.Taken.{Along, along-at}
+use Rattle.body.proofs.Encoding.{Stands, stands-none, stands-then, Encoded, Passed, integer-stands, integer-encoded, width-encoded, PartHere, bytes-encoded, each-encoded}
 
 -- a table with the name, the shape and the times that were read
 pub record TableRead (body : List ℕ) (d : Definition) (t : Table) : Type 0 where
@@ -59,7 +60,7 @@ module _ (s : List ℕ) (b : Bytes s) where
       let Q : Named → ℕ → Type 0 = Encoded (nameBytes s) s at in
       holds-then (Encoded encodeInt s at) Q (integerOf 32 s at) _ (width-encoded s b 32 at) λ id at₁ p.
       holds-then (Encoded encodeInt s at₁) Q (integer (between 1 nameMax) s at₁) _ (integer-encoded s b (between 1 nameMax) at₁) λ len at₂ q.
-      holds-then (PartOf s len at₂) Q (bytes len s at₂) _ (bytes-encoded s len at₂) λ name at₃ r.
+      holds-then (PartHere s len at₂) Q (bytes len s at₂) _ (bytes-encoded s len at₂) λ name at₃ r.
       let l : Stands s (encodeInt (length (spanIn s name))) at₁ at₂ = rw (r .size) q in
       holds-got Q _ at₃ (stands-then s p (stands-then s l (r .here)))
 
@@ -76,7 +77,7 @@ module _ (s : List ℕ) (b : Bytes s) where
   unfolding pairField
   pair-encoded t at =
       let Q : ℕ → ℕ → Type 0 = Encoded (λ period. encodeInt t ++ encodeInt period) s at in
-      holds-then (Passed (λ n. eqb n t) s at) Q (integer (λ n. eqb n t) s at) _ (integer-passed s b (λ n. eqb n t) at) λ n at₁ p.
+      holds-then (Passed (λ n. eqb n t) s at) Q (integer (λ n. eqb n t) s at) _ (integer-stands s b (λ n. eqb n t) at) λ n at₁ p.
       holds-each _ Q (integerOf 32 s at₁) (width-encoded s b 32 at₁) λ period next q.
       let h : Stands s (encodeInt t) at at₁ = rw (eqb-true n t (p .passed)) at (p .here) in
       stands-then s h q

@@ -2,59 +2,28 @@
 use Prim.Native.Nat.{ℕ, _+_, _≤_}
 use mathlib.Core.Path.{_≡_, refl, sym, ap, _∙_}
 use mathlib.Core.List.{List, [], _∷_, _++_, append-assoc}
-use mathlib.Core.Bool.{Bool, true, false, cond}
+use mathlib.Core.Bool.{Bool, true}
 use lib.ListN.{length, take, drop, take-append-drop}
 use lib.Seq.{drop-drop}
 use borrow.Author.Tests.{le-leb, lt-leb}
-use Rattle.lists.proofs.Cases.{lt-or-le}
+use Rattle.lists.proofs.Cases.{lt-or-le, split}
 use Rattle.wire.specs.declared.Int.{Int}
 use Rattle.wire.specs.declared.Int.the-variants as int
-use Rattle.wire.specs.declared.Number.{Number}
-use Rattle.wire.specs.declared.Number.the-variants as number
-use Rattle.wire.specs.declared.ServerId.{ServerId}
-use Rattle.wire.specs.declared.ServerId.the-variants as server
+use Rattle.wire.specs.declared.fixed.FourBytes.{FourBytes}
+use Rattle.wire.specs.declared.fixed.FourBytes.the-variants as number
+use Rattle.wire.specs.declared.values.ServerId.{ServerId}
+use Rattle.wire.specs.declared.values.ServerId.the-variants as server
 use Rattle.wire.specs.Integer.{encodeInt, readInt}
 use Rattle.wire.specs.Number.{encodeNumber, readNumber}
 use Rattle.wire.specs.Server.{serverWord, readServerId}
 use Rattle.wire.specs.Value.{Bytes}
-use Rattle.wire.proofs.Order.{split}
 use Rattle.wire.proofs.RoundTrip.{one-encoding}
 use Rattle.wire.proofs.Numbers.{number-own, number-length}
-use Rattle.wire.proofs.Server.{server-own}
-use Rattle.body.specs.Fields.{Read, got, short, outside, Reader, andThen, forEach, tested, integer, integerOf, Span, spanIn, bytes, numberRead, number4, serverRead, serverId}
+use Rattle.wire.proofs.values.Server.{server-own}
+use Rattle.body.specs.Fields.{got, outside, Reader, forEach, tested, integer, integerOf, Span, spanIn, bytes, numberRead, number4, serverRead, serverId}
 use Rattle.body.specs.Encodings.{eachBytes}
-use Rattle.body.proofs.Taken.{Holds}
+use Rattle.body.proofs.Holds.{Holds, holds-cond, holds-got, holds-each, holds-then}
 use Rattle.body.proofs.Spans.{span-length}
-
--- ---- where a value was read: P of it and of the position after it
-module _ {A : Type 0} (P : A → ℕ → Type 0) where
-  pub holds-cond : (b : Bool) (x y : Read A) → (b ≡ true → Holds P x) → (b ≡ false → Holds P y) → Holds P (cond b x y)
-  holds-cond true x y f g = f refl
-  holds-cond false x y f g = g refl
-
-  pub holds-got : (a : A) (next : ℕ) → P a next → Holds P (got a next)
-  unfolding Holds
-  holds-got a next h = h
-
-  pub holds-each : (Q : A → ℕ → Type 0) (x : Read A) → Holds P x → ((a : A) (next : ℕ) → P a next → Q a next) → Holds Q x
-  unfolding Holds
-  holds-each Q (got a next) h f = f a next h
-  holds-each Q short h f = tt
-  holds-each Q outside h f = tt
-
-module _ {A : Type 0} (P Q : A → ℕ → Type 0) where
-  pub holds-both : (x : Read A) → Holds P x → Holds Q x → Holds (λ a next. P a next × Q a next) x
-  unfolding Holds
-  holds-both (got a next) h k = (h, k)
-  holds-both short h k = tt
-  holds-both outside h k = tt
-
-module _ {A B : Type 0} (P : A → ℕ → Type 0) (Q : B → ℕ → Type 0) where
-  pub holds-then : (x : Read A) (f : A → ℕ → Read B) → Holds P x → ((a : A) (n : ℕ) → P a n → Holds Q (f a n)) → Holds Q (andThen x f)
-  unfolding Holds andThen
-  holds-then (got a n) f h k = k a n h
-  holds-then short f h k = tt
-  holds-then outside f h k = tt
 
 -- ---- bytes in a body s: those from `at` on are bs, and then those from `next` on
 pub record Stands (s bs : List ℕ) (at next : ℕ) : Type 0 where
@@ -98,18 +67,18 @@ module _ (s : List ℕ) (b : Bytes s) where
   integer-read ok at int.Short q = tt
   integer-read ok at int.Overflow q = tt
 
-  pub integer-passed : (ok : ℕ → Bool) (at : ℕ) → Holds (Passed ok s at) (integer ok s at)
+  pub integer-stands : (ok : ℕ → Bool) (at : ℕ) → Holds (Passed ok s at) (integer ok s at)
   unfolding integer
-  integer-passed ok at = integer-read ok at (readInt s at) refl
+  integer-stands ok at = integer-read ok at (readInt s at) refl
 
   pub integer-encoded : (ok : ℕ → Bool) (at : ℕ) → Holds (Encoded encodeInt s at) (integer ok s at)
-  integer-encoded ok at = holds-each _ _ (integer ok s at) (integer-passed ok at) λ v next r. r .here
+  integer-encoded ok at = holds-each _ _ (integer ok s at) (integer-stands ok at) λ v next r. r .here
 
   pub width-encoded : (k at : ℕ) → Holds (Encoded encodeInt s at) (integerOf k s at)
   unfolding integerOf
   width-encoded k at = integer-encoded _ at
 
-  number-read : (at : ℕ) (i : Number) → readNumber s at ≡ i → Holds (Encoded encodeNumber s at) (numberRead i)
+  number-read : (at : ℕ) (i : FourBytes) → readNumber s at ≡ i → Holds (Encoded encodeNumber s at) (numberRead i)
   unfolding numberRead Holds
   number-read at (number.Value v next) q =
       let o = number-own s at v next b q in
@@ -134,7 +103,7 @@ module _ (s : List ℕ) (b : Bytes s) where
   server-encoded at = server-read at (readServerId s at) refl
 
 -- a part of n bytes
-pub record PartOf (s : List ℕ) (n at : ℕ) (span : Span) (next : ℕ) : Type 0 where
+pub record PartHere (s : List ℕ) (n at : ℕ) (span : Span) (next : ℕ) : Type 0 where
   pub size : length (spanIn s span) ≡ n
   pub here : Stands s (spanIn s span) at next
 
@@ -150,7 +119,7 @@ module _ (s : List ℕ) (n at : ℕ) where
     unfolding spanIn
     part-bytes = refl
 
-    part-here : PartOf s n at part (at + n)
+    part-here : PartHere s n at part (at + n)
     part-here = record {
       size = part-size;
       here =
@@ -158,7 +127,7 @@ module _ (s : List ℕ) (n at : ℕ) where
           (ap (λ (k : ℕ). take k (drop at s)) part-size ∙ part-bytes);
     }
 
-  pub bytes-encoded : Holds (PartOf s n at) (bytes n s at)
+  pub bytes-encoded : Holds (PartHere s n at) (bytes n s at)
   unfolding Holds bytes
   bytes-encoded =
       split (lt-or-le (length s) (at + n))

@@ -1,35 +1,25 @@
 -- Each way through a field reader, in the form of what it has to show.
 use Prim.Native.Nat.{ℕ, _+_, _-_, _^_, _≤_, _<_}
 use native.Mathlib.Omega.{arith}
-use native.Mathlib.Nat.{pow-le-pow-right}
 use mathlib.Core.Path.{_≡_, refl, sym, _∙_}
 use mathlib.Core.List.{List}
 use mathlib.Core.Bool.{Bool, true, false}
-use lib.Dec.{ltb, eqb, lit<}
+use lib.Dec.{ltb, lit≤}
 use lib.ListN.{length}
-use lib.IntN.{pos}
 use borrow.Author.Needs.{needs}
-use borrow.Author.Tests.{lt-ltb, le-ltb, lt-leb, le-leb, eq-eqb, ne-eqb}
-use Rattle.lists.proofs.Cases.{lt-or-le}
+use borrow.Author.Tests.{lt-ltb, le-ltb, lt-leb, le-leb}
+use Rattle.lists.proofs.Cases.{lt-or-le, split}
 use Rattle.wire.specs.declared.Int.{Int}
 use Rattle.wire.specs.declared.Int.the-variants as int
-use Rattle.wire.specs.declared.Field.{Field}
-use Rattle.wire.specs.declared.Field.the-variants as field
-use Rattle.wire.specs.declared.ServerId.{ServerId}
-use Rattle.wire.specs.declared.ServerId.the-variants as server
+use Rattle.wire.specs.declared.values.Field.{Field}
+use Rattle.wire.specs.declared.values.Field.the-variants as field
 use Rattle.wire.specs.Integer.{readInt}
-use Rattle.wire.specs.Value.{limited, readLimited, readWidth}
-use Rattle.wire.specs.Server.{readServerId}
-use Rattle.wire.proofs.Order.{split}
-use Rattle.wire.proofs.Limited.{limited-value}
-use Rattle.store.specs.declared.KeyKind.{KeyKind}
-use Rattle.store.specs.Limits.{keyKind, isKnown, isString, dataTypesOk, present, isWide, widthOf}
+use Rattle.wire.specs.Value.{readWidth, WidthRule}
+use Rattle.wire.proofs.values.Limited.{width-rule}
 use Rattle.body.specs.declared.Word.{Word}
 use Rattle.body.specs.declared.Word.the-variants as word
-use Rattle.body.specs.declared.Part.{Part}
-use Rattle.body.specs.declared.Part.the-variants as part
-use Rattle.body.specs.Fields.{Read, got, short, outside, andThen, tested, integer, between, integerOf, bytes, serverRead, serverId}
-use Rattle.body.specs.Bodies.{isKeyType, pairField, periodField, stringField, keyField, serverField, slotField}
+use Rattle.body.specs.declared.PartRead.the-variants as part
+use Rattle.body.specs.Fields.{Read, got, short, outside, tested, integer, between, integerOf, bytes}
 use Rattle.body.specs.Results.{fieldRead, wordRead, partRead}
 
 -- ---- what a test in the code says, where b is what the called function gives
@@ -82,46 +72,27 @@ pub same-integer : (p q : ℕ → Bool) → ((n : ℕ) → p n ≡ q n) → (s :
 unfolding integer
 same-integer p q h s at = same-tested p q h (readInt s at)
 
--- an exact value
-pub exact : (t n : ℕ) → between t t n ≡ eqb n t
-unfolding between
-exact t n =
-    split (lt-or-le n t)
-    (λ l. rw (lt-leb t n l, ne-eqb n t (omega arith)))
-    (λ l.
-    split (lt-or-le t n)
-    (λ k. rw (le-leb t n l, lt-leb n t k, ne-eqb n t (omega arith)))
-    (λ k. rw (le-leb t n l, le-leb n t k, eq-eqb n t (omega arith))))
+-- ---- an integer of k bits: what wire's reader of that width gives, by the one rule over the width
+module _ (k : ℕ) (h : k ≤ 64) (s : List ℕ) (at : ℕ) where
+  rule : WidthRule k
+  rule = width-rule k h
 
--- "Data types are bits 0 to 18"
-pub types-between : (n : ℕ) → between 0 0x7ffff n ≡ dataTypesOk n
-unfolding between dataTypesOk
-types-between n =
-    split (lt-or-le 0x7ffff n)
-    (λ l. rw (le-leb 0 n (omega arith), lt-leb n 0x7ffff l, le-ltb n (2 ^ 19) (omega arith)))
-    (λ l. rw (le-leb 0 n (omega arith), le-leb n 0x7ffff l, lt-ltb n (2 ^ 19) (omega arith)))
+  width-read : (i : Int) → readInt s at ≡ i → fieldRead (readWidth k s at) ≡ tested (λ v. ltb v (2 ^ k)) i
+  unfolding tested fieldRead
+  width-read (int.Value v next) e =
+      split (lt-or-le v (2 ^ k))
+      (λ l. rw (rule .within s at v next e l, lt-ltb v (2 ^ k) l))
+      (λ l. rw (rule .over s at v next e l, le-ltb v (2 ^ k) l))
+  width-read int.Short e = rw (rule .short s at e)
+  width-read int.Overflow e = rw (rule .overflow s at e)
 
--- ---- an integer of k bits: what wire's reader of that width gives
-width-tested : (k : ℕ) (i : Int) → fieldRead (limited (2 ^ k - 1) i) ≡ tested (λ v. ltb v (2 ^ k)) i
-unfolding limited tested fieldRead
-width-tested k (int.Value v next) =
-    let z : 0 ≤ k = omega arith in
-    split (lt-or-le (2 ^ k - 1) v)
-    (λ l. rw (lt-ltb (2 ^ k - 1) v l, le-ltb v (2 ^ k) (omega arith)))
-    (λ l. rw (le-ltb (2 ^ k - 1) v l, lt-ltb v (2 ^ k) (omega (arith, pow-le-pow-right {n = 2} (lit< tt) z))))
-width-tested k int.Short = refl
-width-tested k int.Overflow = refl
+  pub of-width : (r : Field) → r ≡ readWidth k s at → fieldRead r ≡ integerOf k s at
+  unfolding integerOf integer
+  of-width r p = rw p (width-read (readInt s at) refl)
 
-pub of-width : (k : ℕ) (s : List ℕ) (at : ℕ) (r : Field) → r ≡ readWidth k s at → fieldRead r ≡ integerOf k s at
-unfolding readWidth readLimited integerOf integer
-of-width k s at r p = rw p (width-tested k (readInt s at))
-
--- a value of k bits is below 2^k
-pub width-small : (k : ℕ) (s : List ℕ) (at : ℕ) (r : Field) → r ≡ readWidth k s at → (v next : ℕ) → r ≡ field.Value v next → v < 2 ^ k
-unfolding readWidth
-width-small k s at r p v next e =
-    let z : 0 ≤ k = omega arith in
-    omega (arith, limited-value (2 ^ k - 1) s at v next (sym p ∙ e), pow-le-pow-right {n = 2} (lit< tt) z)
+  -- a value of k bits is below 2^k
+  pub width-small : (r : Field) → r ≡ readWidth k s at → (v next : ℕ) → r ≡ field.Value v next → v < 2 ^ k
+  width-small r p v next e = rule .small s at v next (sym p ∙ e)
 
 -- ---- what an enum says was read
 pub field-got : (x : Read ℕ) (r : Field) → fieldRead r ≡ x → (v next : ℕ) → r ≡ field.Value v next → x ≡ got v next
@@ -152,18 +123,18 @@ word-over x r p e = sym p ∙ rw e
 module _ (s : List ℕ) (at : ℕ) (r : Field) (p : r ≡ readWidth 32 s at) where
   pub word-value : (v next : ℕ) → r ≡ field.Value v next → wordRead (word.Value v next) ≡ integerOf 32 s at
   unfolding wordRead
-  word-value v next e = sym (field-got (integerOf 32 s at) r (of-width 32 s at r p) v next e)
+  word-value v next e = sym (field-got (integerOf 32 s at) r (of-width 32 (lit≤ tt) s at r p) v next e)
 
   pub word-short : r ≡ field.Short → wordRead word.Short ≡ integerOf 32 s at
   unfolding wordRead
-  word-short e = sym (field-short (integerOf 32 s at) r (of-width 32 s at r p) e)
+  word-short e = sym (field-short (integerOf 32 s at) r (of-width 32 (lit≤ tt) s at r p) e)
 
   pub word-out : r ≡ field.OutOfRange → wordRead word.OutOfRange ≡ integerOf 32 s at
   unfolding wordRead
-  word-out e = sym (field-out (integerOf 32 s at) r (of-width 32 s at r p) e)
+  word-out e = sym (field-out (integerOf 32 s at) r (of-width 32 (lit≤ tt) s at r p) e)
 
   pub word-fits : (v next : ℕ) → r ≡ field.Value v next → v < 2 ^ 32
-  word-fits v next e = width-small 32 s at r p v next e
+  word-fits v next e = width-small 32 (lit≤ tt) s at r p v next e
 
 pub ruleset word-laws = (needs, word-value, word-short, word-out, word-fits)
 
@@ -182,93 +153,3 @@ module _ (n : ℕ) (s : List ℕ) (at : ℕ) where
   enough h k = let l : at + n ≤ length s = omega arith in rw (le-leb (at + n) (length s) l)
 
 pub ruleset part-laws = (needs, past, few, enough)
-
--- ---- `is_key_type`
-pub no-type : (n : ℕ) → 255 < n → false ≡ isKeyType n
-unfolding isKeyType keyKind
-no-type n h =
-    rw (ne-eqb n 0 (omega arith), ne-eqb n 1 (omega arith), ne-eqb n 2 (omega arith), ne-eqb n 3 (omega arith), ne-eqb n 4 (omega arith))
-
-pub a-type : (n : ℕ) (kind : KeyKind) (r : Bool) → kind ≡ keyKind n → r ≡ isKnown kind → r ≡ isKeyType n
-unfolding isKeyType
-a-type n kind r e q = q ∙ rw e
-
-pub ruleset key-type-laws = (needs, no-type, a-type)
-
--- ---- a field that is there only where its data type is present
-module _ (types t : ℕ) (s : List ℕ) (at : ℕ) where
-  pub slot-absent : present types t ≡ false → fieldRead (field.Value 0 at) ≡ slotField types t s at
-  unfolding slotField fieldRead
-  slot-absent e = rw e
-
-  pub slot-wide : (r : Field) → present types t ≡ true → isWide t ≡ true → r ≡ readWidth 64 s at → fieldRead r ≡ slotField types t s at
-  unfolding slotField widthOf
-  slot-wide r e w p = rw (e, w) (of-width 64 s at r p)
-
-  pub slot-narrow : (r : Field) → present types t ≡ true → isWide t ≡ false → r ≡ readWidth 32 s at → fieldRead r ≡ slotField types t s at
-  unfolding slotField widthOf
-  slot-narrow r e w p = rw (e, w) (of-width 32 s at r p)
-
-  pub period-absent : present types t ≡ false → wordRead (word.Value 0 at) ≡ periodField types t s at
-  unfolding periodField wordRead
-  period-absent e = rw e
-
-  pub period-there : (r : Word) → present types t ≡ true → wordRead r ≡ pairField t s at → wordRead r ≡ periodField types t s at
-  unfolding periodField
-  period-there r e p = rw e p
-
-module _ (types : ℕ) (s : List ℕ) (at : ℕ) where
-  pub server-absent : present types 0 ≡ false → serverRead (server.Id (pos 0) at) ≡ serverField types s at
-  unfolding serverField serverRead
-  server-absent e = rw e
-
-  pub server-there : (r : ServerId) → present types 0 ≡ true → r ≡ readServerId s at → serverRead r ≡ serverField types s at
-  unfolding serverField serverId
-  server-there r e p = rw (e, p)
-
-pub ruleset presence-laws =
-    (needs, so-true, so-false, slot-absent, slot-wide, slot-narrow, period-absent, period-there, server-absent, server-there)
-
--- ---- `read_pair`, where r is what was read of the number
-module _ (t : ℕ) (s : List ℕ) (at : ℕ) (r : Field) (p : fieldRead r ≡ integer (between t t) s at) where
-  number-read : fieldRead r ≡ integer (λ n. eqb n t) s at
-  number-read = p ∙ same-integer (between t t) (λ n. eqb n t) (exact t) s at
-
-  pub pair-short : r ≡ field.Short → wordRead word.Short ≡ pairField t s at
-  unfolding pairField andThen wordRead fieldRead
-  pair-short e = rw (← number-read, e)
-
-  pub pair-out : r ≡ field.OutOfRange → wordRead word.OutOfRange ≡ pairField t s at
-  unfolding pairField andThen wordRead fieldRead
-  pair-out e = rw (← number-read, e)
-
-  pub pair-number : (v next : ℕ) → r ≡ field.Value v next → (w : Word) → wordRead w ≡ integerOf 32 s next → wordRead w ≡ pairField t s at
-  unfolding pairField andThen fieldRead
-  pair-number v next e w q = rw (← number-read, e) q
-
-pub ruleset pair-laws = (needs, pair-short, pair-out, pair-number)
-
--- ---- `read_string` and `read_key`
-module _ (n : ℕ) (s : List ℕ) (at : ℕ) (r : Field) (p : fieldRead r ≡ integer (between 0 n) s at) where
-  pub string-short : r ≡ field.Short → partRead part.Short ≡ stringField n s at
-  unfolding stringField andThen partRead fieldRead
-  string-short e = rw (← p, e)
-
-  pub string-out : r ≡ field.OutOfRange → partRead part.OutOfRange ≡ stringField n s at
-  unfolding stringField andThen partRead fieldRead
-  string-out e = rw (← p, e)
-
-  pub string-bytes : (len next : ℕ) → r ≡ field.Value len next → (q : Part) → partRead q ≡ bytes len s next → partRead q ≡ stringField n s at
-  unfolding stringField andThen fieldRead
-  string-bytes len next e q h = rw (← p, e) h
-
-module _ (keyType n : ℕ) (s : List ℕ) (at : ℕ) (kind : KeyKind) (k : kind ≡ keyKind keyType) (q : Part) where
-  pub key-string : isString kind ≡ true → partRead q ≡ stringField n s at → partRead q ≡ keyField keyType n s at
-  unfolding keyField
-  key-string e h = rw (← k, e) h
-
-  pub key-bytes : isString kind ≡ false → partRead q ≡ bytes n s at → partRead q ≡ keyField keyType n s at
-  unfolding keyField
-  key-bytes e h = rw (← k, e) h
-
-pub ruleset key-laws = (needs, so-true, so-false, string-short, string-out, string-bytes, key-string, key-bytes)

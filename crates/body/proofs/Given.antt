@@ -1,12 +1,12 @@
 -- From what a public function gave to what was read of the body.
 use Prim.Native.Nat.{ℕ}
 use mathlib.Core.Path.{_≡_, refl, sym, ap, _∙_}
-use Rattle.wire.specs.declared.Field.{Field}
-use Rattle.wire.specs.declared.Field.the-variants as field
+use Rattle.wire.specs.declared.values.Field.{Field}
+use Rattle.wire.specs.declared.values.Field.the-variants as field
 use Rattle.body.specs.declared.Reading.{Reading}
 use Rattle.body.specs.declared.Reading.the-variants as reading
-use Rattle.body.specs.declared.DefinitionBody.{DefinitionBody}
-use Rattle.body.specs.declared.UpdateBody.{UpdateBody}
+use Rattle.body.specs.declared.definition.DefinitionBody.{DefinitionBody}
+use Rattle.body.specs.declared.update.UpdateBody.{UpdateBody}
 use Rattle.body.specs.declared.AcknowledgementBody.{AcknowledgementBody}
 use Rattle.body.specs.declared.AcknowledgementBody.the-variants as acked
 use Rattle.body.specs.Fields.{Read, got, short, outside}
@@ -65,18 +65,6 @@ update-as outside = refl
 module _ (x : Read Update) (r : UpdateBody) (p : r ≡ updateBody x) where
   pub update-given : x ≡ readAs (r .reading) (updateIn r)
   update-given = rw p (update-as x)
-
-  pub update-whole : (next : ℕ) → r .reading ≡ reading.Whole next → x ≡ got (updateIn r) next
-  unfolding readAs
-  update-whole next e = update-given ∙ ap (λ (h : Reading). readAs h (updateIn r)) e
-
-  pub update-short : r .reading ≡ reading.Short → x ≡ short
-  unfolding readAs
-  update-short e = update-given ∙ ap (λ (h : Reading). readAs h (updateIn r)) e
-
-  pub update-out : r .reading ≡ reading.OutOfRange → x ≡ outside
-  unfolding readAs
-  update-out e = update-given ∙ ap (λ (h : Reading). readAs h (updateIn r)) e
 
 -- ---- a switch
 switch-as : (x : Read ℕ) → x ≡ fieldRead (switchBody x)

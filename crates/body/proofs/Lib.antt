@@ -1,9 +1,8 @@
+pub mod Holds
 pub mod FieldLaws
 pub mod Filling
 pub mod Taken
-pub mod DefinitionLaws
 pub mod OtherLaws
-pub mod UpdateLaws
 pub mod Within
 pub mod Behind
 pub mod Given

@@ -19,7 +19,7 @@ use Rattle.wire.specs.Server.{serverWord, serverIdOf}
 use Rattle.wire.proofs.Advance.{advance}
 use Rattle.wire.proofs.RoundTrip.{round-trip}
 use Rattle.wire.proofs.Numbers.{number-trip}
-use Rattle.wire.proofs.Server.{word-small, id-of-word}
+use Rattle.wire.proofs.values.Server.{word-small, id-of-word}
 use Rattle.store.specs.declared.Table.{Table}
 use Rattle.store.specs.declared.Entry.{Entry}
 use Rattle.store.specs.Limits.{keyKind, isString, present, slotTypes, rateTypes}
@@ -89,11 +89,11 @@ server-once types y z p q l k a b e =
     (λ h. let f : p ≡ q = rw (h) at e in (a h ∙ sym (b h), f))
 
 -- a number of at most 64 bits, 0 where its data type isn't present
-record Number (types t v : ℕ) : Type 0 where
+record IfPresent (types t v : ℕ) : Type 0 where
   small : v < 2 ^ 64
   none : present types t ≡ false → v ≡ 0
 
-value-once : (types t v w : ℕ) (p q : List ℕ) → Number types t v → Number types t w → valueBytes types t v ++ p ≡ valueBytes types t w ++ q → (v ≡ w) × (p ≡ q)
+value-once : (types t v w : ℕ) (p q : List ℕ) → IfPresent types t v → IfPresent types t w → valueBytes types t v ++ p ≡ valueBytes types t w ++ q → (v ≡ w) × (p ≡ q)
 unfolding valueBytes
 value-once types t v w p q a b e =
     by-test (present types t)
@@ -153,9 +153,9 @@ module _ (t : Table) where
   unfolding entryKeyLengthOk
   key-fixed e h q = eqb-true (e .«key_len») (t .«key_len») (sym (cond-false _ _ _ q) ∙ h .keyLength)
 
-  numbers : (e : Entry) → Fitting t e → Along (Number types) slotTypes (e .values)
+  numbers : (e : Entry) → Fitting t e → Along (IfPresent types) slotTypes (e .values)
   numbers e h =
-      along-from (Number types) slotTypes (e .values) (h .values .size ∙ sym slot-count)
+      along-from (IfPresent types) slotTypes (e .values) (h .values .size ∙ sym slot-count)
       (λ i l. record { small = h .values .small i; none = h .absent i (omega (arith, slot-count)) })
 
   module _ (e f : Entry) (h : Fitting t e) (k : Fitting t f) where
@@ -179,7 +179,7 @@ module _ (t : Table) where
         let b : (yk ++ (ys ++ yv)) ++ q ≡ yk ++ (ys ++ (yv ++ q)) = simp append-assoc in
         let r₁ = key-once (t .«key_type») (keyOf e) (keyOf f) (xs ++ (xv ++ p)) (ys ++ (yv ++ q)) (key-small e h) (key-small f k) lengths-same (sym a ∙ (z ∙ b)) in
         let r₂ = server-once types (e .«server_id») (f .«server_id») (xv ++ p) (yv ++ q) (h .server) (k .server) (h .noServer) (k .noServer) (r₁ .1) in
-        let r₃ = each-once (valueBytes types) (Number types) (value-once types) slotTypes (e .values) (f .values) p q (numbers e h) (numbers f k) (r₂ .1) in
+        let r₃ = each-once (valueBytes types) (IfPresent types) (value-once types) slotTypes (e .values) (f .values) p q (numbers e h) (numbers f k) (r₂ .1) in
         record { key = r₁ .0; server = r₂ .0; values = r₃ .0 }
 
     pub incremental-once : (p q : List ℕ) → incrementalBytes t e ++ p ≡ incrementalBytes t f ++ q → SameFields e f
@@ -195,7 +195,7 @@ module _ (t : Table) where
 
 -- ---- a table
 
-period-once : (types t v w : ℕ) (p q : List ℕ) → Number types t v → Number types t w → periodBytes types t v ++ p ≡ periodBytes types t w ++ q → (v ≡ w) × (p ≡ q)
+period-once : (types t v w : ℕ) (p q : List ℕ) → IfPresent types t v → IfPresent types t w → periodBytes types t v ++ p ≡ periodBytes types t w ++ q → (v ≡ w) × (p ≡ q)
 unfolding periodBytes
 period-once types t v w p q a b e =
     by-test (present types t)
@@ -241,9 +241,9 @@ module _ (id : ℕ) (t : Table) (p : List ℕ) (h : FittingTable id t p) where
   untimed-is : eqb (t .timed) 1 ≡ false → t .timed ≡ 0
   untimed-is z = let n = eqb-false (t .timed) 1 z in omega (arith, h .timed, n)
 
-  periods-are : (types : ℕ) → t .«data_types» ≡ types → Along (Number types) rateTypes (t .periods)
+  periods-are : (types : ℕ) → t .«data_types» ≡ types → Along (IfPresent types) rateTypes (t .periods)
   periods-are types e =
-      along-from (Number types) rateTypes (t .periods) (h .shape .periods .size ∙ sym rate-count)
+      along-from (IfPresent types) rateTypes (t .periods) (h .shape .periods .size ∙ sym rate-count)
       (λ i l.
       record {
         small = let k = h .shape .periods .small i in omega arith;
@@ -279,7 +279,7 @@ module _ (i : ℕ) (t : Table) (p : List ℕ) (h : FittingTable i t p) (j : ℕ)
       (sym (times-there i t p h a) ∙ (e ∙ times-there j u q k b)) in
       let f : eachBytes (periodBytes types) rateTypes (t .periods) ++ p ≡ y ++ q =
       ap (λ (n : ℕ). eachBytes (periodBytes n) rateTypes (t .periods) ++ p) (sym d) ∙ r .1 in
-      let w = each-once (periodBytes types) (Number types) (period-once types) rateTypes (t .periods) (u .periods) p q
+      let w = each-once (periodBytes types) (IfPresent types) (period-once types) rateTypes (t .periods) (u .periods) p q
       (periods-are i t p h types d) (periods-are j u q k types refl) f in
       record { timed = eqb-true (t .timed) 1 a ∙ sym (eqb-true (u .timed) 1 b); expiry = r .0; periods = w .0 })
       (λ b. absurd (some-times i t p h a (e ∙ times-none j u q k b))))

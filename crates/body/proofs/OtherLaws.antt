@@ -2,11 +2,12 @@
 use Prim.Native.Nat.{ℕ}
 use mathlib.Core.Path.{_≡_, refl, ap, _∙_}
 use mathlib.Core.List.{List}
+use lib.Dec.{lit≤}
 use borrow.Author.Needs.{needs}
-use Rattle.wire.specs.declared.Field.{Field}
-use Rattle.wire.specs.declared.Field.the-variants as field
-use Rattle.wire.specs.declared.Number.{Number}
-use Rattle.wire.specs.declared.Number.the-variants as number
+use Rattle.wire.specs.declared.values.Field.{Field}
+use Rattle.wire.specs.declared.values.Field.the-variants as field
+use Rattle.wire.specs.declared.fixed.FourBytes.{FourBytes}
+use Rattle.wire.specs.declared.fixed.FourBytes.the-variants as number
 use Rattle.wire.specs.Value.{readWidth}
 use Rattle.wire.specs.Number.{readNumber}
 use Rattle.body.specs.declared.Word.{Word}
@@ -25,7 +26,7 @@ switch-field field.OutOfRange = refl
 
 pub switch-read : (s : List ℕ) (r : Field) → r ≡ readWidth 32 s 0 → r ≡ switchBody (switchFields s)
 unfolding switchFields
-switch-read s r p = switch-field r ∙ ap switchBody (of-width 32 s 0 r p)
+switch-read s r p = switch-field r ∙ ap switchBody (of-width 32 (lit≤ tt) s 0 r p)
 
 pub ruleset switch-laws = (needs, switch-read)
 
@@ -39,7 +40,7 @@ module _ (s : List ℕ) (w : Word) (p : wordRead w ≡ integerOf 32 s 0) where
   unfolding acknowledgementFields acknowledgementBody andThen wordRead
   id-out e = rw (← p, e)
 
-  module _ (id at : ℕ) (e : w ≡ word.Value id at) (m : Number) (p₁ : m ≡ readNumber s at) where
+  module _ (id at : ℕ) (e : w ≡ word.Value id at) (m : FourBytes) (p₁ : m ≡ readNumber s at) where
     pub update-short : m ≡ number.Short → acked.Short ≡ acknowledgementBody (acknowledgementFields s)
     unfolding acknowledgementFields acknowledgementBody andThen wordRead number4 numberRead
     update-short e₁ = rw (← p, e, ← p₁, e₁)

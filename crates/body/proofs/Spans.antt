@@ -5,9 +5,8 @@ use mathlib.Core.Path.{_≡_}
 use mathlib.Core.List.{List, _++_}
 use lib.ListN.{length, take, drop, length-take, length-drop, List·getD-eq-default}
 use lib.Seq.{take-append-le, drop-append-le, getD-take, getD-drop}
-use Rattle.lists.proofs.Cases.{lt-or-le}
+use Rattle.lists.proofs.Cases.{lt-or-le, split}
 use Rattle.wire.specs.Value.{Bytes}
-use Rattle.wire.proofs.Order.{split}
 use Rattle.body.specs.Fields.{Span, spanIn}
 
 module _ (body : List ℕ) (span : Span) (h : span .start + span .len ≤ length body) where

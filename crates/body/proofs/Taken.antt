@@ -1,75 +1,50 @@
--- What holds of a value that was read, and that it ends within the body: a type by cases on what reading gave, proved of fields one after
--- another and of each field.
+-- What holds of a value that was read, and that it ends within the body: of fields one after another and of each field.
 use Prim.Native.Nat.{ℕ, zero, suc, _+_, _-_, _^_, _≤_, _<_}
 use native.Mathlib.Omega.{arith}
-use mathlib.Core.Path.{_≡_, refl, ap, subst, _∙_}
+use mathlib.Core.Path.{_≡_, refl, ap, _∙_}
 use mathlib.Core.List.{List, [], _∷_}
 use mathlib.Core.Bool.{Bool, true, false, cond}
 use lib.ListN.{length, getD, List·getD-eq-default}
 use lib.Signed.{mag}
 use lib.Dec.{ltb, leb}
 use borrow.Author.Tests.{le-leb, lt-leb, ltb-true, leb-true}
-use Rattle.lists.proofs.Cases.{lt-or-le, and-first, and-second}
+use Rattle.lists.proofs.Cases.{lt-or-le, and-first, and-second, split}
 use Rattle.wire.specs.declared.Int.{Int}
 use Rattle.wire.specs.declared.Int.the-variants as int
-use Rattle.wire.specs.declared.ServerId.{ServerId}
-use Rattle.wire.specs.declared.ServerId.the-variants as server
+use Rattle.wire.specs.declared.values.ServerId.{ServerId}
+use Rattle.wire.specs.declared.values.ServerId.the-variants as server
 use Rattle.wire.specs.Integer.{readInt}
 use Rattle.wire.specs.Server.{readServerId}
 use Rattle.wire.specs.Value.{Bytes}
-use Rattle.wire.proofs.Order.{split}
 use Rattle.wire.proofs.Advance.{advance, value-small}
 use Rattle.wire.proofs.Numbers.{number-short, number-value, number-own}
-use Rattle.wire.proofs.Server.{server-own, server-advance}
+use Rattle.wire.proofs.values.Server.{server-own, server-advance}
 use Rattle.store.specs.Shape.{Cells}
-use Rattle.body.specs.Fields.{Read, got, short, outside, Reader, andThen, forEach, tested, integer, between, integerOf, Span, bytes, numberRead, number4, serverRead, serverId}
+use Rattle.body.proofs.Holds.{Holds, held, holds-got, holds-each, holds-then}
+use Rattle.body.specs.Fields.{Read, got, outside, Reader, andThen, forEach, tested, integer, between, integerOf, Span, bytes, numberRead, number4, serverRead, serverId}
 
--- ---- P holds of the value and of the position after it, where one was read
+-- ---- a value with P, read from `at` up to `next` within the body s
 module _ {A : Type 0} where
-  unfoldable pub Holds : (A → ℕ → Type 0) → Read A → Type 0
-  Holds P (got a next) = P a next
-  Holds P short = Unit {0}
-  Holds P outside = Unit {0}
-
-  pub held : (P : A → ℕ → Type 0) (x : Read A) → Holds P x → (a : A) (next : ℕ) → x ≡ got a next → P a next
-  unfolding Holds
-  held P x h a next e = subst (Holds P) e h
-
-  -- a value with P, read from `at` up to `next` within the body s
   pub record Taken (P : A → Type 0) (s : List ℕ) (at : ℕ) (a : A) (next : ℕ) : Type 0 where
     pub fact : P a
     pub on : at ≤ next
     pub end : next ≤ length s
 
   pub taken-got : (P : A → Type 0) (s : List ℕ) (at : ℕ) (a : A) → P a → at ≤ length s → Holds (Taken P s at) (got a at)
-  unfolding Holds
-  taken-got P s at a h l = record { fact = h; on = omega arith; end = l }
+  taken-got P s at a h l = holds-got (Taken P s at) a at (record { fact = h; on = omega arith; end = l })
 
   further : (P : A → Type 0) (s : List ℕ) (at n : ℕ) (x : Read A) → at ≤ n → Holds (Taken P s n) x → Holds (Taken P s at) x
-  unfolding Holds
-  further P s at n (got a next) l h = record { fact = h .fact; on = omega (arith, h .on); end = h .end }
-  further P s at n short l h = tt
-  further P s at n outside l h = tt
+  further P s at n x l h = holds-each (Taken P s n) (Taken P s at) x h (λ a next r. record { fact = r .fact; on = omega (arith, r .on); end = r .end })
 
   pub weaken : (P Q : A → Type 0) → ((a : A) → P a → Q a) → (s : List ℕ) (at : ℕ) (x : Read A) → Holds (Taken P s at) x → Holds (Taken Q s at) x
-  unfolding Holds
-  weaken P Q f s at (got a next) h = record { fact = f a (h .fact); on = h .on; end = h .end }
-  weaken P Q f s at short h = tt
-  weaken P Q f s at outside h = tt
-
-  pub taken-cond : (P : A → Type 0) (s : List ℕ) (at : ℕ) (b : Bool) (x y : Read A)
-      → (b ≡ true → Holds (Taken P s at) x) → (b ≡ false → Holds (Taken P s at) y) → Holds (Taken P s at) (cond b x y)
-  taken-cond P s at true x y f g = f refl
-  taken-cond P s at false x y f g = g refl
+  weaken P Q f s at x h = holds-each (Taken P s at) (Taken Q s at) x h (λ a next r. record { fact = f a (r .fact); on = r .on; end = r .end })
 
 -- fields one after another
 module _ {A B : Type 0} (P : A → Type 0) (Q : B → Type 0) (s : List ℕ) where
   pub taken-then : (at : ℕ) (x : Read A) (f : A → ℕ → Read B) → Holds (Taken P s at) x
       → ((a : A) (n : ℕ) → P a → n ≤ length s → Holds (Taken Q s n) (f a n)) → Holds (Taken Q s at) (andThen x f)
-  unfolding Holds andThen
-  taken-then at (got a n) f h k = further Q s at n (f a n) (h .on) (k a n (h .fact) (h .end))
-  taken-then at short f h k = tt
-  taken-then at outside f h k = tt
+  taken-then at x f h k =
+      holds-then (Taken P s at) (Taken Q s at) x f h (λ a n r. further Q s at n (f a n) (r .on) (k a n (r .fact) (r .end)))
 
 -- ---- values for types, one each, with Q between type and value
 unfoldable pub Along : (ℕ → ℕ → Type 0) → List ℕ → List ℕ → Type 0

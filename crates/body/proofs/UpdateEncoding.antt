@@ -20,8 +20,8 @@ use Rattle.store.proofs.Rules.{slot-count}
 use Rattle.body.specs.Fields.{got, integer, between, integerOf, Span, spanIn, bytes, number4, serverId}
 use Rattle.body.specs.Bodies.{stringField, keyField, serverField, slotField, valueFields, Data, dataFields, Update, entryFields, updateFields, incrementalFields}
 use Rattle.body.specs.Encodings.{eachBytes, keyBytes, serverBytes, valueBytes, dataBytes, entryBytes, updateBytes, incrementalBytes, serverStart, slotStart}
-use Rattle.body.proofs.Taken.{Holds, held}
-use Rattle.body.proofs.Encoding.{holds-cond, holds-got, holds-each, holds-then, Stands, stands-none, stands-then, Encoded, integer-encoded, width-encoded, number-encoded, server-encoded, PartOf, bytes-encoded, each-encoded}
+use Rattle.body.proofs.Holds.{Holds, held, holds-cond, holds-got, holds-each, holds-then}
+use Rattle.body.proofs.Encoding.{Stands, stands-none, stands-then, Encoded, integer-encoded, width-encoded, number-encoded, server-encoded, PartHere, bytes-encoded, each-encoded}
 
 -- ---- key and data
 module _ (s : List ℕ) (b : Bytes s) where
@@ -30,7 +30,7 @@ module _ (s : List ℕ) (b : Bytes s) where
   string-encoded n at =
       let Q : Span → ℕ → Type 0 = Encoded (λ key. encodeInt (length (spanIn s key)) ++ spanIn s key) s at in
       holds-then (Encoded encodeInt s at) Q (integer (between 0 n) s at) _ (integer-encoded s b (between 0 n) at) λ len at₁ q.
-      holds-each (PartOf s len at₁) Q (bytes len s at₁) (bytes-encoded s len at₁) λ key next r.
+      holds-each (PartHere s len at₁) Q (bytes len s at₁) (bytes-encoded s len at₁) λ key next r.
       let p : Stands s (encodeInt (length (spanIn s key))) at at₁ = rw (r .size) q in
       stands-then s p (r .here)
 

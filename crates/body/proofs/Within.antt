@@ -9,17 +9,17 @@ use lib.IntN.{ℤ, pos}
 use lib.Signed.{mag}
 use lib.Dec.{ltb, leb, eqb}
 use borrow.Author.Tests.{lt-ltb, le-leb, ltb-true, eq-eqb}
-use Rattle.lists.proofs.Cases.{lt-or-le, never, and-intro, unless-true, unless-false, cond-true, cond-false}
+use Rattle.lists.proofs.Cases.{lt-or-le, never, and-intro, unless-true, unless-false, cond-true, cond-false, split}
 use Rattle.wire.specs.Value.{Bytes}
-use Rattle.wire.proofs.Order.{split}
 use Rattle.store.specs.declared.Table.{Table}
 use Rattle.store.specs.Shape.{Cells}
 use Rattle.store.specs.Limits.{nameMax, keyKind, isKnown, isString, keyLengthOk, dataTypesOk, present, isWide, widthOf, slotTypes, rateTypes}
 use Rattle.store.specs.Sound.{slotOk, slotsOk}
 use Rattle.store.proofs.Rules.{slot-count, rate-count}
 use Rattle.body.specs.Fields.{got, between, Span}
-use Rattle.body.specs.Bodies.{Named, namedFields, isKeyType, Shape, shapeFields, pairField, periodField, Times, noTimes, timesThere, timesFields, Definition, defined, restFields, definitionFields, switchFields, Acknowledged, acknowledgementFields, stringField, keyField, serverField, slotField, Data, dataFields, Update, keyed, entryFields, updateFields, incrementalFields}
-use Rattle.body.proofs.Taken.{Holds, held, Taken, taken-got, weaken, taken-cond, taken-then, Along, along-at, along-cells, each-holds, Tested, integer-holds, Width, width-holds, PartOf, bytes-holds, number-holds, server-holds, between-low, between-high}
+use Rattle.body.specs.Bodies.{Named, namedFields, isKeyType, Shape, shapeFields, pairField, periodField, Times, noTimes, timesThere, timesFields, Definition, defined, restFields, definitionFields, switchFields, stringField, keyField, serverField, slotField, Data, dataFields, Update, keyed, entryFields, updateFields, incrementalFields}
+use Rattle.body.proofs.Holds.{Holds, held, holds-cond}
+use Rattle.body.proofs.Taken.{Taken, taken-got, weaken, taken-then, Along, along-at, along-cells, each-holds, Tested, integer-holds, Width, width-holds, PartOf, bytes-holds, number-holds, server-holds, between-low, between-high}
 
 -- ---- a definition
 record NamedWithin (s : List ℕ) (n : Named) : Type 0 where
@@ -67,7 +67,7 @@ Period t v = v < 2 ^ 32
 period-holds : (types : ℕ) (s : List ℕ) (t at : ℕ) → at ≤ length s → Holds (Taken (Period t) s at) (periodField types t s at)
 unfolding periodField pairField Period Width
 period-holds types s t at l =
-    taken-cond (Period t) s at (present types t) _ _
+    holds-cond (Taken (Period t) s at) (present types t) _ _
     (λ e.
     taken-then (Tested λ n. eqb n t) (Period t) s at _ _ (integer-holds (λ n. eqb n t) s at) λ n at₁ h l₁.
     weaken (Width 32) (Period t) (λ v h. h .0) s at₁ _ (width-holds 32 s at₁))
@@ -81,7 +81,7 @@ record TimesWithin (t : Times) : Type 0 where
 times-holds : (types : ℕ) (s : List ℕ) (at : ℕ) → at ≤ length s → Holds (Taken TimesWithin s at) (timesFields types s at)
 unfolding timesFields timesThere Width Period
 times-holds types s at l =
-    taken-cond TimesWithin s at (eqb at (length s)) _ _
+    holds-cond (Taken TimesWithin s at) (eqb at (length s)) _ _
     (λ e.
     taken-got TimesWithin s at noTimes
     (record { timed = omega arith; expiry = omega arith; periods = record { size = refl; small = λ i. zeros i } })
@@ -152,23 +152,6 @@ switch-within body id next e =
     let h = held (Taken (Width 32) body 0) _ (width-holds 32 body 0) id next e in
     (h .fact .0, h .end)
 
-pub record AcknowledgementWithin (body : List ℕ) (a : Acknowledged) : Type 0 where
-  pub id : a .id < 2 ^ 32
-  pub update : Bytes body → a .update < 2 ^ 32
-
-pub acknowledgement-holds : (body : List ℕ) → Holds (Taken (AcknowledgementWithin body) body 0) (acknowledgementFields body)
-unfolding acknowledgementFields Width
-acknowledgement-holds body =
-    taken-then (Width 32) (AcknowledgementWithin body) body 0 _ _ (width-holds 32 body 0) λ id at₁ h₁ l₁.
-    taken-then (λ v. Bytes body → v < 2 ^ 32) (AcknowledgementWithin body) body at₁ _ _ (number-holds body at₁) λ update at₂ h₂ l₂.
-    taken-got (AcknowledgementWithin body) body at₂ _ (record { id = h₁ .0; update = h₂ }) l₂
-
-pub acknowledgement-within : (body : List ℕ) (a : Acknowledged) (next : ℕ) → acknowledgementFields body ≡ got a next
-    → AcknowledgementWithin body a × (next ≤ length body)
-acknowledgement-within body a next e =
-    let h = held (Taken (AcknowledgementWithin body) body 0) _ (acknowledgement-holds body) a next e in
-    (h .fact, h .end)
-
 -- ---- an update
 -- the key of a table with this key type and key length
 record KeyWithin (keyType n : ℕ) (s : List ℕ) (key : Span) : Type 0 where
@@ -178,7 +161,7 @@ record KeyWithin (keyType n : ℕ) (s : List ℕ) (key : Span) : Type 0 where
 key-holds : (keyType n : ℕ) (s : List ℕ) (at : ℕ) → Holds (Taken (KeyWithin keyType n s) s at) (keyField keyType n s at)
 unfolding keyField stringField Tested PartOf
 key-holds keyType n s at =
-    taken-cond (KeyWithin keyType n s) s at (isString (keyKind keyType)) _ _
+    holds-cond (Taken (KeyWithin keyType n s) s at) (isString (keyKind keyType)) _ _
     (λ e.
     taken-then (Tested (between 0 n)) (KeyWithin keyType n s) s at _ _ (integer-holds (between 0 n) s at) λ len at₁ h l₁.
     weaken (PartOf len s) (KeyWithin keyType n s)
@@ -198,7 +181,7 @@ record ServerWithin (types : ℕ) (z : ℤ) : Type 0 where
 server-field-holds : (types : ℕ) (s : List ℕ) (at : ℕ) → at ≤ length s → Holds (Taken (ServerWithin types) s at) (serverField types s at)
 unfolding serverField
 server-field-holds types s at l =
-    taken-cond (ServerWithin types) s at (present types 0) _ _
+    holds-cond (Taken (ServerWithin types) s at) (present types 0) _ _
     (λ e. weaken (λ z. mag z < 2 ^ 31) (ServerWithin types) (λ z h. record { small = h; none = λ q. never e q }) s at _ (server-holds s at))
     (λ e. taken-got (ServerWithin types) s at (pos 0) (record { small = omega arith; none = λ q. refl }) l)
 
@@ -222,7 +205,7 @@ slot-none types t v e = unless-false _ _ e
 slot-holds : (types : ℕ) (s : List ℕ) (t at : ℕ) → at ≤ length s → Holds (Taken (Slot types t) s at) (slotField types t s at)
 unfolding slotField Width
 slot-holds types s t at l =
-    taken-cond (Slot types t) s at (present types t) _ _
+    holds-cond (Taken (Slot types t) s at) (present types t) _ _
     (λ e.
     weaken (Width (widthOf t)) (Slot types t)
     (λ v h. record { ok = slot-ok types t v e (h .0); small = h .1; none = λ q. never e q })

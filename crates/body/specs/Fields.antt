@@ -7,10 +7,10 @@ use lib.Dec.{ltb, leb}
 use lib.IntN.{ℤ}
 use Rattle.wire.specs.declared.Int.{Int}
 use Rattle.wire.specs.declared.Int.the-variants as int
-use Rattle.wire.specs.declared.Number.{Number}
-use Rattle.wire.specs.declared.Number.the-variants as number
-use Rattle.wire.specs.declared.ServerId.{ServerId}
-use Rattle.wire.specs.declared.ServerId.the-variants as server
+use Rattle.wire.specs.declared.fixed.FourBytes.{FourBytes}
+use Rattle.wire.specs.declared.fixed.FourBytes.the-variants as number
+use Rattle.wire.specs.declared.values.ServerId.{ServerId}
+use Rattle.wire.specs.declared.values.ServerId.the-variants as server
 use Rattle.wire.specs.Integer.{readInt}
 use Rattle.wire.specs.Number.{readNumber}
 use Rattle.wire.specs.Server.{readServerId}
@@ -72,7 +72,7 @@ unfoldable pub bytes : ℕ → Reader Span
 bytes n body at = cond (leb (at + n) (length body)) (got (record { start = at; len = n }) (at + n)) short
 
 -- a 4-byte big-endian number
-unfoldable pub numberRead : Number → Read ℕ
+unfoldable pub numberRead : FourBytes → Read ℕ
 numberRead (number.Value v next) = got v next
 numberRead number.Short = short
 

@@ -4,24 +4,24 @@ use mathlib.Core.List.{List}
 use lib.ListN.{replicate}
 use lib.IntN.{pos}
 use Rattle.store.specs.Limits.{valueCount}
-use Rattle.wire.specs.declared.Field.{Field}
-use Rattle.wire.specs.declared.Field.the-variants as field
+use Rattle.wire.specs.declared.values.Field.{Field}
+use Rattle.wire.specs.declared.values.Field.the-variants as field
 use Rattle.body.specs.declared.Reading.{Reading}
 use Rattle.body.specs.declared.Reading.the-variants as reading
 use Rattle.body.specs.declared.Word.{Word}
 use Rattle.body.specs.declared.Word.the-variants as word
-use Rattle.body.specs.declared.Part.{Part}
-use Rattle.body.specs.declared.Part.the-variants as part
-use Rattle.body.specs.declared.NamedRead.{NamedRead}
-use Rattle.body.specs.declared.NamedRead.the-variants as named
-use Rattle.body.specs.declared.ShapeRead.{ShapeRead}
-use Rattle.body.specs.declared.ShapeRead.the-variants as shape
-use Rattle.body.specs.declared.PeriodsRead.{PeriodsRead}
-use Rattle.body.specs.declared.TimesRead.{TimesRead}
-use Rattle.body.specs.declared.ValuesRead.{ValuesRead}
-use Rattle.body.specs.declared.DataRead.{DataRead}
-use Rattle.body.specs.declared.DefinitionBody.{DefinitionBody}
-use Rattle.body.specs.declared.UpdateBody.{UpdateBody}
+use Rattle.body.specs.declared.PartRead.{PartRead}
+use Rattle.body.specs.declared.PartRead.the-variants as part
+use Rattle.body.specs.declared.definition.NamedRead.{NamedRead}
+use Rattle.body.specs.declared.definition.NamedRead.the-variants as named
+use Rattle.body.specs.declared.shape.ShapeRead.{ShapeRead}
+use Rattle.body.specs.declared.shape.ShapeRead.the-variants as shape
+use Rattle.body.specs.declared.times.PeriodsRead.{PeriodsRead}
+use Rattle.body.specs.declared.times.TimesRead.{TimesRead}
+use Rattle.body.specs.declared.update_data.ValuesRead.{ValuesRead}
+use Rattle.body.specs.declared.update_data.DataRead.{DataRead}
+use Rattle.body.specs.declared.definition.DefinitionBody.{DefinitionBody}
+use Rattle.body.specs.declared.update.UpdateBody.{UpdateBody}
 use Rattle.body.specs.declared.AcknowledgementBody.{AcknowledgementBody}
 use Rattle.body.specs.declared.AcknowledgementBody.the-variants as acked
 use Rattle.body.specs.Fields.{Read, got, short, outside, Span}
@@ -39,7 +39,7 @@ wordRead (word.Value v next) = got v next
 wordRead word.Short = short
 wordRead word.OutOfRange = outside
 
-unfoldable pub partRead : Part → Read Span
+unfoldable pub partRead : PartRead → Read Span
 partRead (part.Bytes start len next) = got (record { start = start; len = len }) next
 partRead part.Short = short
 partRead part.OutOfRange = outside

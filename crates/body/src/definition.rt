@@ -2,20 +2,44 @@
 ghost use mathlib.Core.Path.{_≡_};
 ghost use Rattle.body.specs.Bodies.{named, namedFields, restFields, definitionFields};
 ghost use Rattle.body.specs.Results.{namedRead, definitionStruct, noDefinition, definitionBody};
-use crate::DefinitionBody;
-use crate::NamedRead;
-use crate::Part;
+use crate::PartRead;
 use crate::Reading;
-use crate::ShapeRead;
 use crate::Word;
 use crate::read_between;
 use crate::read_part;
 use crate::read_word;
+use crate::shape::ShapeRead;
 use crate::shape::read_shape;
 use crate::times::read_times;
 use store::NAME_MAX;
 use store::RATES;
-use wire::Field;
+use wire::values::Field;
+
+// A definition's ID and name.
+pub enum NamedRead {
+    Fields {
+        id: u32,
+        name_at: usize,
+        name_len: usize,
+        next: usize,
+    },
+    Short,
+    OutOfRange,
+}
+
+// The fields of a definition. Its name stands in the body from `name_at` on. `timed` is 1 where the body has expiry and periods.
+pub struct DefinitionBody {
+    pub reading: Reading,
+    pub id: u32,
+    pub name_at: usize,
+    pub name_len: usize,
+    pub key_type: u8,
+    pub key_len: usize,
+    pub data_types: u32,
+    pub timed: u8,
+    pub expiry: u32,
+    pub periods: [u32; RATES],
+}
 
 // The ID, the name's length and the name at `at`.
 fn read_named(body: &[u8], at: usize) -> NamedRead
@@ -27,7 +51,7 @@ fn read_named(body: &[u8], at: usize) -> NamedRead
                 value: len,
                 next: at2,
             } => match read_part(len as usize, body, at2) {
-                Part::Bytes {
+                PartRead::Bytes {
                     start,
                     len: n,
                     next: end,
@@ -37,8 +61,8 @@ fn read_named(body: &[u8], at: usize) -> NamedRead
                     name_len: n,
                     next: end,
                 },
-                Part::Short => NamedRead::Short,
-                Part::OutOfRange => NamedRead::OutOfRange,
+                PartRead::Short => NamedRead::Short,
+                PartRead::OutOfRange => NamedRead::OutOfRange,
             },
             Field::Short => NamedRead::Short,
             Field::OutOfRange => NamedRead::OutOfRange,

@@ -10,11 +10,9 @@ ghost use mathlib.Core.Path.{_≡_};
 ghost use Rattle.body.specs.Fields.{integer, between, integerOf, bytes};
 ghost use Rattle.body.specs.Bodies.{switchFields, acknowledgementFields};
 ghost use Rattle.body.specs.Results.{fieldRead, wordRead, partRead, switchBody, acknowledgementBody};
-use store::RATES;
-use store::VALUES;
-use wire::Field;
 use wire::Int;
-use wire::Number;
+use wire::fixed::FourBytes;
+use wire::values::Field;
 
 // How far a body could be read: all its known fields, up to the position after them; or it ends before a field is whole; or a field
 // overflows or is out of range.
@@ -34,7 +32,7 @@ pub enum Word {
 }
 
 // What reading a part of a body finds: `len` bytes from `start` on.
-pub enum Part {
+pub enum PartRead {
     Bytes {
         start: usize,
         len: usize,
@@ -78,74 +76,20 @@ pub fn read_word(body: &[u8], at: usize) -> Word
 }
 
 // The `n` bytes at `at`.
-pub fn read_part(n: usize, body: &[u8], at: usize) -> Part
+pub fn read_part(n: usize, body: &[u8], at: usize) -> PartRead
     ensures { λ r. ⌜ partRead r ≡ bytes n (now (body .entry)) at ⌝ }
 {
     if body.len() < at {
-        return Part::Short;
+        return PartRead::Short;
     }
     if body.len() - at < n {
-        return Part::Short;
+        return PartRead::Short;
     }
-    Part::Bytes {
+    PartRead::Bytes {
         start: at,
         len: n,
         next: at + n,
     }
-}
-
-// ---- definition
-
-// A definition's ID and name.
-pub enum NamedRead {
-    Fields {
-        id: u32,
-        name_at: usize,
-        name_len: usize,
-        next: usize,
-    },
-    Short,
-    OutOfRange,
-}
-
-// Key type, key length and data types.
-pub enum ShapeRead {
-    Fields {
-        key_type: u8,
-        key_len: usize,
-        data_types: u32,
-        next: usize,
-    },
-    Short,
-    OutOfRange,
-}
-
-// A period for each rate type.
-pub struct PeriodsRead {
-    pub reading: Reading,
-    pub periods: [u32; RATES],
-}
-
-// Expiry and periods. `timed` is 1 where the body has them.
-pub struct TimesRead {
-    pub reading: Reading,
-    pub timed: u8,
-    pub expiry: u32,
-    pub periods: [u32; RATES],
-}
-
-// The fields of a definition. Its name stands in the body from `name_at` on. `timed` is 1 where the body has expiry and periods.
-pub struct DefinitionBody {
-    pub reading: Reading,
-    pub id: u32,
-    pub name_at: usize,
-    pub name_len: usize,
-    pub key_type: u8,
-    pub key_len: usize,
-    pub data_types: u32,
-    pub timed: u8,
-    pub expiry: u32,
-    pub periods: [u32; RATES],
 }
 
 // ---- switch and acknowledgement
@@ -170,7 +114,7 @@ pub fn read_acknowledgement(body: &[u8]) -> AcknowledgementBody
 {
     match read_word(body, 0) {
         Word::Value { value: id, next } => match wire::fixed::read_number(body, next) {
-            Number::Value {
+            FourBytes::Value {
                 value: update,
                 next: end,
             } => AcknowledgementBody::Fields {
@@ -178,34 +122,9 @@ pub fn read_acknowledgement(body: &[u8]) -> AcknowledgementBody
                 update,
                 next: end,
             },
-            Number::Short => AcknowledgementBody::Short,
+            FourBytes::Short => AcknowledgementBody::Short,
         },
         Word::Short => AcknowledgementBody::Short,
         Word::OutOfRange => AcknowledgementBody::OutOfRange,
     }
-}
-
-// ---- update
-
-// A value for each slot.
-pub struct ValuesRead {
-    pub reading: Reading,
-    pub values: [u64; VALUES],
-}
-
-// Server ID and values.
-pub struct DataRead {
-    pub reading: Reading,
-    pub server_id: i32,
-    pub values: [u64; VALUES],
-}
-
-// The fields of an update. Its key stands in the body from `key_at` on.
-pub struct UpdateBody {
-    pub reading: Reading,
-    pub id: u32,
-    pub key_at: usize,
-    pub key_len: usize,
-    pub server_id: i32,
-    pub values: [u64; VALUES],
 }

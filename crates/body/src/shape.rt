@@ -4,13 +4,22 @@ ghost use Rattle.store.specs.Limits.{keyLengthOk};
 ghost use Rattle.body.specs.Fields.{integer};
 ghost use Rattle.body.specs.Bodies.{isKeyType, shapeFields};
 ghost use Rattle.body.specs.Results.{fieldRead, shapeRead};
-use crate::ShapeRead;
 use crate::read_between;
-use wire::Field;
+use store::DATA_TYPES_MAX;
 use wire::Int;
+use wire::values::Field;
 
-// Data types are bits 0 to 18.
-const DATA_TYPES_MAX: u64 = 0x7_ffff;
+// Key type, key length and data types.
+pub enum ShapeRead {
+    Fields {
+        key_type: u8,
+        key_len: usize,
+        data_types: u32,
+        next: usize,
+    },
+    Short,
+    OutOfRange,
+}
 
 // Whether a number is a key type.
 fn is_key_type(n: u64) -> bool
@@ -63,7 +72,7 @@ pub fn read_shape(body: &[u8], at: usize) -> ShapeRead
             Field::Value {
                 value: len,
                 next: at2,
-            } => match read_between(0, DATA_TYPES_MAX, body, at2) {
+            } => match read_between(0, DATA_TYPES_MAX as u64, body, at2) {
                 Field::Value {
                     value: types,
                     next: end,

@@ -2,14 +2,26 @@
 ghost use mathlib.Core.Path.{_≡_};
 ghost use Rattle.body.specs.Bodies.{pairField, periodField, periodFields, noTimes, timesFields};
 ghost use Rattle.body.specs.Results.{wordRead, periodsRead, readAs, timesRead};
-use crate::PeriodsRead;
 use crate::Reading;
-use crate::TimesRead;
 use crate::Word;
 use crate::read_between;
 use crate::read_word;
 use store::RATES;
-use wire::Field;
+use wire::values::Field;
+
+// A period for each rate type.
+pub struct PeriodsRead {
+    pub reading: Reading,
+    pub periods: [u32; RATES],
+}
+
+// Expiry and periods. `timed` is 1 where the body has them.
+pub struct TimesRead {
+    pub reading: Reading,
+    pub timed: u8,
+    pub expiry: u32,
+    pub periods: [u32; RATES],
+}
 
 // The pair of rate type `t` at `at`: its number and its period.
 fn read_pair(t: usize, body: &[u8], at: usize) -> Word

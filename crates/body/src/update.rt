@@ -1,19 +1,28 @@
 // The fields of an update, read from its body.
-use crate::Part;
+use crate::PartRead;
 use crate::Reading;
-use crate::UpdateBody;
 use crate::read_part;
 use crate::string_key::read_string;
 use crate::update_data::read_data;
 use store::Table;
 use store::VALUES;
-use wire::Number;
+use wire::fixed::FourBytes;
 ghost use mathlib.Core.Path.{_≡_};
 ghost use Rattle.body.specs.Bodies.{keyField, entryFields, updateFields, incrementalFields};
 ghost use Rattle.body.specs.Results.{partRead, updateStruct, noUpdate, updateBody};
 
+// The fields of an update. Its key stands in the body from `key_at` on.
+pub struct UpdateBody {
+    pub reading: Reading,
+    pub id: u32,
+    pub key_at: usize,
+    pub key_len: usize,
+    pub server_id: i32,
+    pub values: [u64; VALUES],
+}
+
 // The key at `at`, of a table with this key type and key length.
-fn read_key(key_type: u8, key_len: usize, body: &[u8], at: usize) -> Part
+fn read_key(key_type: u8, key_len: usize, body: &[u8], at: usize) -> PartRead
     ensures { λ r. ⌜ partRead r ≡ keyField «key_type» «key_len» (now (body .entry)) at ⌝ }
 {
     if store::types::is_string(store::types::key_kind(key_type)) {
@@ -30,7 +39,7 @@ fn read_entry(table: Table, id: u32, body: &[u8], at: usize) -> UpdateBody
     let key_len = table.key_len;
     let types = table.data_types;
     match read_key(key_type, key_len, body, at) {
-        Part::Bytes { start, len, next } => {
+        PartRead::Bytes { start, len, next } => {
             let read = read_data(types, body, next);
             let how = read.reading;
             let server_id = read.server_id;
@@ -48,8 +57,8 @@ fn read_entry(table: Table, id: u32, body: &[u8], at: usize) -> UpdateBody
                 Reading::OutOfRange => no_update(Reading::OutOfRange),
             }
         }
-        Part::Short => no_update(Reading::Short),
-        Part::OutOfRange => no_update(Reading::OutOfRange),
+        PartRead::Short => no_update(Reading::Short),
+        PartRead::OutOfRange => no_update(Reading::OutOfRange),
     }
 }
 
@@ -58,8 +67,8 @@ pub fn read_update(table: Table, body: &[u8]) -> UpdateBody
     ensures { λ r. ⌜ r ≡ updateBody (updateFields table (now (body .entry))) ⌝ }
 {
     match wire::fixed::read_number(body, 0) {
-        Number::Value { value, next } => read_entry(table, value, body, next),
-        Number::Short => no_update(Reading::Short),
+        FourBytes::Value { value, next } => read_entry(table, value, body, next),
+        FourBytes::Short => no_update(Reading::Short),
     }
 }
 

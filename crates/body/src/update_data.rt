@@ -3,12 +3,23 @@ ghost use mathlib.Core.Path.{_≡_};
 ghost use Rattle.body.specs.Fields.{serverRead};
 ghost use Rattle.body.specs.Bodies.{serverField, slotField, valueFields, dataFields};
 ghost use Rattle.body.specs.Results.{fieldRead, readAs, valuesRead, dataRead, noData};
-use crate::DataRead;
 use crate::Reading;
-use crate::ValuesRead;
 use store::VALUES;
-use wire::Field;
-use wire::ServerId;
+use wire::values::Field;
+use wire::values::ServerId;
+
+// A value for each slot.
+pub struct ValuesRead {
+    pub reading: Reading,
+    pub values: [u64; VALUES],
+}
+
+// Server ID and values.
+pub struct DataRead {
+    pub reading: Reading,
+    pub server_id: i32,
+    pub values: [u64; VALUES],
+}
 
 // The server ID at `at`, if it is among the data types.
 fn read_server(types: u32, body: &[u8], at: usize) -> ServerId

@@ -8,6 +8,7 @@ ghost use Rattle.handshake.specs.Handshake.{untilSpace, partOf, numberOf
 use crate::Decimal;
 use crate::Part;
 use crate::bytes_within;
+use lists::wide;
 
 fn until_space(s: &[u8]) -> usize
     ensures { λ r. ⌜ r ≡ untilSpace (now (s .entry)) ⌝ }
@@ -34,12 +35,6 @@ pub fn first_part(s: &[u8]) -> Part
         return Part::Missing;
     }
     Part::Upto(k)
-}
-
-fn wide(b: u8) -> u64
-    ensures { λ r. ⌜ (r ≡ b) × (r < 256) ⌝ }
-{
-    b as u64
 }
 
 fn read_digits(s: &[u8]) -> u64

@@ -49,15 +49,15 @@ fn show_int(r: wire::Int) {
     }
 }
 
-fn show_field(r: wire::Field) {
+fn show_field(r: wire::values::Field) {
     match r {
-        wire::Field::Value { value, next } => {
+        wire::values::Field::Value { value, next } => {
             show_value(value, next);
         }
-        wire::Field::Short => {
+        wire::values::Field::Short => {
             io::write_all(1, b"short");
         }
-        wire::Field::OutOfRange => {
+        wire::values::Field::OutOfRange => {
             io::write_all(1, b"out");
         }
     }
@@ -126,13 +126,13 @@ fn server(v: u64) {
     decimal(v);
     space();
     match wire::values::read_server_id(&bytes, 0) {
-        wire::ServerId::Id { id, next: _ } => {
+        wire::values::ServerId::Id { id, next: _ } => {
             show_id(id);
         }
-        wire::ServerId::Short => {
+        wire::values::ServerId::Short => {
             io::write_all(1, b"short");
         }
-        wire::ServerId::OutOfRange => {
+        wire::values::ServerId::OutOfRange => {
             io::write_all(1, b"out");
         }
     }
@@ -147,10 +147,10 @@ fn number(v: u32) {
     hex(&bytes);
     space();
     match wire::fixed::read_number(&bytes, 0) {
-        wire::Number::Value { value, next } => {
+        wire::fixed::FourBytes::Value { value, next } => {
             show_value(value as u64, next);
         }
-        wire::Number::Short => {
+        wire::fixed::FourBytes::Short => {
             io::write_all(1, b"short");
         }
     }
@@ -159,17 +159,17 @@ fn number(v: u32) {
 
 fn put(v: u64, at: usize) {
     let mut room = [170u8; 4];
-    let r = wire::buffer::put_int(&mut room, at, v);
+    let r = wire::buffer::fit_int(&mut room, at, v);
     io::write_all(1, b"put ");
     decimal(v);
     space();
     decimal(at as u64);
     space();
     match r {
-        wire::Put::Next(next) => {
+        wire::buffer::Put::Next(next) => {
             decimal(next as u64);
         }
-        wire::Put::NoRoom => {
+        wire::buffer::Put::NoRoom => {
             io::write_all(1, b"full");
         }
     }

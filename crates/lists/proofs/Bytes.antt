@@ -3,14 +3,14 @@ use Prim.Native.Nat.{ℕ, zero, suc, _+_, _-_, _≤_, _<_, min}
 use native.Mathlib.Omega.{arith}
 use native.Mathlib.Nat.{zero-add}
 use mathlib.Core.Path.{_≡_, refl, sym, ap, _∙_, subst}
-use mathlib.Core.Bool.{Bool, true, false, cond, not, _&&_}
+use mathlib.Core.Bool.{true, false, _&&_}
 use mathlib.Core.List.{List, [], _∷_, _++_}
-use lib.ListN.{length, take, drop, set, getD, replicate, drop-of-length-le, length-append, length-drop, length-replicate}
+use lib.ListN.{length, take, drop, set, getD, replicate, drop-of-length-le, length-append, length-drop}
 use lib.Seq.{take-append-seam, drop-append-seam, take-at, take-nil, length-take-le, paste, paste-suc}
 use lib.Dec.{eqb}
-use borrow.Author.Tests.{eqb-true, eqb-false, eq-eqb, ne-eqb}
+use borrow.Author.Tests.{eqb-true, eq-eqb, ne-eqb}
 use Rattle.lists.specs.Lists.{every, eqBytes, padTo, front, isZero}
-use Rattle.lists.proofs.Cases.{and-first, and-second, and-intro, and-true, and-false, never, by-test, not-passed}
+use Rattle.lists.proofs.Cases.{and-first, and-second, and-intro, and-true, and-false, never, not-passed}
 use Rattle.lists.proofs.Every.{drop-step, every-cons, every-nil}
 
 -- ---- equality
@@ -35,15 +35,6 @@ bytes-eq xs ys e = subst (λ (l : List ℕ). eqBytes xs l ≡ true) e (bytes-ref
 
 pub bytes-ne : (xs ys : List ℕ) → (xs ≡ ys → ⊥) → eqBytes xs ys ≡ false
 bytes-ne xs ys f = not-passed (eqBytes xs ys) (λ h. f (eq-bytes xs ys h))
-
-pub ne-bytes : (xs ys : List ℕ) → eqBytes xs ys ≡ false → xs ≡ ys → ⊥
-ne-bytes xs ys h e = never (bytes-eq xs ys e) h
-
-pub bytes-sym : (xs ys : List ℕ) → eqBytes xs ys ≡ eqBytes ys xs
-bytes-sym xs ys =
-    by-test (eqBytes xs ys)
-    (λ t. t ∙ sym (bytes-eq ys xs (sym (eq-bytes xs ys t))))
-    (λ t. t ∙ sym (bytes-ne ys xs (λ e. ne-bytes xs ys t (sym e))))
 
 -- byte strings of two lengths
 pub bytes-longer : (xs ys : List ℕ) → (length xs ≡ length ys → ⊥) → eqBytes xs ys ≡ false

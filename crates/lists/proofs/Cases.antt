@@ -7,6 +7,7 @@ use mathlib.Core.Bool.{Bool, true, false, cond, not, _&&_, _||_}
 use mathlib.Core.List.{List, [], _∷_}
 use lib.Dec.{ltb, eqb}
 use types.Run.{OneOf}
+use borrow.Author.Needs.{needs}
 use borrow.Author.Tests.{ltb-true, ltb-false, eqb-true, eqb-false, eq-eqb, ne-eqb, not-true, not-false}
 use Rattle.lists.specs.Lists.{allOf, among}
 
@@ -28,6 +29,11 @@ lt-or-le a b = by-test (ltb a b) (λ e. inl (ltb-true a b e)) (λ e. inr (ltb-fa
 
 pub eq-or-ne : (a b : ℕ) → (a ≡ b) ⊎ (a ≡ b → ⊥)
 eq-or-ne a b = by-test (eqb a b) (λ e. inl (eqb-true a b e)) (λ e. inr (eqb-false a b e))
+
+-- a case distinction with the cases' types known from its first argument
+pub split : {A B C : Type 0} → A ⊎ B → (A → C) → (B → C) → C
+split (inl a) f g = f a
+split (inr b) f g = g b
 
 -- ---- and
 
@@ -53,6 +59,15 @@ and-false a b h = rw h
 pub and-false-second : (a b : Bool) → b ≡ false → (a && b) ≡ false
 and-false-second true b h = h
 and-false-second false b h = refl
+
+-- two tests in code: left at the first that fails
+pub and-stop : (b x y : Bool) → b ≡ x → not b ≡ true → false ≡ (x && y)
+and-stop b x y e h = sym (and-false x y (sym e ∙ not-true b h))
+
+pub and-next : (r b x y : Bool) → b ≡ x → not b ≡ false → r ≡ y → r ≡ (x && y)
+and-next r b x y e h q = q ∙ sym (and-true x y (sym e ∙ not-false b h))
+
+pub ruleset two-tests = (needs, and-stop, and-next)
 
 -- ---- or, where the first test guards the second
 

@@ -1,15 +1,13 @@
 -- `distinct`: at two places, from all pairs of places, after a store, and along a loop.
 use Prim.Native.Nat.{ℕ, zero, suc, _+_, _-_, _≤_, _<_}
 use native.Mathlib.Omega.{arith}
-use mathlib.Core.Path.{_≡_, refl, sym, ap, _∙_, subst}
-use mathlib.Core.Bool.{Bool, true, false, cond, not, _&&_}
-use mathlib.Core.Logic.{⊎-elim}
-use mathlib.Core.List.{List, [], _∷_, _++_}
-use lib.ListN.{length, take, drop, set, getD, drop-of-length-le, length-set}
-use lib.Seq.{getD-set-same, getD-set-other}
-use borrow.Author.Tests.{not-true, not-false}
+use mathlib.Core.Path.{_≡_, refl, sym, ap, _∙_}
+use mathlib.Core.Bool.{Bool, true, false, not, _&&_}
+use mathlib.Core.List.{List, [], _∷_}
+use lib.ListN.{length, drop, getD, drop-of-length-le}
+use borrow.Author.Tests.{not-true}
 use Rattle.lists.specs.Lists.{every, distinct}
-use Rattle.lists.proofs.Cases.{and-first, and-second, and-intro, and-true, and-false, never, by-test, eq-or-ne}
+use Rattle.lists.proofs.Cases.{and-first, and-second, and-intro, and-true, and-false}
 use Rattle.lists.proofs.Every.{every-at, every-from, drop-step}
 
 module _ {A : Type 0} (alike : A → A → Bool) where
@@ -42,27 +40,6 @@ module _ {A : Type 0} (alike : A → A → Bool) where
       ∙ and-intro (every (unlike x) xs) (distinct alike xs)
       (every-from (unlike x) xs d (λ i l. ap not (f 0 (suc i) (omega arith) (omega arith))))
       (distinct-from xs d (λ i j l m. f (suc i) (suc j) (omega arith) (omega arith)))
-
-  -- an element unlike all the others, put at a place
-  pub distinct-set : (xs : List A) (d : A) (i : ℕ) (v : A) → distinct alike xs ≡ true
-      → ((j : ℕ) → j < length xs → (j ≡ i → ⊥) → (alike v (getD xs j d) ≡ false) × (alike (getD xs j d) v ≡ false))
-      → distinct alike (set xs i v) ≡ true
-  distinct-set xs d i v h f = distinct-from (set xs i v) d apart
-    where
-      apart : (j k : ℕ) → j < k → k < length (set xs i v) → alike (getD (set xs i v) j d) (getD (set xs i v) k d) ≡ false
-      apart j k l m =
-          let n : k < length xs = omega (arith, length-set xs i v) in
-          ⊎-elim
-          (λ e.
-          let g : k ≡ i → ⊥ = λ z. omega arith in
-          rw (e, getD-set-same xs i v d (omega arith), getD-set-other xs i k v d g) (f k n g .0))
-          (λ e.
-          rw (getD-set-other xs i j v d e)
-          (⊎-elim
-          (λ z. rw (z, getD-set-same xs i v d (omega arith)) (f j (omega arith) e .1))
-          (λ z. rw (getD-set-other xs i k v d z) (distinct-at xs d j k h l n))
-          (eq-or-ne k i)))
-          (eq-or-ne j i)
 
   -- one element on
   module _ (xs : List A) (i : ℕ) (d : A) (l : i < length xs) where

@@ -1,8 +1,8 @@
 -- What a type says of its values, it says of every element of an array of it.
-use mathlib.Core.Path.{_≡_, refl, sym, ap, _∙_, subst}
+use mathlib.Core.Path.{_≡_, sym, _∙_, subst}
 use Prim.Native.Nat.{ℕ, zero, suc, _<_}
 use native.Mathlib.Omega.{arith}
-use mathlib.Core.List.{List, [], _∷_, map}
+use mathlib.Core.List.{List, [], _∷_, map, map-id}
 use lib.ListN.{length, getD, length-map}
 use mir.Val.{Val}
 use denote.RattleType.{RattleType}
@@ -10,17 +10,7 @@ use denote.Laws.{Is}
 use denote.Array.{each, Array}
 use denote.Shadow.{shadow}
 
-module _ (R : RattleType) (P : R .Denot → Type 0) (one : (x : R .Denot) (vs : List Val) → Is R x vs → P x) where
-  each-says : (xs : List (R .Denot)) (us : List Val) → shadow (each (R .Denot) (R .own) xs us) → (d : R .Denot) (i : ℕ) → i < length xs → P (getD xs i d)
-  each-says [] us s d i h = absurd (omega arith)
-  each-says (x ∷ xs) [] s d i h = absurd s
-  each-says (x ∷ xs) (u ∷ us) s d zero h = one x (u ∷ []) (s .0)
-  each-says (x ∷ xs) (u ∷ us) s d (suc i) h = each-says xs us (s .1) d i (omega arith)
-
-  pub each-element : (n : ℕ) (xs : List (R .Denot)) (vs : List Val) → Is (Array R n) xs vs → (d : R .Denot) (i : ℕ) → i < n → P (getD xs i d)
-  each-element n xs vs p d i h = let l = p .1 .0 .1 in each-says xs (p .0) (p .1 .1) d i (omega arith)
-
--- The same of an array that is a field of a struct, whose relation stands at a map over the list
+-- of an array that is a field of a struct, whose relation stands at a map over the list
 module _ {X : Type 0} (R : RattleType) (f : X → R .Denot) (P : X → Type 0) (one : (x : X) (vs : List Val) → Is R (f x) vs → P x) where
   each-mapped : (xs : List X) (us : List Val) → shadow (each (R .Denot) (R .own) (map f xs) us) → (d : X) (i : ℕ) → i < length xs → P (getD xs i d)
   each-mapped [] us s d i h = absurd (omega arith)
@@ -32,3 +22,8 @@ module _ {X : Type 0} (R : RattleType) (f : X → R .Denot) (P : X → Type 0) (
   each-in-field n xs vs p d i h =
       let l : length xs ≡ n = sym (length-map xs f) ∙ p .1 .0 .1 in
       each-mapped xs (p .0) (p .1 .1) d i (omega arith)
+
+-- of an array itself
+pub each-element : (R : RattleType) (P : R .Denot → Type 0) → ((x : R .Denot) (vs : List Val) → Is R x vs → P x)
+    → (n : ℕ) (xs : List (R .Denot)) (vs : List Val) → Is (Array R n) xs vs → (d : R .Denot) (i : ℕ) → i < n → P (getD xs i d)
+each-element R P one n xs vs p = each-in-field R (λ (x : R .Denot). x) P one n xs vs (subst (λ (ys : List (R .Denot)). Is (Array R n) ys vs) (sym (map-id xs)) p)

@@ -4,12 +4,12 @@ use native.Mathlib.Omega.{arith}
 use native.Mathlib.Numerals.{add-one}
 use mathlib.Core.Path.{_≡_, refl, sym, ap, _∙_}
 use mathlib.Core.Logic.{⊎-elim}
-use mathlib.Core.Bool.{Bool, true, false, cond, not, _&&_}
+use mathlib.Core.Bool.{Bool, true, false, _&&_}
 use mathlib.Core.List.{List, [], _∷_, _++_}
-use lib.ListN.{length, take, drop, set, getD, drop-of-length-le, length-append, List·getD-append}
+use lib.ListN.{length, drop, getD, drop-of-length-le, length-append, List·getD-append}
 use lib.Seq.{drop-cons, getD-at}
 use Rattle.lists.specs.Lists.{every, upTo}
-use Rattle.lists.proofs.Cases.{and-first, and-second, and-intro, and-true, and-false, never, by-test, lt-or-le}
+use Rattle.lists.proofs.Cases.{and-first, and-second, and-intro, and-true, and-false, by-test, lt-or-le}
 
 -- an element within the list is the same whatever stands for those past its end
 pub getD-any {ℓ} : {A : Type ℓ} (xs : List A) (i : ℕ) (d e : A) → i < length xs → getD xs i d ≡ getD xs i e
@@ -40,13 +40,6 @@ module _ {A : Type 0} (p : A → Bool) where
   every-from [] d f = refl
   every-from (x ∷ xs) d f = and-intro (p x) (every p xs) (f 0 (omega arith)) (every-from xs d (λ i l. f (suc i) (omega arith)))
 
-  pub every-set : (xs : List A) (i : ℕ) (v : A) → every p xs ≡ true → p v ≡ true → every p (set xs i v) ≡ true
-  unfolding every
-  every-set [] i v h q = h
-  every-set (x ∷ xs) zero v h q = and-intro (p v) (every p xs) q (and-second (p x) (every p xs) h)
-  every-set (x ∷ xs) (suc i) v h q =
-      and-intro (p x) (every p (set xs i v)) (and-first (p x) (every p xs) h) (every-set xs i v (and-second (p x) (every p xs) h) q)
-
   pub every-append : (xs ys : List A) → every p (xs ++ ys) ≡ (every p xs && every p ys)
   unfolding every
   every-append [] ys = refl
@@ -69,12 +62,16 @@ module _ {A : Type 0} (p : A → Bool) where
   pub every-end : (xs : List A) (i : ℕ) → length xs ≤ i → every p (drop i xs) ≡ true
   every-end xs i h = ap (every p) (drop-of-length-le xs h) ∙ every-nil
 
--- two tests that agree on the elements of a list
-pub every-agree : {A : Type 0} (p q : A → Bool) (xs : List A) (d : A) → ((i : ℕ) → i < length xs → p (getD xs i d) ≡ q (getD xs i d)) → every p xs ≡ every q xs
+-- tests of two lists that agree at every place
+pub every-agree : {A B : Type 0} (p : A → Bool) (q : B → Bool) (d : A) (e : B) (xs : List A) (ys : List B) → length xs ≡ length ys
+    → ((i : ℕ) → i < length xs → p (getD xs i d) ≡ q (getD ys i e)) → every p xs ≡ every q ys
 unfolding every
-every-agree p q [] d f = refl
-every-agree p q (x ∷ xs) d f =
-    ap (λ (b : Bool). b && every p xs) (f 0 (omega arith)) ∙ ap (λ (b : Bool). q x && b) (every-agree p q xs d (λ i l. f (suc i) (omega arith)))
+every-agree p q d e [] [] n f = refl
+every-agree p q d e [] (y ∷ ys) n f = absurd (omega arith)
+every-agree p q d e (x ∷ xs) [] n f = absurd (omega arith)
+every-agree p q d e (x ∷ xs) (y ∷ ys) n f =
+    ap (λ (b : Bool). b && every p xs) (f 0 (omega arith))
+    ∙ ap (λ (b : Bool). q y && b) (every-agree p q d e xs ys (omega arith) (λ i l. f (suc i) (omega arith)))
 
 -- ---- the numbers below n
 

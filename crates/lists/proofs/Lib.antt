@@ -9,4 +9,7 @@ pub mod Elements
 pub mod Searching
 pub mod Testing
 pub mod Passing
-pub mod Twins
+pub mod Pairs
+pub mod Prefix
+pub mod Maps
+pub mod Stores

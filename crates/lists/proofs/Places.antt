@@ -2,17 +2,15 @@
 use Prim.Native.Nat.{ℕ, zero, suc, _+_, _-_, _≤_, _<_}
 use native.Mathlib.Omega.{arith}
 use native.Mathlib.Nat.{add-zero}
-use native.Mathlib.Numerals.{add-one}
 use mathlib.Core.Path.{_≡_, refl, sym, ap, _∙_, subst}
-use mathlib.Core.Bool.{Bool, true, false, cond, not, _&&_}
+use mathlib.Core.Bool.{Bool, true, false, cond}
 use mathlib.Core.Logic.{⊎-elim}
-use mathlib.Core.List.{List, [], _∷_, _++_}
-use lib.ListN.{length, take, drop, set, getD, drop-of-length-le, length-set}
-use lib.Seq.{getD-set-same, getD-set-other}
+use mathlib.Core.List.{List, [], _∷_}
+use lib.ListN.{length, drop, getD, drop-of-length-le}
 use Rattle.lists.specs.declared.Found.{Found}
 use Rattle.lists.specs.declared.Found.the-variants.{At, Nothing}
 use Rattle.lists.specs.Lists.{firstFrom, firstPlace}
-use Rattle.lists.proofs.Cases.{by-test, never, cond-true, cond-false, eq-or-ne, lt-or-le}
+use Rattle.lists.proofs.Cases.{by-test, never, not-passed, cond-true, cond-false, lt-or-le}
 use Rattle.lists.proofs.Every.{drop-step}
 
 -- what a search that starts to count at k says of its list
@@ -108,28 +106,6 @@ module _ {A : Type 0} (p : A → Bool) where
   pub first-none : (xs : List A) → ((j : ℕ) (d : A) → j < length xs → p (getD xs j d) ≡ false) → firstPlace p xs ≡ Nothing
   first-none xs f = place-from xs ∙ none-from xs 0 f
 
-  -- after a store: where the new element passes as the old one did, the answer stays
-  set-from : (xs : List A) (k i : ℕ) (v d : A) → p v ≡ p (getD xs i d) → firstFrom k p (set xs i v) ≡ firstFrom k p xs
-  set-from [] k i v d e = refl
-  set-from (x ∷ xs) k zero v d e =
-      from-cons k v xs ∙ ap (λ (t : Bool). cond t (At k) (firstFrom (k + 1) p xs)) e ∙ sym (from-cons k x xs)
-  set-from (x ∷ xs) k (suc i) v d e =
-      from-cons k x (set xs i v) ∙ ap (λ (f : Found). cond (p x) (At k) f) (set-from xs (k + 1) i v d e) ∙ sym (from-cons k x xs)
-
-  pub first-set-same : (xs : List A) (i : ℕ) (v d : A) → p v ≡ p (getD xs i d) → firstPlace p (set xs i v) ≡ firstPlace p xs
-  first-set-same xs i v d e = place-from (set xs i v) ∙ set-from xs 0 i v d e ∙ sym (place-from xs)
-
-  -- after a store of an element that passes where no lower one does, its place is the answer
-  pub first-set-at : (xs : List A) (i : ℕ) (v : A) → i < length xs → p v ≡ true → ((j : ℕ) (d : A) → j < i → p (getD xs j d) ≡ false)
-      → firstPlace p (set xs i v) ≡ At i
-  first-set-at xs i v l t f =
-      first-is (set xs i v) i
-      (record {
-        inside = omega (arith, length-set xs i v);
-        passes = λ d. ap p (getD-set-same xs i v d l) ∙ t;
-        lower = λ j d m. let g : j ≡ i → ⊥ = λ z. omega arith in ap p (getD-set-other xs i j v d g) ∙ f j d m;
-      })
-
   -- one element on
   module _ (xs : List A) (i : ℕ) (d : A) (l : i < length xs) where
     from-step : firstFrom i p (drop i xs) ≡ cond (p (getD xs i d)) (At i) (firstFrom (i + 1) p (drop (i + 1) xs))
@@ -143,3 +119,36 @@ module _ {A : Type 0} (p : A → Bool) where
 
   pub from-end : (xs : List A) (i : ℕ) → length xs ≤ i → firstFrom i p (drop i xs) ≡ Nothing
   from-end xs i h = ap (firstFrom i p) (drop-of-length-le xs h) ∙ from-nil i
+
+-- tests of two lists that agree at every place find the same place
+module _ {A B : Type 0} (p : A → Bool) (q : B → Bool) (d : A) (e : B) where
+  agree-from : (xs : List A) (ys : List B) (k : ℕ) → length xs ≡ length ys → ((i : ℕ) → i < length xs → p (getD xs i d) ≡ q (getD ys i e))
+      → firstFrom k p xs ≡ firstFrom k q ys
+  agree-from [] [] k n f = from-nil p k ∙ sym (from-nil q k)
+  agree-from [] (y ∷ ys) k n f = absurd (omega arith)
+  agree-from (x ∷ xs) [] k n f = absurd (omega arith)
+  agree-from (x ∷ xs) (y ∷ ys) k n f =
+      from-cons p k x xs
+      ∙ ap (λ (t : Bool). cond t (At k) (firstFrom (k + 1) p xs)) (f 0 (omega arith))
+      ∙ ap (λ (g : Found). cond (q y) (At k) g) (agree-from xs ys (k + 1) (omega arith) (λ i l. f (suc i) (omega arith)))
+      ∙ sym (from-cons q k y ys)
+
+  pub first-agree : (xs : List A) (ys : List B) → length xs ≡ length ys → ((i : ℕ) → i < length xs → p (getD xs i d) ≡ q (getD ys i e))
+      → firstPlace p xs ≡ firstPlace q ys
+  first-agree xs ys n f = place-from p xs ∙ agree-from xs ys 0 n f ∙ sym (place-from q ys)
+
+-- where no two elements are alike and all that pass a test are, the first that passes is the only one
+pub first-only : {A : Type 0} (p : A → Bool) (alike : A → A → Bool) (xs : List A) (d : A) (i : ℕ) → First p xs i
+    → ((x y : A) → p x ≡ true → p y ≡ true → alike x y ≡ true)
+    → ((j k : ℕ) → j < k → k < length xs → alike (getD xs j d) (getD xs k d) ≡ false)
+    → (j : ℕ) → j < length xs → (j ≡ i → ⊥) → p (getD xs j d) ≡ false
+first-only p alike xs d i w same apart j l f =
+    not-passed (p (getD xs j d))
+    (λ h.
+    ⊎-elim
+    (λ m. never h (w .lower j d m))
+    (λ m. let k : i < j = later i j m f in never (same (getD xs i d) (getD xs j d) (w .passes d) h) (apart i j k l))
+    (lt-or-le j i))
+  where
+    later : (i j : ℕ) → i ≤ j → (j ≡ i → ⊥) → i < j
+    later i j m f = omega arith

@@ -1,6 +1,6 @@
 // Byte strings and places in a list: what the layers above share.
 ghost use mathlib.Core.Path.{_≡_};
-ghost use Prim.Native.Nat.{min, _≤_};
+ghost use Prim.Native.Nat.{min, _≤_, _<_};
 ghost use lib.ListN.{length, take};
 ghost use Rattle.lists.specs.Lists.{every, eqBytes, front, padTo, isZero};
 
@@ -8,6 +8,13 @@ ghost use Rattle.lists.specs.Lists.{every, eqBytes, front, padTo, isZero
 pub enum Found {
     At(usize),
     Nothing,
+}
+
+// A byte as a u64, with its bound.
+pub fn wide(b: u8) -> u64
+    ensures { λ r. ⌜ (r ≡ b) × (r < 256) ⌝ }
+{
+    b as u64
 }
 
 // The smaller of a length and the most that is allowed.

@@ -18,7 +18,7 @@ use Rattle.wire.specs.Room.{putRoom}
 use Rattle.wire.proofs.Write.{int-alone}
 use Rattle.wire.proofs.Sizes.{shorter, encoded-len}
 use Rattle.wire.proofs.Numbers.{number-length}
-use Rattle.wire.proofs.Room.{fits-room, overlay-length, overlay-more, len-le, len-taken, whole-int}
+use Rattle.wire.proofs.buffer.Room.{fits-room, overlay-length, overlay-more, len-le, len-taken, whole-int}
 use Rattle.session.specs.declared.Reply.{Reply}
 use Rattle.session.specs.Answers.{replyOf}
 use Rattle.message.specs.Effects.{acknowledge}

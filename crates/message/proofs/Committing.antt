@@ -15,10 +15,11 @@ use Rattle.session.specs.declared.Commit.{Commit}
 use Rattle.session.specs.declared.Answer.the-variants as answer
 use Rattle.session.specs.Answers.{replyOf}
 use Rattle.session.specs.Session.{noBinding, bindingAt, committed}
-use Rattle.session.proofs.Basics.{length-mapped, blank}
+use Rattle.lists.proofs.Maps.{length-mapped}
+use Rattle.session.proofs.Basics.{blank}
 use Rattle.body.specs.declared.Reading.{Reading}
 use Rattle.body.specs.declared.Reading.the-variants as reading
-use Rattle.body.specs.declared.UpdateBody.{UpdateBody}
+use Rattle.body.specs.declared.update.UpdateBody.{UpdateBody}
 use Rattle.body.specs.Fields.{Read, spanIn}
 use Rattle.body.specs.Bodies.{Update}
 use Rattle.body.specs.Results.{readAs}

@@ -17,14 +17,14 @@ use Rattle.lists.proofs.Cases.{cond-true, cond-false, and-true, and-false}
 use Rattle.lists.proofs.Every.{getD-any}
 use Rattle.store.specs.declared.Table.{Table}
 use Rattle.store.specs.Store.{tableFree, tableNamed, makeTable, noTable}
-use Rattle.store.proofs.Typed.{length-mapped}
+use Rattle.lists.proofs.Maps.{length-mapped}
 use Rattle.session.specs.declared.Connection.{Connection}
 use Rattle.session.specs.declared.Reply.{Reply}
 use Rattle.session.specs.declared.Answer.the-variants as answer
 use Rattle.session.specs.Answers.{replyOf}
 use Rattle.session.specs.Session.{bind}
 use Rattle.body.specs.declared.Reading.the-variants as reading
-use Rattle.body.specs.declared.DefinitionBody.{DefinitionBody}
+use Rattle.body.specs.declared.definition.DefinitionBody.{DefinitionBody}
 use Rattle.body.specs.Fields.{spanIn}
 use Rattle.body.specs.Bodies.{definitionFields}
 use Rattle.body.specs.Results.{definitionBody}

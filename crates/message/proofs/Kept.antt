@@ -220,7 +220,7 @@ module _ (c : Connection) (s : Store) (h : Held c s) where
       store =
           put-table-facts s (h .storeShape) (h .store) place t l
           (record {
-            mark = mark;
+            flag = mark;
             facts = facts;
             shape = shape;
             fresh = λ q m n. ap (λ (k : List ℕ). tableNamed k (getD (s .tables) q noTable)) t-name ∙ other q m n;
@@ -297,7 +297,7 @@ module _ (c : Connection) (s : Store) (h : Held c s) where
       store =
           put-entry-facts s (h .storeShape) (h .store) place e
           (record {
-            mark = mark;
+            flag = mark;
             facts = facts;
             shape = shape;
             fresh = λ q m n.

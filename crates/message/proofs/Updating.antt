@@ -14,7 +14,7 @@ use Rattle.store.specs.Store.{noTable}
 use Rattle.session.specs.declared.Binding.{Binding}
 use Rattle.session.specs.declared.Connection.{Connection}
 use Rattle.session.specs.Session.{noBinding, bindingAt, isUpdated}
-use Rattle.body.specs.declared.UpdateBody.{UpdateBody}
+use Rattle.body.specs.declared.update.UpdateBody.{UpdateBody}
 use Rattle.body.specs.Fields.{Read, got, short, outside}
 use Rattle.body.specs.Bodies.{Update, updateFields, incrementalFields}
 use Rattle.body.specs.Results.{updateBody, updateStruct}

@@ -8,7 +8,7 @@ use Rattle.store.specs.declared.entries.Place.{Place}
 use Rattle.session.specs.declared.Connection.{Connection}
 use Rattle.session.specs.declared.Answer.the-variants as answer
 use Rattle.session.specs.Answers.{replyOf}
-use Rattle.body.specs.declared.UpdateBody.{UpdateBody}
+use Rattle.body.specs.declared.update.UpdateBody.{UpdateBody}
 use Rattle.body.specs.Fields.{Read}
 use Rattle.body.specs.Bodies.{Update}
 use Rattle.body.specs.Results.{readAs}

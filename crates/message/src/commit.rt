@@ -26,8 +26,8 @@ pub fn acknowledge(id: u32, update: u32) -> Reply
     let len = e.len;
     let encoded = e.bytes;
     let mut bytes = [0x0a, 0x85, (4 + len) as u8, 0, 0, 0, 0, 0, 0, 0, 0, 0];
-    wire::buffer::put_bytes(&mut bytes, 3, &encoded[..len]);
-    wire::buffer::put_number(&mut bytes, 3 + len, update);
+    wire::buffer::fit_bytes(&mut bytes, 3, &encoded[..len]);
+    wire::buffer::fit_number(&mut bytes, 3 + len, update);
     Reply {
         bytes,
         len: 7 + len,

@@ -15,7 +15,7 @@ use session::Connection;
 use session::reply_bytes::no_reply;
 use store::TABLES;
 use store::Table;
-use wire::Field;
+use wire::values::Field;
 ghost use mathlib.Core.Path.{_≡_};
 ghost use Rattle.session.specs.Session.{findBound};
 ghost use Rattle.message.specs.Effects.{switchTo, switch, acknowledgement, stickTable};

@@ -5,7 +5,7 @@ use crate::changes::ask_commit;
 use crate::changes::ask_refusal;
 use crate::table_at;
 use body::Reading;
-use body::UpdateBody;
+use body::update::UpdateBody;
 use session::Connection;
 use store::TABLES;
 use store::Table;

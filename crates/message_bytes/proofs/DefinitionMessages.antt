@@ -135,7 +135,7 @@ module _ (s : Session) (t : Store) (m : Made) (p : ReadPromise s t m) (e : Effec
   new-sound : soundTable new ≡ true
   new-sound =
       let k = kept s t m p e j .store in
-      subst (λ (y : Table). soundTable y ≡ true) table-is (facts-table (tableAt m place) (k .tableMark place there) (k .table place there))
+      subst (λ (y : Table). soundTable y ≡ true) table-is (facts-table (tableAt m place) (k .tableFlag place there) (k .table place there))
 
   new-shape : TableShape new
   new-shape =

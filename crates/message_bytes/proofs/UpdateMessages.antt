@@ -232,7 +232,7 @@ module _ (s : Session) (t : Store) (m : Made) (p : ReadPromise s t m) (e : Effec
 
   new-sound : soundEntry (m .store .tables) new ≡ true
   new-sound =
-      let n : new .held ≤ 1 = subst (λ (y : Entry). y .held ≤ 1) entry-is (kept s t m p e j .store .entryMark place there) in
+      let n : new .held ≤ 1 = subst (λ (y : Entry). y .held ≤ 1) entry-is (kept s t m p e j .store .entryFlag place there) in
       facts-entry (m .store .tables) new n (λ q. new-facts)
 
   new-shape : EntryShape new

@@ -8,12 +8,11 @@ use lib.ListN.{length, take, drop, getD, length-append, length-drop}
 use lib.Seq.{drop-cons, drop-append-seam, take-all}
 use lib.Dec.{ltb, leb, eqb}
 use borrow.Author.Tests.{lt-ltb, le-ltb, ltb-false, eqb-true, eq-eqb, ne-eqb}
-use Rattle.lists.proofs.Cases.{by-test, never, lt-or-le, and-first}
+use Rattle.lists.proofs.Cases.{by-test, never, lt-or-le, and-first, split}
 use Rattle.wire.specs.declared.Int.{Int}
 use Rattle.wire.specs.declared.Int.the-variants as int
 use Rattle.wire.specs.Integer.{encodeInt, readInt}
 use Rattle.wire.specs.Value.{Bytes}
-use Rattle.wire.proofs.Order.{split}
 use Rattle.wire.proofs.RoundTrip.{one-encoding}
 use Rattle.store.specs.declared.Entry.{Entry}
 use Rattle.store.specs.declared.Store.{Store}

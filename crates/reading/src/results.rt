@@ -87,7 +87,7 @@ fn put_reply(room: &mut [u8], reply: Reply)
     if 12 < n {
         return;
     }
-    wire::buffer::put_bytes(room, 0, &text[..n]);
+    wire::buffer::fit_bytes(room, 0, &text[..n]);
 }
 
 // What a message did is answered; its reply stands at the front of the room.

@@ -11,6 +11,7 @@ use lib.Seq.{drop-cons, length-take-le, take-all}
 use mir.Val.{Fits}
 use mir.Syntax.{w64}
 use borrow.Author.Needs.{needs}
+use Rattle.lists.proofs.Prefix.{first-bytes}
 use Rattle.lists.specs.Lists.{padTo}
 use Rattle.lists.proofs.Cases.{by-test, cond-true, cond-false, lt-or-le}
 use Rattle.lists.proofs.Bytes.{pad-length, pad-take}
@@ -32,12 +33,6 @@ pub some-unfinished : (s : Session) → length (s .buffer) ≡ 1027 → s .len �
 unfolding unfinished
 some-unfinished s e l = sym (length-take-le (s .len) (s .buffer) (omega arith))
 
-pub buffer-room : (s : Session) (n : ℕ) → length (s .buffer) ≡ 1027 → n ≤ 1027 → n ≤ length (s .buffer)
-buffer-room s n e l = omega arith
-
-pub buffer-part : (s : Session) (n : ℕ) → length (s .buffer) ≡ 1027 → n ≤ 1027 → length (take n (s .buffer)) ≡ n
-buffer-part s n e l = length-take-le n (s .buffer) (omega arith)
-
 buffer-unfinished : (s : Session) (n : ℕ) → length (s .buffer) ≡ 1027 → n ≡ length (unfinished s) → take n (s .buffer) ≡ unfinished s
 unfolding unfinished
 buffer-unfinished s n e p =
@@ -52,7 +47,7 @@ pub buffer-padded : (s : Session) (n m : ℕ) (bytes : List ℕ) → length (s .
     → bytes ≡ padTo m (unfinished s)
 buffer-padded s n m bytes e p q = q ∙ ap (padTo m) (buffer-unfinished s n e p)
 
-pub ruleset unfinished-rules = (needs, all-unfinished, some-unfinished, buffer-room, buffer-part, buffer-padded)
+pub ruleset unfinished-rules = (needs, all-unfinished, some-unfinished, first-bytes, buffer-padded)
 
 -- ---- one byte behind the others
 

@@ -11,8 +11,8 @@ use lib.Dec.{eqb, ltb, leb}
 use Rattle.lists.proofs.Cases.{by-test, cond-true, cond-false}
 use Rattle.wire.specs.declared.Int.{Int}
 use Rattle.wire.specs.declared.Int.the-variants as int
-use Rattle.wire.specs.declared.Number.{Number}
-use Rattle.wire.specs.declared.Number.the-variants as number
+use Rattle.wire.specs.declared.fixed.FourBytes.{FourBytes}
+use Rattle.wire.specs.declared.fixed.FourBytes.the-variants as number
 use Rattle.wire.specs.Integer.{readInt}
 use Rattle.wire.specs.Number.{readNumber}
 use Rattle.wire.specs.Value.{Bytes}
@@ -25,7 +25,8 @@ use Rattle.frame.specs.declared.Frame.the-variants as frame
 use Rattle.frame.specs.Frame.{headerOf, withLength, withHeader, judgeFrame}
 use Rattle.body.specs.Fields.{Read, got, short, outside, Reader, andThen, tested, integer, integerOf, numberRead, number4}
 use Rattle.body.specs.Bodies.{Named, namedFields, Shape, shapeFields, Times, timesFields, Definition, defined, restFields, definitionFields, switchFields, Update, entryFields, updateFields}
-use Rattle.body.proofs.Taken.{Taken, held}
+use Rattle.body.proofs.Holds.{held}
+use Rattle.body.proofs.Taken.{Taken}
 use Rattle.body.proofs.Within.{EntryWithin, entry-holds}
 use Rattle.receiver.specs.Ledger.{afterInt, bodyStart, valueOf, tableId, numberValue, explicitId}
 
@@ -158,7 +159,7 @@ switch-id u kind start end id next e h g =
     let body = take (end - start) (drop start u) in
     ap valueOf (ap (readInt u) (body-starts u kind start end e) ∙ int-there u start (end - start) h id next (tested-got _ (readInt body 0) id next g))
 
-number-got : (r : Number) (v n : ℕ) → numberRead r ≡ got v n → r ≡ number.Value v n
+number-got : (r : FourBytes) (v n : ℕ) → numberRead r ≡ got v n → r ≡ number.Value v n
 unfolding numberRead
 number-got (number.Value w k) v n e = cc
 number-got number.Short v n e = absurd (let z : _≡_ {A = ℕ} 0 1 = cc in omega arith)

@@ -10,7 +10,7 @@ use lib.Dec.{ltb}
 use borrow.Author.Tests.{lt-ltb, le-ltb}
 use Rattle.lists.proofs.Cases.{cond-true, cond-false}
 use Rattle.wire.specs.declared.Int.the-variants as int
-use Rattle.wire.specs.declared.Number.the-variants as number
+use Rattle.wire.specs.declared.fixed.FourBytes.the-variants as number
 use Rattle.wire.specs.Integer.{readInt, encodeInt}
 use Rattle.wire.specs.Number.{readNumber, encodeNumber}
 use Rattle.wire.proofs.Write.{int-alone}

@@ -10,8 +10,8 @@ use lib.ListN.{length, take, drop, getD}
 use lib.Dec.{ltb, eqb}
 use Rattle.wire.specs.declared.Int.{Int}
 use Rattle.wire.specs.declared.Int.the-variants as int
-use Rattle.wire.specs.declared.Number.{Number}
-use Rattle.wire.specs.declared.Number.the-variants as number
+use Rattle.wire.specs.declared.fixed.FourBytes.{FourBytes}
+use Rattle.wire.specs.declared.fixed.FourBytes.the-variants as number
 use Rattle.wire.specs.Integer.{readInt}
 use Rattle.wire.specs.Number.{readNumber}
 use Rattle.session.specs.declared.Binding.{Binding}
@@ -59,7 +59,7 @@ valueOf int.Overflow = 0
 unfoldable pub tableId : List ℕ → ℕ
 tableId message = valueOf (readInt message (bodyStart message))
 
-unfoldable pub numberValue : Number → ℕ
+unfoldable pub numberValue : FourBytes → ℕ
 numberValue (number.Value v next) = v
 numberValue number.Short = 0
 

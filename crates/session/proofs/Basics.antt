@@ -1,15 +1,8 @@
 -- What the proofs of functions share.
-use Prim.Native.Nat.{ℕ}
 use mathlib.Core.Path.{_≡_, sym, _∙_}
 use mathlib.Core.Bool.{Bool, true, false, not}
 use borrow.Author.Tests.{not-true, not-false}
-use mathlib.Core.List.{List, map}
-use lib.ListN.{length, length-map}
 use Rattle.session.specs.declared.Binding.{Binding}
-
--- what owning an array of structs tells stands at a map over its list
-pub length-mapped : (X Y : Type 0) (f : X → Y) (l : List X) (n : ℕ) → length (map f l) ≡ n → length l ≡ n
-length-mapped X Y f l n h = sym (length-map l f) ∙ h
 
 -- what a read past the end of the bindings gives
 abbrev pub blank : Binding

@@ -12,7 +12,7 @@ use Rattle.session.specs.declared.Connection.{Connection}
 use Rattle.session.specs.declared.Session.{Session}
 use Rattle.session.specs.Session.{bindingAt, noBinding}
 use Rattle.session.specs.Shape.{BindingShape, ConnectionShape, SessionShape}
-use Rattle.session.proofs.Basics.{length-mapped}
+use Rattle.lists.proofs.Maps.{length-mapped}
 use Rattle.session.proofs.Binding as binding-type
 use Rattle.session.proofs.Connection as connection-type
 use Rattle.session.proofs.Session as session-type

@@ -9,7 +9,8 @@ use borrow.Author.Needs.{needs}
 use Rattle.lists.specs.Lists.{every}
 use Rattle.lists.proofs.Every.{every-stop, every-next, every-end}
 use Rattle.session.specs.declared.Binding.{Binding}
-use Rattle.session.proofs.Basics.{length-mapped, blank, told}
+use Rattle.lists.proofs.Maps.{length-mapped}
+use Rattle.session.proofs.Basics.{blank, told}
 
 pub record Each (p : Binding → Bool) (bs : List Binding) (from i : ℕ) : Type 0 where
   pub long : length bs ≡ 8

@@ -1,15 +1,15 @@
 -- Soundness as facts: what a sound store holds, and that such facts make a store sound.
-use Prim.Native.Nat.{ℕ, _+_, _^_, _≤_, _<_, min}
+use Prim.Native.Nat.{ℕ, _^_, _≤_, _<_}
 use native.Mathlib.Omega.{arith}
-use mathlib.Core.Path.{_≡_, refl, sym, ap, _∙_}
-use mathlib.Core.Bool.{Bool, true, false, not, cond, _&&_, _||_}
+use mathlib.Core.Path.{_≡_, sym, _∙_}
+use mathlib.Core.Bool.{Bool, true, false, not, _&&_, _||_}
 use mathlib.Core.List.{List, [], _∷_}
-use lib.ListN.{length, getD, take}
+use lib.ListN.{length, getD}
 use lib.Seq.{length-take-le}
 use lib.Dec.{ltb, leb, eqb}
 use borrow.Author.Tests.{eqb-true, eq-eqb, leb-true, le-leb, ltb-true, lt-ltb}
 use Rattle.lists.specs.Lists.{allOf, every, distinct, eqBytes}
-use Rattle.lists.proofs.Cases.{by-test, never, not-passed, and-first, and-second, and-intro, unless-elim, unless-intro, cond-true, cond-false, all-none, all-first, all-rest, all-intro}
+use Rattle.lists.proofs.Cases.{by-test, and-first, and-second, and-intro, unless-elim, unless-intro, cond-true, cond-false, all-none, all-first, all-rest, all-intro}
 use Rattle.lists.proofs.Every.{every-at, every-from}
 use Rattle.lists.proofs.Distinct.{distinct-at, distinct-from}
 use Rattle.lists.proofs.Bytes.{eq-bytes, bytes-eq}
@@ -19,7 +19,7 @@ use Rattle.store.specs.declared.Store.{Store}
 use Rattle.store.specs.Limits.{keyKind, isKnown, isString, keyLengthOk, dataTypesOk}
 use Rattle.store.specs.Store.{tableHeld, entryHeld, nameOf, keyOf, tableNamed, entryOf, entryKeyed, noTable, noEntry}
 use Rattle.store.specs.Shape.{TableShape, EntryShape}
-use Rattle.store.specs.Sound.{nameLengthOk, keyTypeOk, tableKeyLengthOk, tableTypesOk, timedOk, tableTests, soundTable, sameName, entryTableOk, entryKeyLengthOk, keyRestZero, valuesOk, entryTests, soundEntry, sameKey, storeTests, soundStore}
+use Rattle.store.specs.Sound.{nameLengthOk, keyTypeOk, tableKeyLengthOk, tableTypesOk, timedOk, tableTests, soundTable, sameName, entryTableOk, entryKeyLengthOk, keyRestZero, valuesOk, entryTests, soundEntry, sameKey, soundStore}
 use Rattle.store.proofs.Rules.{key-length-most}
 
 -- ---- facts
@@ -42,10 +42,10 @@ pub record EntryFacts (tables : List Table) (e : Entry) : Type 0 where
   pub values : valuesOk (getD tables (e .table) noTable) e ≡ true
 
 pub record SoundStore (s : Store) : Type 0 where
-  pub tableMark : (i : ℕ) → i < length (s .tables) → getD (s .tables) i noTable .held ≤ 1
+  pub tableFlag : (i : ℕ) → i < length (s .tables) → getD (s .tables) i noTable .held ≤ 1
   pub table : (i : ℕ) → i < length (s .tables) → tableHeld (getD (s .tables) i noTable) ≡ true → TableFacts (getD (s .tables) i noTable)
   pub names : (i j : ℕ) → i < j → j < length (s .tables) → sameName (getD (s .tables) i noTable) (getD (s .tables) j noTable) ≡ false
-  pub entryMark : (i : ℕ) → i < length (s .entries) → getD (s .entries) i noEntry .held ≤ 1
+  pub entryFlag : (i : ℕ) → i < length (s .entries) → getD (s .entries) i noEntry .held ≤ 1
   pub entry : (i : ℕ) → i < length (s .entries) → entryHeld (getD (s .entries) i noEntry) ≡ true
       → EntryFacts (s .tables) (getD (s .entries) i noEntry)
   pub keys : (i j : ℕ) → i < j → j < length (s .entries) → sameKey (getD (s .entries) i noEntry) (getD (s .entries) j noEntry) ≡ false
@@ -120,13 +120,13 @@ module _ (tables : List Table) (e : Entry) where
 
 -- ---- a store
 
-table-mark : (t : Table) → soundTable t ≡ true → t .held ≤ 1
+table-flag : (t : Table) → soundTable t ≡ true → t .held ≤ 1
 unfolding soundTable
-table-mark t h = leb-true (t .held) 1 (and-first (leb (t .held) 1) (not (tableHeld t) || allOf (tableTests t)) h)
+table-flag t h = leb-true (t .held) 1 (and-first (leb (t .held) 1) (not (tableHeld t) || allOf (tableTests t)) h)
 
-entry-mark : (tables : List Table) (e : Entry) → soundEntry tables e ≡ true → e .held ≤ 1
+entry-flag : (tables : List Table) (e : Entry) → soundEntry tables e ≡ true → e .held ≤ 1
 unfolding soundEntry
-entry-mark tables e h = leb-true (e .held) 1 (and-first (leb (e .held) 1) (not (entryHeld e) || allOf (entryTests tables e)) h)
+entry-flag tables e h = leb-true (e .held) 1 (and-first (leb (e .held) 1) (not (entryHeld e) || allOf (entryTests tables e)) h)
 
 module _ (s : Store) where
   abbrev tables-ok : Bool
@@ -151,10 +151,10 @@ module _ (s : Store) where
       let es = all-first entries-ok (keys-ok ∷ []) r2 in
       let ks = all-first keys-ok [] (all-rest entries-ok (keys-ok ∷ []) r2) in
       record {
-        tableMark = λ i l. table-mark (getD (s .tables) i noTable) (every-at soundTable (s .tables) noTable i ts l);
+        tableFlag = λ i l. table-flag (getD (s .tables) i noTable) (every-at soundTable (s .tables) noTable i ts l);
         table = λ i l. table-facts (getD (s .tables) i noTable) (every-at soundTable (s .tables) noTable i ts l);
         names = λ i j l m. distinct-at sameName (s .tables) noTable i j ns l m;
-        entryMark = λ i l. entry-mark (s .tables) (getD (s .entries) i noEntry) (every-at (soundEntry (s .tables)) (s .entries) noEntry i es l);
+        entryFlag = λ i l. entry-flag (s .tables) (getD (s .entries) i noEntry) (every-at (soundEntry (s .tables)) (s .entries) noEntry i es l);
         entry = λ i l. entry-facts (s .tables) (getD (s .entries) i noEntry) (every-at (soundEntry (s .tables)) (s .entries) noEntry i es l);
         keys = λ i j l m. distinct-at sameKey (s .entries) noEntry i j ks l m;
       }
@@ -163,11 +163,11 @@ module _ (s : Store) where
   unfolding soundStore
   facts-sound r =
       all-intro tables-ok (names-ok ∷ entries-ok ∷ keys-ok ∷ [])
-      (every-from soundTable (s .tables) noTable (λ i l. facts-table (getD (s .tables) i noTable) (r .tableMark i l) (r .table i l)))
+      (every-from soundTable (s .tables) noTable (λ i l. facts-table (getD (s .tables) i noTable) (r .tableFlag i l) (r .table i l)))
       (all-intro names-ok (entries-ok ∷ keys-ok ∷ []) (distinct-from sameName (s .tables) noTable (λ i j l m. r .names i j l m))
       (all-intro entries-ok (keys-ok ∷ [])
       (every-from (soundEntry (s .tables)) (s .entries) noEntry
-      (λ i l. facts-entry (s .tables) (getD (s .entries) i noEntry) (r .entryMark i l) (r .entry i l)))
+      (λ i l. facts-entry (s .tables) (getD (s .entries) i noEntry) (r .entryFlag i l) (r .entry i l)))
       (all-intro keys-ok [] (distinct-from sameKey (s .entries) noEntry (λ i j l m. r .keys i j l m)) all-none)))
 
 -- ---- names and keys as facts

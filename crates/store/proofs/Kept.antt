@@ -1,33 +1,31 @@
 -- Lookup in a sound store, and that putting a table or an entry by the rules keeps a store sound and every other lookup.
-use Prim.Native.Nat.{ℕ, _+_, _^_, _≤_, _<_}
+use Prim.Native.Nat.{ℕ, _^_, _≤_, _<_}
 use native.Mathlib.Omega.{arith}
-use mathlib.Core.Path.{_≡_, refl, sym, ap, _∙_, subst}
-use mathlib.Core.Bool.{Bool, true, false, not, _&&_}
-use mathlib.Core.Logic.{_⊎_, ⊎-elim, inl, inr}
-use mathlib.Core.List.{List, [], _∷_}
-use lib.ListN.{length, getD, set, take, drop, replicate, length-set, getD-replicate, length-replicate, List·getD-eq-default}
-use lib.Seq.{getD-set-same, getD-set-other}
+use mathlib.Core.Path.{_≡_, sym, _∙_, subst}
+use mathlib.Core.Bool.{true, false}
+use mathlib.Core.Logic.{_⊎_, ⊎-elim}
+use mathlib.Core.List.{List}
+use lib.ListN.{length, getD, replicate, length-set, getD-replicate, length-replicate, List·getD-eq-default}
 use lib.IntN.{ℤ}
-use lib.Dec.{eqb, lit<}
+use lib.Dec.{lit<}
 use lib.Signed.{mag}
 use native.Mathlib.Nat.{pow-le-pow-right}
-use borrow.Author.Tests.{eqb-true, eq-eqb}
-use Rattle.lists.specs.declared.Found.{Found}
+use borrow.Author.Tests.{eqb-true}
 use Rattle.lists.specs.declared.Found.the-variants.{At, Nothing}
-use Rattle.lists.specs.Lists.{every, firstPlace, padTo, isZero}
-use Rattle.lists.proofs.Cases.{by-test, never, not-passed, and-first, and-second, and-intro, and-false, eq-or-ne, lt-or-le}
-use Rattle.lists.proofs.Every.{every-at, every-from}
-use Rattle.lists.proofs.Places.{First, first-at, first-nothing, first-set-same, first-set-at}
+use Rattle.lists.specs.Lists.{padTo}
+use Rattle.lists.proofs.Cases.{and-intro, lt-or-le}
+use Rattle.lists.proofs.Places.{First, first-at, first-nothing, first-only}
+use Rattle.lists.proofs.Stores.{stored-each}
 use Rattle.lists.proofs.Bytes.{pad-length, pad-at}
 use Rattle.store.specs.declared.Table.{Table}
 use Rattle.store.specs.declared.Entry.{Entry}
 use Rattle.store.specs.declared.Store.{Store}
 use Rattle.store.specs.declared.Definition.{Definition}
-use Rattle.store.specs.Limits.{keyMax, nameMax, keyKind, keyLengthOk}
-use Rattle.store.specs.Store.{tableHeld, entryHeld, tableFree, entryFree, nameOf, keyOf, tableNamed, entryOf, entryKeyed, findTable, findEntry, freeTable, freeEntry, makeEntry, makeTable, putTable, putEntry, noTable, noEntry, emptyStore}
+use Rattle.store.specs.Limits.{keyMax, nameMax}
+use Rattle.store.specs.Store.{tableHeld, entryHeld, tableFree, entryFree, nameOf, keyOf, tableNamed, entryKeyed, findTable, findEntry, freeTable, freeEntry, makeEntry, makeTable, putTable, putEntry, noTable, noEntry, emptyStore}
 use Rattle.store.specs.Shape.{Cells, TableShape, EntryShape, StoreShape}
-use Rattle.store.specs.Sound.{sameName, entryKeyLengthOk, keyRestZero, valuesOk, sameKey, soundStore}
-use Rattle.store.proofs.Facts.{TableFacts, EntryFacts, SoundStore, sound-facts, facts-sound, Named, Keyed, named-facts, facts-named, keyed-facts, facts-keyed, name-size, key-size, key-most}
+use Rattle.store.specs.Sound.{sameName, sameKey}
+use Rattle.store.proofs.Facts.{SoundStore, named-facts, keyed-facts}
 
 -- ---- what lookup and the search for a free place say
 
@@ -62,136 +60,52 @@ pub free-not-held : (t : Table) → tableFree t ≡ true → tableHeld t ≡ fal
 unfolding tableFree tableHeld
 free-not-held t h = rw (eqb-true (t .held) 0 h)
 
-pub free-entry-not-held : (e : Entry) → entryFree e ≡ true → entryHeld e ≡ false
-unfolding entryFree entryHeld
-free-entry-not-held e h = rw (eqb-true (e .held) 0 h)
-
-pub not-held-not-named : (name : List ℕ) (t : Table) → tableHeld t ≡ false → tableNamed name t ≡ false
-not-held-not-named name t h = not-passed (tableNamed name t) (λ q. never (named-facts name t q .held) h)
-
-pub not-held-not-keyed : (table : ℕ) (key : List ℕ) (e : Entry) → entryHeld e ≡ false → entryKeyed table key e ≡ false
-not-held-not-keyed table key e h = not-passed (entryKeyed table key e) (λ q. never (keyed-facts table key e q .held) h)
-
 -- ---- two held places with one name or one key
 
-named-twins : (name : List ℕ) (t u : Table) → Named name t → Named name u → sameName t u ≡ true
+equal-names : (name : List ℕ) (t u : Table) → tableNamed name t ≡ true → tableNamed name u ≡ true → sameName t u ≡ true
 unfolding sameName
-named-twins name t u p q =
-    and-intro (tableHeld t) (tableNamed (nameOf t) u) (p .held)
-    (subst (λ (n : List ℕ). tableNamed n u ≡ true) (sym (p .bytes)) (facts-named name u q))
+equal-names name t u h k =
+    let p = named-facts name t h in
+    and-intro (tableHeld t) (tableNamed (nameOf t) u) (p .held) (subst (λ (n : List ℕ). tableNamed n u ≡ true) (sym (p .bytes)) k)
 
-keyed-twins : (table : ℕ) (key : List ℕ) (e f : Entry) → Keyed table key e → Keyed table key f → sameKey e f ≡ true
+equal-keys : (table : ℕ) (key : List ℕ) (e f : Entry) → entryKeyed table key e ≡ true → entryKeyed table key f ≡ true → sameKey e f ≡ true
 unfolding sameKey
-keyed-twins table key e f p q =
+equal-keys table key e f h k =
+    let p = keyed-facts table key e h in
     and-intro (entryHeld e) (entryKeyed (e .table) (keyOf e) f) (p .held)
-    (subst (λ (n : ℕ). entryKeyed n (keyOf e) f ≡ true) (sym (p .owner))
-    (subst (λ (k : List ℕ). entryKeyed table k f ≡ true) (sym (p .bytes)) (facts-keyed table key f q)))
+    (subst (λ (n : ℕ). entryKeyed n (keyOf e) f ≡ true) (sym (p .owner)) (subst (λ (l : List ℕ). entryKeyed table l f ≡ true) (sym (p .bytes)) k))
 
 -- lookup finds the only one
 pub only-table : (s : Store) (name : List ℕ) (i : ℕ) → SoundStore s → findTable s name ≡ At i → (j : ℕ) → j < length (s .tables) → (j ≡ i → ⊥)
     → tableNamed name (getD (s .tables) j noTable) ≡ false
-only-table s name i r e j l f =
-    let t = getD (s .tables) i noTable in
-    let u = getD (s .tables) j noTable in
-    let w = table-found s name i e in
-    let p = named-facts name t (w .passes noTable) in
-    not-passed (tableNamed name u)
-    (λ h.
-    let q = named-facts name u h in
-    ⊎-elim
-    (λ m. never h (w .lower j noTable m))
-    (λ m. let k : i < j = later i j m f in never (named-twins name t u p q) (r .names i j k l))
-    (lt-or-le j i))
-  where
-    later : (i j : ℕ) → i ≤ j → (j ≡ i → ⊥) → i < j
-    later i j m f = omega arith
+only-table s name i r e = first-only (tableNamed name) sameName (s .tables) noTable i (table-found s name i e) (equal-names name) (r .names)
 
 pub only-entry : (s : Store) (table : ℕ) (key : List ℕ) (i : ℕ) → SoundStore s → findEntry s table key ≡ At i → (j : ℕ) → j < length (s .entries) → (j ≡ i → ⊥)
     → entryKeyed table key (getD (s .entries) j noEntry) ≡ false
-only-entry s table key i r e j l f =
-    let t = getD (s .entries) i noEntry in
-    let u = getD (s .entries) j noEntry in
-    let w = entry-found s table key i e in
-    let p = keyed-facts table key t (w .passes noEntry) in
-    not-passed (entryKeyed table key u)
-    (λ h.
-    let q = keyed-facts table key u h in
-    ⊎-elim
-    (λ m. never h (w .lower j noEntry m))
-    (λ m. let k : i < j = later i j m f in never (keyed-twins table key t u p q) (r .keys i j k l))
-    (lt-or-le j i))
-  where
-    later : (i j : ℕ) → i ≤ j → (j ≡ i → ⊥) → i < j
-    later i j m f = omega arith
-
--- ---- after a put
-
-pub put-table-length : (s : Store) (place : ℕ) (t : Table) → length (putTable s place t .tables) ≡ length (s .tables)
-unfolding putTable
-put-table-length s place t = length-set (s .tables) place t
-
-pub put-entry-length : (s : Store) (place : ℕ) (e : Entry) → length (putEntry s place e .entries) ≡ length (s .entries)
-unfolding putEntry
-put-entry-length s place e = length-set (s .entries) place e
-
--- it is found
-pub find-put-table : (s : Store) (place : ℕ) (t : Table) (name : List ℕ) → place < length (s .tables) → tableNamed name t ≡ true
-    → ((j : ℕ) (d : Table) → j < place → tableNamed name (getD (s .tables) j d) ≡ false) → findTable (putTable s place t) name ≡ At place
-unfolding findTable putTable
-find-put-table s place t name l h f = first-set-at (tableNamed name) (s .tables) place t l h f
-
-pub find-put-entry : (s : Store) (place : ℕ) (e : Entry) (table : ℕ) (key : List ℕ) → place < length (s .entries) → entryKeyed table key e ≡ true
-    → ((j : ℕ) (d : Entry) → j < place → entryKeyed table key (getD (s .entries) j d) ≡ false) → findEntry (putEntry s place e) table key ≡ At place
-unfolding findEntry putEntry
-find-put-entry s place e table key l h f = first-set-at (entryKeyed table key) (s .entries) place e l h f
-
--- every other name and key is found as before
-pub find-other-table : (s : Store) (place : ℕ) (t : Table) (name : List ℕ) → tableNamed name t ≡ tableNamed name (getD (s .tables) place noTable)
-    → findTable (putTable s place t) name ≡ findTable s name
-unfolding findTable putTable
-find-other-table s place t name h = first-set-same (tableNamed name) (s .tables) place t noTable h
-
-pub find-other-entry : (s : Store) (place : ℕ) (e : Entry) (table : ℕ) (key : List ℕ)
-    → entryKeyed table key e ≡ entryKeyed table key (getD (s .entries) place noEntry) → findEntry (putEntry s place e) table key ≡ findEntry s table key
-unfolding findEntry putEntry
-find-other-entry s place e table key h = first-set-same (entryKeyed table key) (s .entries) place e noEntry h
-
-pub find-after-table : (s : Store) (place : ℕ) (t : Table) (table : ℕ) (key : List ℕ) → findEntry (putTable s place t) table key ≡ findEntry s table key
-unfolding findEntry putTable
-find-after-table s place t table key = refl
-
-pub find-after-entry : (s : Store) (place : ℕ) (e : Entry) (name : List ℕ) → findTable (putEntry s place e) name ≡ findTable s name
-unfolding findTable putEntry
-find-after-entry s place e name = refl
+only-entry s table key i r e = first-only (entryKeyed table key) sameKey (s .entries) noEntry i (entry-found s table key i e) (equal-keys table key) (r .keys)
 
 -- ---- the shape after a put
 
 pub put-table-shape : (s : Store) (place : ℕ) (t : Table) → StoreShape s → TableShape t → StoreShape (putTable s place t)
 unfolding putTable
 put-table-shape s place t h q =
+    let n = length-set (s .tables) place t ∙ h .tables in
     record {
-      tables = length-set (s .tables) place t ∙ h .tables;
+      tables = n;
       entries = h .entries;
-      table = λ i l.
-          ⊎-elim
-          (λ z. rw (z, getD-set-same (s .tables) place t noTable (omega (arith, h .tables))) q)
-          (λ z. rw (getD-set-other (s .tables) place i t noTable z) (h .table i l))
-          (eq-or-ne i place);
+      table = λ i l. stored-each (s .tables) place t noTable TableShape q (λ k m. h .table k (omega (arith, h .tables))) i (omega (arith, n));
       entry = h .entry;
     }
 
 pub put-entry-shape : (s : Store) (place : ℕ) (e : Entry) → StoreShape s → EntryShape e → StoreShape (putEntry s place e)
 unfolding putEntry
 put-entry-shape s place e h q =
+    let n = length-set (s .entries) place e ∙ h .entries in
     record {
       tables = h .tables;
-      entries = length-set (s .entries) place e ∙ h .entries;
+      entries = n;
       table = h .table;
-      entry = λ i l.
-          ⊎-elim
-          (λ z. rw (z, getD-set-same (s .entries) place e noEntry (omega (arith, h .entries))) q)
-          (λ z. rw (getD-set-other (s .entries) place i e noEntry z) (h .entry i l))
-          (eq-or-ne i place);
+      entry = λ i l. stored-each (s .entries) place e noEntry EntryShape q (λ k m. h .entry k (omega (arith, h .entries))) i (omega (arith, n));
     }
 
 -- ---- the shape of what is made

@@ -2,8 +2,6 @@ pub mod Rules
 pub mod Typed
 pub mod Lookup
 pub mod Putting
-pub mod Tested
-pub mod TwinLoops
 pub mod Facts
 pub mod Kept
 pub mod Ruled

@@ -1,9 +1,9 @@
 -- What making and putting a table or an entry gives, in the form of the code.
-use Prim.Native.Nat.{ℕ, _≤_, _<_}
+use Prim.Native.Nat.{ℕ, _≤_}
 use native.Mathlib.Omega.{arith}
-use mathlib.Core.Path.{_≡_, refl, sym, ap, _∙_}
+use mathlib.Core.Path.{_≡_, sym, ap}
 use mathlib.Core.List.{List}
-use lib.ListN.{length, set, replicate}
+use lib.ListN.{length, replicate}
 use lib.Seq.{set-out}
 use lib.IntN.{ℤ}
 use Rattle.lists.specs.Lists.{padTo}

@@ -1,36 +1,34 @@
 -- Putting a table or an entry by the rules keeps a sound store sound.
-use Prim.Native.Nat.{ℕ, _+_, _-_, _^_, _≤_, _<_}
+use Prim.Native.Nat.{ℕ, _-_, _≤_, _<_}
 use native.Mathlib.Omega.{arith}
 use mathlib.Core.Path.{_≡_, refl, sym, ap, _∙_, subst}
-use mathlib.Core.Bool.{Bool, true, false, cond, not, _&&_}
-use mathlib.Core.Logic.{_⊎_, ⊎-elim, inl, inr}
-use mathlib.Core.List.{List, [], _∷_}
-use lib.ListN.{length, getD, set, take, drop, replicate, length-set, getD-replicate, length-replicate}
+use mathlib.Core.Bool.{Bool, true, false, cond, _&&_}
+use mathlib.Core.Logic.{_⊎_, ⊎-elim}
+use mathlib.Core.List.{List}
+use lib.ListN.{length, getD, set}
 use lib.Seq.{getD-set-same, getD-set-other}
 use lib.IntN.{ℤ}
 use lib.Dec.{leb, eqb}
 use borrow.Author.Tests.{eq-eqb}
-use Rattle.lists.specs.declared.Found.{Found}
-use Rattle.lists.specs.declared.Found.the-variants.{At, Nothing}
-use Rattle.lists.specs.Lists.{allOf, every, distinct, padTo, isZero}
+use Rattle.lists.specs.Lists.{allOf, every, distinct, isZero}
 use Rattle.lists.proofs.Cases.{never, not-passed, and-first, and-second, and-false-second, eq-or-ne}
+use Rattle.lists.proofs.Stores.{stored-each, stored-apart}
 use Rattle.lists.proofs.Bytes.{pad-take, pad-drop, zeros-zero}
 use Rattle.store.specs.declared.Table.{Table}
 use Rattle.store.specs.declared.Entry.{Entry}
 use Rattle.store.specs.declared.Store.{Store}
 use Rattle.store.specs.declared.Definition.{Definition}
-use Rattle.store.specs.Limits.{keyMax, nameMax, keyKind, isString, keyLengthOk, slotTypes}
-use Rattle.store.specs.Store.{tableHeld, entryHeld, nameOf, keyOf, tableNamed, entryKeyed, findTable, findEntry, makeEntry, makeTable, putTable, putEntry, noTable, noEntry, emptyStore}
+use Rattle.store.specs.Limits.{keyMax, nameMax, keyKind, isString, slotTypes}
+use Rattle.store.specs.Store.{tableHeld, entryHeld, nameOf, keyOf, tableNamed, entryKeyed, makeEntry, makeTable, putTable, putEntry, noTable, noEntry, emptyStore}
 use Rattle.store.specs.Shape.{TableShape, EntryShape, StoreShape}
 use Rattle.store.specs.Sound.{sameName, entryKeyLengthOk, keyRestZero, slotsOk, valuesOk, sameKey, soundStore, soundTable, soundEntry}
-use Rattle.store.proofs.Facts.{TableFacts, EntryFacts, SoundStore, sound-facts, facts-sound, Named, Keyed, named-facts, facts-named, keyed-facts, facts-keyed, name-size, key-size}
-use Rattle.store.proofs.Kept.{only-table, only-entry, table-missing, entry-missing}
+use Rattle.store.proofs.Facts.{TableFacts, EntryFacts, SoundStore, named-facts, facts-named, keyed-facts, facts-keyed, name-size, key-size}
 
 -- ---- the rules
 
 -- "A known table and key has its values replaced. Otherwise the entry takes the lowest free place": no other place holds its table and key
 pub record EntryRules (s : Store) (place : ℕ) (e : Entry) : Type 0 where
-  pub mark : e .held ≡ 1
+  pub flag : e .held ≡ 1
   pub facts : EntryFacts (s .tables) e
   pub shape : EntryShape e
   pub fresh : (j : ℕ) → j < length (s .entries) → (j ≡ place → ⊥) → entryKeyed (e .table) (keyOf e) (getD (s .entries) j noEntry) ≡ false
@@ -42,17 +40,13 @@ pub record Agrees (t u : Table) : Type 0 where
   pub dataTypes : t .«data_types» ≡ u .«data_types»
 
 pub record TableRules (s : Store) (place : ℕ) (t : Table) : Type 0 where
-  pub mark : t .held ≡ 1
+  pub flag : t .held ≡ 1
   pub facts : TableFacts t
   pub shape : TableShape t
   pub fresh : (j : ℕ) → j < length (s .tables) → (j ≡ place → ⊥) → tableNamed (nameOf t) (getD (s .tables) j noTable) ≡ false
   pub keeps : (tableHeld (getD (s .tables) place noTable) ≡ false) ⊎ Agrees (getD (s .tables) place noTable) t
 
 -- ---- an entry
-
-entry-held : (e : Entry) → e .held ≡ 1 → entryHeld e ≡ true
-unfolding entryHeld
-entry-held e h = eq-eqb (e .held) 1 h
 
 keyed-first : (e f : Entry) → entryKeyed (e .table) (keyOf e) f ≡ false → sameKey e f ≡ false
 unfolding sameKey
@@ -85,43 +79,19 @@ module _ (s : Store) (h : StoreShape s) (r : SoundStore s) where
   unfolding putEntry
   put-entry-facts place e w =
       record {
-        tableMark = r .tableMark;
+        tableFlag = r .tableFlag;
         table = r .table;
         names = r .names;
-        entryMark = λ i l.
-            let m : i < length es = omega (arith, n) in
-            ⊎-elim
-            (λ z. rw (z, getD-set-same es place e noEntry (omega arith)) (omega (arith, w .mark)))
-            (λ z. rw (getD-set-other es place i e noEntry z) (r .entryMark i m))
-            (eq-or-ne i place);
-        entry = λ i l.
-            let m : i < length es = omega (arith, n) in
-            ⊎-elim
-            (λ z. rw (z, getD-set-same es place e noEntry (omega arith)) (λ q. w .facts))
-            (λ z. rw (getD-set-other es place i e noEntry z) (r .entry i m))
-            (eq-or-ne i place);
-        keys = λ i j k l.
-            let m : j < length es = omega (arith, n) in
-            ⊎-elim
-            (λ z.
-            let g : j ≡ place → ⊥ = λ y. omega arith in
-            rw (z, getD-set-same es place e noEntry (omega arith), getD-set-other es place j e noEntry g) (keyed-first e (getD es j noEntry) (w .fresh j m g)))
-            (λ z.
-            rw (getD-set-other es place i e noEntry z)
-            (⊎-elim
-            (λ y.
-            rw (y, getD-set-same es place e noEntry (omega arith))
-            (keyed-second e (getD es i noEntry) (held-size i (omega arith)) (w .fresh i (omega arith) z)))
-            (λ y. rw (getD-set-other es place j e noEntry y) (r .keys i j k m))
-            (eq-or-ne j place)))
-            (eq-or-ne i place);
+        entryFlag = stored-each es place e noEntry (λ (f : Entry). f .held ≤ 1) (omega (arith, w .flag)) (r .entryFlag);
+        entry = stored-each es place e noEntry (λ (f : Entry). entryHeld f ≡ true → EntryFacts (s .tables) f) (λ q. w .facts) (r .entry);
+        keys = stored-apart es place e noEntry sameKey
+            (λ j l f.
+            (keyed-first e (getD es j noEntry) (w .fresh j l f), keyed-second e (getD es j noEntry) (held-size j l) (w .fresh j l f)))
+            (r .keys);
       }
     where
       es : List Entry
       es = s .entries
-
-      n : length (set (s .entries) place e) ≡ length (s .entries)
-      n = length-set (s .entries) place e
 
 -- ---- a table
 
@@ -200,52 +170,19 @@ module _ (s : Store) (h : StoreShape s) (r : SoundStore s) where
   unfolding putTable
   put-table-facts place t inside w =
       record {
-        tableMark = λ i l.
-            let m : i < length ts = omega (arith, n) in
-            ⊎-elim
-            (λ z. rw (z, getD-set-same ts place t noTable (omega arith)) (omega (arith, w .mark)))
-            (λ z. rw (getD-set-other ts place i t noTable z) (r .tableMark i m))
-            (eq-or-ne i place);
-        table = λ i l.
-            let m : i < length ts = omega (arith, n) in
-            ⊎-elim
-            (λ z. rw (z, getD-set-same ts place t noTable (omega arith)) (λ q. w .facts))
-            (λ z. rw (getD-set-other ts place i t noTable z) (r .table i m))
-            (eq-or-ne i place);
-        names = λ i j k l.
-            let m : j < length ts = omega (arith, n) in
-            ⊎-elim
-            (λ z.
-            let g : j ≡ place → ⊥ = λ y. omega arith in
-            rw (z, getD-set-same ts place t noTable (omega arith), getD-set-other ts place j t noTable g) (named-first t (getD ts j noTable) (w .fresh j m g)))
-            (λ z.
-            rw (getD-set-other ts place i t noTable z)
-            (⊎-elim
-            (λ y.
-            rw (y, getD-set-same ts place t noTable (omega arith))
-            (named-second t (getD ts i noTable) (named-size i (omega arith)) (w .fresh i (omega arith) z)))
-            (λ y. rw (getD-set-other ts place j t noTable y) (r .names i j k m))
-            (eq-or-ne j place)))
-            (eq-or-ne i place);
-        entryMark = r .entryMark;
-        entry = λ i l q. entry-stays ts place t (w .mark) (omega (arith, h .tables)) (w .keeps) (getD (s .entries) i noEntry) (r .entry i l q);
+        tableFlag = stored-each ts place t noTable (λ (u : Table). u .held ≤ 1) (omega (arith, w .flag)) (r .tableFlag);
+        table = stored-each ts place t noTable (λ (u : Table). tableHeld u ≡ true → TableFacts u) (λ q. w .facts) (r .table);
+        names = stored-apart ts place t noTable sameName
+            (λ j l f.
+            (named-first t (getD ts j noTable) (w .fresh j l f), named-second t (getD ts j noTable) (named-size j l) (w .fresh j l f)))
+            (r .names);
+        entryFlag = r .entryFlag;
+        entry = λ i l q. entry-stays ts place t (w .flag) (omega (arith, h .tables)) (w .keeps) (getD (s .entries) i noEntry) (r .entry i l q);
         keys = r .keys;
       }
     where
       ts : List Table
       ts = s .tables
-
-      n : length (set (s .tables) place t) ≡ length (s .tables)
-      n = length-set (s .tables) place t
-
--- ---- in terms of the test
-
-pub put-entry-sound : (s : Store) (place : ℕ) (e : Entry) → StoreShape s → soundStore s ≡ true → EntryRules s place e → soundStore (putEntry s place e) ≡ true
-put-entry-sound s place e h q w = facts-sound (putEntry s place e) (put-entry-facts s h (sound-facts s q) place e w)
-
-pub put-table-sound : (s : Store) (place : ℕ) (t : Table) → StoreShape s → soundStore s ≡ true → place < 8 → TableRules s place t
-    → soundStore (putTable s place t) ≡ true
-put-table-sound s place t h q l w = facts-sound (putTable s place t) (put-table-facts s h (sound-facts s q) place t l w)
 
 -- ---- a made entry and a made table
 
@@ -257,19 +194,9 @@ pub made-rest : (table : ℕ) (key : List ℕ) (server : ℤ) (values : List ℕ
 unfolding keyRestZero makeEntry
 made-rest table key server values l = ap (every isZero) (pad-drop keyMax key l) ∙ zeros-zero (keyMax - length key)
 
-pub made-keyed : (table : ℕ) (key : List ℕ) (server : ℤ) (values : List ℕ) → length key ≤ 64 → entryKeyed table key (makeEntry table key server values) ≡ true
-unfolding makeEntry entryHeld
-made-keyed table key server values l =
-    facts-keyed table key (makeEntry table key server values)
-    (record { held = refl; owner = refl; size = refl; bytes = made-key table key server values l })
-
 pub made-name : (name : List ℕ) (d : Definition) → length name ≤ 32 → nameOf (makeTable name d) ≡ name
 unfolding nameOf makeTable
 made-name name d l = pad-take nameMax name l
-
-pub made-named : (name : List ℕ) (d : Definition) → length name ≤ 32 → tableNamed name (makeTable name d) ≡ true
-unfolding makeTable tableHeld
-made-named name d l = facts-named name (makeTable name d) (record { held = refl; size = refl; bytes = made-name name d l })
 
 -- ---- the store without tables and entries
 

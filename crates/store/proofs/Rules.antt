@@ -1,19 +1,19 @@
 -- The rules of key types and data types: one law for each case.
-use Prim.Native.Nat.{ℕ, zero, suc, _+_, _*_, _-_, _/_, _%_, _^_, _≤_, _<_}
+use Prim.Native.Nat.{ℕ, _-_, _/_, _%_, _^_, _≤_, _<_}
 use native.Mathlib.Omega.{arith}
 use native.Mathlib.Nat.{div-eq-of-lt, pow-le-pow-right}
-use mathlib.Core.Path.{_≡_, refl, sym, ap, _∙_, subst}
-use mathlib.Core.Bool.{Bool, true, false, cond, not, _&&_, _||_}
+use mathlib.Core.Path.{_≡_, refl, sym, subst}
+use mathlib.Core.Bool.{Bool, true, false, _&&_}
 use mathlib.Core.List.{List, [], _∷_}
 use lib.ListN.{length, getD, List·getD-eq-default}
-use lib.Dec.{ltb, leb, eqb, lit<}
+use lib.Dec.{leb, eqb, lit<}
 use borrow.Author.Tests.{eqb-true, ne-eqb, leb-true, le-leb, lt-leb}
 use Rattle.lists.specs.Lists.{every, upTo, among}
 use Rattle.lists.proofs.Cases.{never, and-second, and-true, and-false}
 use Rattle.lists.proofs.Every.{every-at, up-at, up-length}
-use Rattle.store.specs.declared.KeyKind.{KeyKind}
-use Rattle.store.specs.declared.KeyKind.the-variants.{Integer, Ipv4, Ipv6, Str, Binary, Unknown}
-use Rattle.store.specs.Limits.{keyMax, keyKind, isKnown, keyLengthFits, keyLengthOk, present, isRate, isWide, rateTypes, slotTypes, slotsFor, integersOf}
+use Rattle.store.specs.declared.types.KeyKind.{KeyKind}
+use Rattle.store.specs.declared.types.KeyKind.the-variants.{Integer, Ipv4, Ipv6, Str, Binary, Unknown}
+use Rattle.store.specs.Limits.{keyMax, keyKind, keyLengthFits, keyLengthOk, present, isRate, rateTypes, slotTypes, slotsFor, integersOf}
 
 pub kind-unknown : (n : ℕ) → (n ≡ 0 → ⊥) → (n ≡ 1 → ⊥) → (n ≡ 2 → ⊥) → (n ≡ 3 → ⊥) → (n ≡ 4 → ⊥) → Unknown ≡ keyKind n
 unfolding keyKind
@@ -31,19 +31,6 @@ fits-most Unknown n h = never refl (sym h)
 pub key-length-most : (keyType n : ℕ) → keyLengthOk keyType n ≡ true → n ≤ 64
 unfolding keyLengthOk
 key-length-most keyType n h = fits-most (keyKind keyType) n h
-
-fits-known : (kind : KeyKind) (n : ℕ) → keyLengthFits keyMax kind n ≡ true → isKnown kind ≡ true
-fits-known Integer n h = refl
-fits-known Ipv4 n h = refl
-fits-known Ipv6 n h = refl
-fits-known Str n h = refl
-fits-known Binary n h = refl
-fits-known Unknown n h = h
-
--- only a known key type has a right key length
-pub key-length-known : (keyType n : ℕ) → keyLengthOk keyType n ≡ true → isKnown (keyKind keyType) ≡ true
-unfolding keyLengthOk
-key-length-known keyType n h = fits-known (keyKind keyType) n h
 
 -- ---- tables of the code
 
@@ -77,7 +64,7 @@ pub present-at : (types t : ℕ) → t < 32 → eqb ((types / getD powers t 0) %
 unfolding present
 present-at types t h = rw (power-at t h)
 
--- 34 slots, each of a data type from 1 to 18
+-- 10 single integers and 8 times 3: 34 slots, each of a data type from 1 to 18
 pub slot-count : length slotTypes ≡ 34
 unfolding slotTypes slotsFor integersOf isRate rateTypes among
 slot-count = refl

@@ -1,21 +1,21 @@
 -- What the types of the code say of a table, an entry and a store.
-use Prim.Native.Nat.{ℕ, _^_, _<_}
-use mathlib.Core.Path.{_≡_, sym, _∙_}
-use mathlib.Core.List.{List, map}
-use lib.ListN.{length, getD, length-map}
-use lib.Signed.{mag}
+use Prim.Native.Nat.{ℕ, _<_}
+use mathlib.Core.Path.{_≡_}
+use mathlib.Core.List.{List}
+use lib.ListN.{length, getD}
 use mir.Val.{Val, Fits, SFits}
 use mir.Syntax.{w8, w32, w64}
 use borrow.Author.Needs.{needs}
 use denote.Laws.{Is}
 use denote.Array.{Array}
 use denote.Struct.Declared.{row}
+use Rattle.lists.proofs.Maps.{length-mapped}
 use Rattle.lists.proofs.Elements.{each-element, each-in-field}
 use Rattle.store.specs.declared.Table.{Table}
 use Rattle.store.specs.declared.Entry.{Entry}
 use Rattle.store.specs.declared.Store.{Store}
 use Rattle.store.specs.Store.{noTable, noEntry}
-use Rattle.store.specs.Shape.{Cells, TableShape, EntryShape, StoreShape}
+use Rattle.store.specs.Shape.{TableShape, EntryShape, StoreShape}
 use Rattle.store.proofs.Table as table-type
 use Rattle.store.proofs.Entry as entry-type
 use Rattle.store.proofs.Store as store-type
@@ -44,9 +44,6 @@ entry-shape e vs p =
       key = record { size = search needs; small = λ i. let f : Fits w8 (getD (e .key) i 0) = search needs in f .fits };
       values = record { size = search needs; small = λ i. let f : Fits w64 (getD (e .values) i 0) = search needs in f .fits };
     }
-
-pub length-mapped : (X Y : Type 0) (f : X → Y) (l : List X) (n : ℕ) → length (map f l) ≡ n → length l ≡ n
-length-mapped X Y f l n h = sym (length-map l f) ∙ h
 
 -- arrays of tables and of entries
 pub tables-shape : (ts : List Table) (vs : List Val) → Is (Array (row table-type.the-type) 8) ts vs

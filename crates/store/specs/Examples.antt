@@ -2,16 +2,9 @@
 use mathlib.Core.Path.{_≡_, refl}
 use mathlib.Core.List.{[], _∷_}
 use mathlib.Core.Bool.{true, false}
-use lib.ListN.{length, getD}
-use Rattle.lists.specs.Lists.{allOf, every, distinct, among}
+use lib.ListN.{getD}
+use Rattle.lists.specs.Lists.{among}
 use Rattle.store.specs.Limits.{slotTypes, slotsFor, integersOf, isRate, rateTypes, keyLengthOk, keyKind}
-use Rattle.store.specs.Store.{emptyStore, noTable, noEntry, tableHeld, entryHeld}
-use Rattle.store.specs.Sound.{soundStore, soundTable, soundEntry, sameName, sameKey}
-
--- 10 single integers and 8 times 3: 34 slots
-slots : length slotTypes ≡ 34
-unfolding slotTypes slotsFor integersOf isRate rateTypes among
-slots = refl
 
 -- bytes out, type 15, stands at slot 26, after the rate of bytes in, type 14
 bytes-out : getD slotTypes 25 0 ∷ getD slotTypes 26 0 ∷ [] ≡ 14 ∷ 15 ∷ []
@@ -22,7 +15,3 @@ key-lengths : keyLengthOk 0 4 ∷ keyLengthOk 0 5 ∷ keyLengthOk 2 16 ∷ keyLe
     ≡ true ∷ false ∷ true ∷ true ∷ false ∷ false ∷ false ∷ []
 unfolding keyLengthOk keyKind
 key-lengths = refl
-
-empty-sound : soundStore emptyStore ≡ true
-unfolding soundStore emptyStore allOf every distinct soundTable soundEntry sameName sameKey noTable noEntry tableHeld entryHeld
-empty-sound = refl

@@ -5,8 +5,8 @@ use mathlib.Core.Bool.{Bool, true, false, cond, _&&_}
 use lib.ListN.{replicate}
 use lib.Dec.{ltb, leb, eqb}
 use Rattle.lists.specs.Lists.{among}
-use Rattle.store.specs.declared.KeyKind.{KeyKind}
-use Rattle.store.specs.declared.KeyKind.the-variants.{Integer, Ipv4, Ipv6, Str, Binary, Unknown}
+use Rattle.store.specs.declared.types.KeyKind.{KeyKind}
+use Rattle.store.specs.declared.types.KeyKind.the-variants.{Integer, Ipv4, Ipv6, Str, Binary, Unknown}
 
 -- "the lowest free of 8 table places"; "The store holds the tables and 128 entries"
 abbrev pub tablePlaces : ℕ

@@ -32,7 +32,7 @@ timedOk t = leb (t .timed) 1
 abbrev pub tableTests : Table → List Bool
 tableTests t = nameLengthOk t ∷ keyTypeOk t ∷ tableKeyLengthOk t ∷ tableTypesOk t ∷ timedOk t ∷ []
 
--- a mark is 0 or 1; "Free places aren't looked at"
+-- a flag is 0 or 1; "Free places aren't looked at"
 unfoldable pub soundTable : Table → Bool
 soundTable t = leb (t .held) 1 && (not (tableHeld t) || allOf (tableTests t))
 

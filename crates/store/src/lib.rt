@@ -21,6 +21,8 @@ pub const KEY_MAX: usize = 64;
 pub const RATES: usize = 8;
 // Integers of an entry's data types other than the server ID: 10 single ones and 8 times 3.
 pub const VALUES: usize = 34;
+// Data types are bits 0 to 18.
+pub const DATA_TYPES_MAX: u32 = 0x7_ffff;
 
 // A table. `held` is 1 for a held table and 0 for a free place, `timed` is 1 where expiry and periods are known and 0 where there are none.
 // Only the first `name_len` bytes of `name`, and only the periods of rate types present, are values; the others are written as zero.
@@ -53,17 +55,6 @@ pub struct Entry {
 pub struct Store {
     pub tables: [Table; TABLES],
     pub entries: [Entry; ENTRIES],
-}
-
-// ---- key types
-
-pub enum KeyKind {
-    Integer,
-    Ipv4,
-    Ipv6,
-    Str,
-    Binary,
-    Unknown,
 }
 
 // ---- putting a table or an entry

@@ -5,9 +5,18 @@ ghost use lib.Dec.{leb};
 ghost use lib.ListN.{getD};
 ghost use Rattle.store.specs.Limits.{keyKind, isKnown, isString, keyLengthFits, keyLengthOk, present, isWide, slotTypes, rateTypes};
 use crate::KEY_MAX;
-use crate::KeyKind;
 use crate::RATES;
 use crate::VALUES;
+
+// What a key type says of its keys.
+pub enum KeyKind {
+    Integer,
+    Ipv4,
+    Ipv6,
+    Str,
+    Binary,
+    Unknown,
+}
 
 // The kind of a key type's number; no other function looks at the number.
 pub fn key_kind(key_type: u8) -> KeyKind

@@ -16,19 +16,20 @@ use Rattle.lists.proofs.Cases.{by-test, never, cond-true, cond-false, and-first
 use Rattle.lists.proofs.Every.{getD-any, every-at}
 use Rattle.lists.proofs.Distinct.{distinct-at}
 use Rattle.lists.proofs.Bytes.{eq-bytes, pad-take}
-use Rattle.lists.proofs.Places.{First, first-at, first-nothing, first-is, first-none, place-from}
+use Rattle.lists.proofs.Places.{first-at, first-nothing, first-is, first-none, first-agree}
 use Rattle.store.specs.declared.Table.{Table}
 use Rattle.store.specs.declared.Entry.{Entry}
 use Rattle.store.specs.declared.Store.{Store}
 use Rattle.store.specs.Store.{entryHeld, entryFree, entryOf, entryKeyed, keyOf, noEntry}
 use Rattle.store.specs.Sound.{soundEntry, sameKey}
 use Rattle.store.specs.Shape.{StoreShape}
-use Rattle.store.proofs.Lookup.{blankEntry, long-key, prefix-length, prefix-within}
-use Rattle.store.proofs.Typed.{length-mapped}
-use Rattle.store_soundness.specs.Marks.{markEnd, markKey, entryMark, sameMark}
-use Rattle.store_soundness.proofs.marks.Marking.{key-below, start-small, held-is, same-alike, mapped-at, marks-tell}
+use Rattle.lists.proofs.Prefix.{first-bytes}
+use Rattle.store.proofs.Lookup.{blankEntry, long-key}
+use Rattle.lists.proofs.Maps.{mapped-at}
+use Rattle.store_soundness.specs.Hashes.{hashEnd, hashKey, entryHash, sameHash}
+use Rattle.store_soundness.proofs.hashes.Hashing.{key-below, start-small, held-is, same-alike, hashes-tell}
 use Rattle.store_soundness.specs.Codes.{entryCode, soundCode, isCode}
-use Rattle.store_soundness.proofs.codes.Coding.{codes-sound, codes-marks, free-marked}
+use Rattle.store_soundness.proofs.codes.Coding.{codes-sound, codes-hashes, free-hashed}
 use Rattle.store.specs.declared.entries.Place.{Place}
 use Rattle.store.specs.declared.entries.Place.the-variants as place
 use Rattle.store.specs.Places.{freeOf, placeOf}
@@ -36,27 +37,27 @@ use Rattle.message.specs.Targets.{keyedAs, goesTo}
 use Rattle.store_scan.specs.declared.Query.{Query}
 use Rattle.store_scan.specs.declared.Candidate.{Candidate}
 use Rattle.store_scan.specs.declared.Scanned.{Scanned}
-use Rattle.store_scan.specs.Scan.{Scans, Candidates, ScansByMarks, ScansByKeys}
+use Rattle.store_scan.specs.Scan.{Scans, Candidates, ScansByHashes, ScansByKeys}
 
 -- ---- the candidate
 
-module _ {entry : Entry} {codes : List ℕ} {apart : Bool} {mark : ℕ} {f : Found} (n : length codes ≡ 128) (a : apart ≡ distinct sameMark codes)
-    (m : mark ≡ markKey (entry .table % markEnd) (keyOf entry)) (p : f ≡ firstPlace (isCode mark) codes) where
-  pub candidate-at : {i : ℕ} → f ≡ found.At i → Candidates entry codes (record { «marks_equal» = not apart; place = i })
+module _ {entry : Entry} {codes : List ℕ} {apart : Bool} {hash : ℕ} {f : Found} (n : length codes ≡ 128) (a : apart ≡ distinct sameHash codes)
+    (m : hash ≡ hashKey (entry .table % hashEnd) (keyOf entry)) (p : f ≡ firstPlace (isCode hash) codes) where
+  pub candidate-at : {i : ℕ} → f ≡ found.At i → Candidates entry codes (record { «hashes_equal» = not apart; place = i })
   candidate-at {i} q =
-      let at = first-at (isCode mark) codes i (sym p ∙ q) in
+      let at = first-at (isCode hash) codes i (sym p ∙ q) in
       record {
-        marks-equal = ap not a;
+        hashes-equal = ap not a;
         within = omega (arith, n, at .inside);
-        sought = λ j l e. eqb-true (getD codes i 0) mark (at .passes 0) ∙ m;
+        sought = λ j l e. eqb-true (getD codes i 0) hash (at .passes 0) ∙ m;
       }
 
-  pub candidate-none : f ≡ found.Nothing → Candidates entry codes (record { «marks_equal» = not apart; place = 0 })
+  pub candidate-none : f ≡ found.Nothing → Candidates entry codes (record { «hashes_equal» = not apart; place = 0 })
   candidate-none q =
       record {
-        marks-equal = ap not a;
+        hashes-equal = ap not a;
         within = omega arith;
-        sought = λ j l e. never (eq-eqb (getD codes j 0) mark (e ∙ sym m)) (first-nothing (isCode mark) codes (sym p ∙ q) j 0 (omega (arith, n)));
+        sought = λ j l e. never (eq-eqb (getD codes j 0) hash (e ∙ sym m)) (first-nothing (isCode hash) codes (sym p ∙ q) j 0 (omega (arith, n)));
       }
 
 pub ruleset choosing = (needs, candidate-at, candidate-none)
@@ -72,7 +73,7 @@ module _ (entry e : Entry) where
   unfolding keyedAs keyOf
   short-as l q = q ∙ sym (and-true (leb (entry .«key_len») 64) _ (le-leb (entry .«key_len») 64 l))
 
-pub ruleset keying = (needs, long-other, short-as, prefix-length, prefix-within)
+pub ruleset keying = (needs, long-other, short-as, first-bytes)
 
 -- ---- the lowest free place
 
@@ -90,13 +91,13 @@ pub ruleset freeing = (needs, free-here, free-none)
 -- ---- the steps
 
 module _ {q : Query} {codes : List ℕ} {i : ℕ} {e : Entry} {s b : Bool} (t : s ≡ every soundCode codes) (k : b ≡ keyedAs (q .entry) e) where
-  pub marks-held : b ≡ true → ScansByMarks q codes i e (record { sound = s; place = place.Held i })
-  marks-held h = record { sound = t; place = sym (cond-true (keyedAs (q .entry) e) _ _ (sym k ∙ h)) }
+  pub hashes-held : b ≡ true → ScansByHashes q codes i e (record { sound = s; place = place.Held i })
+  hashes-held h = record { sound = t; place = sym (cond-true (keyedAs (q .entry) e) _ _ (sym k ∙ h)) }
 
-  pub marks-free : {p : Place} → b ≡ false → p ≡ freeOf (firstPlace (isCode markEnd) codes) → ScansByMarks q codes i e (record { sound = s; place = p })
-  marks-free h p = record { sound = t; place = p ∙ sym (cond-false (keyedAs (q .entry) e) _ _ (sym k ∙ h)) }
+  pub hashes-free : {p : Place} → b ≡ false → p ≡ freeOf (firstPlace (isCode hashEnd) codes) → ScansByHashes q codes i e (record { sound = s; place = p })
+  hashes-free h p = record { sound = t; place = p ∙ sym (cond-false (keyedAs (q .entry) e) _ _ (sym k ∙ h)) }
 
-pub ruleset comparing-marks = (needs, marks-held, marks-free)
+pub ruleset comparing-hashes = (needs, hashes-held, hashes-free)
 
 module _ {q : Query} {codes : List ℕ} {entries : List Entry} {p : Place} {b : Bool} (g : p ≡ goesTo entries (q .entry)) (t : b ≡ every soundCode codes) where
   pub keys-unsound : not b ≡ true → ScansByKeys q codes entries (record { sound = false; place = p })
@@ -109,38 +110,26 @@ pub ruleset comparing-keys = (needs, keys-unsound, keys-sound)
 
 -- ---- places of codes and of entries
 
--- a test of what f makes of each element, and a test of the elements
-module _ {X : Type 0} (f : X → ℕ) (p : ℕ → Bool) (q : X → Bool) (d : X) where
-  agree-from : (xs : List X) (k : ℕ) → ((i : ℕ) → i < length xs → p (f (getD xs i d)) ≡ q (getD xs i d)) → firstFrom k p (map f xs) ≡ firstFrom k q xs
-  unfolding firstFrom
-  agree-from [] k h = refl
-  agree-from (x ∷ xs) k h =
-      ap (λ (t : Bool). cond t (found.At k) (firstFrom (k + 1) p (map f xs))) (h 0 (omega arith))
-      ∙ ap (λ (g : Found). cond (q x) (found.At k) g) (agree-from xs (k + 1) (λ i l. h (suc i) (omega arith)))
-
-  first-agree : (xs : List X) → ((i : ℕ) → i < length xs → p (f (getD xs i d)) ≡ q (getD xs i d)) → firstPlace p (map f xs) ≡ firstPlace q xs
-  first-agree xs h = place-from p (map f xs) ∙ agree-from xs 0 h ∙ sym (place-from q xs)
-
--- an entry that has the table and the key has their mark
-keyed-mark : (table : ℕ) (key : List ℕ) (e : Entry) → entryKeyed table key e ≡ true → entryMark e ≡ markKey (table % markEnd) key
+-- an entry that has the table and the key has their hash
+keyed-hash : (table : ℕ) (key : List ℕ) (e : Entry) → entryKeyed table key e ≡ true → entryHash e ≡ hashKey (table % hashEnd) key
 unfolding entryKeyed entryOf
-keyed-mark table key e h =
+keyed-hash table key e h =
     let o = and-first (entryOf table (length key) e) (eqBytes (keyOf e) key) h in
     let t = and-second (entryHeld e) (eqb (e .table) table && eqb (e .«key_len») (length key)) o in
     let same-table = eqb-true (e .table) table (and-first (eqb (e .table) table) (eqb (e .«key_len») (length key)) t) in
     let same-bytes = eq-bytes (keyOf e) key (and-second (entryOf table (length key) e) (eqBytes (keyOf e) key) h) in
     held-is e (and-first (entryHeld e) (eqb (e .table) table && eqb (e .«key_len») (length key)) o)
-    ∙ ap (λ (x : ℕ). markKey (x % markEnd) (keyOf e)) same-table
-    ∙ ap (markKey (table % markEnd)) same-bytes
+    ∙ ap (λ (x : ℕ). hashKey (x % hashEnd) (keyOf e)) same-table
+    ∙ ap (hashKey (table % hashEnd)) same-bytes
 
--- where no two marks are equal, two places with one key's mark are one place
-module _ (entries : List Entry) (marks : List ℕ) (me : marks ≡ map entryMark entries) (apart : distinct sameMark marks ≡ true) (m : ℕ) (small : m < markEnd) where
-  not-before : (i j : ℕ) → i < j → j < length entries → getD marks i 0 ≡ m → getD marks j 0 ≡ m → ⊥
+-- where no two hashes are equal, two places with one key's hash are one place
+module _ (entries : List Entry) (hashes : List ℕ) (me : hashes ≡ map entryHash entries) (apart : distinct sameHash hashes ≡ true) (m : ℕ) (small : m < hashEnd) where
+  not-before : (i j : ℕ) → i < j → j < length entries → getD hashes i 0 ≡ m → getD hashes j 0 ≡ m → ⊥
   not-before i j l n a b =
-      let z = distinct-at sameMark marks 0 i j apart l (omega (arith, ap length me ∙ length-map entries entryMark)) in
-      never (same-alike (getD marks i 0) (getD marks j 0) (subst (λ (x : ℕ). x < markEnd) (sym a) small) (b ∙ sym a)) z
+      let z = distinct-at sameHash hashes 0 i j apart l (omega (arith, ap length me ∙ length-map entries entryHash)) in
+      never (same-alike (getD hashes i 0) (getD hashes j 0) (subst (λ (x : ℕ). x < hashEnd) (sym a) small) (b ∙ sym a)) z
 
-  one-place : (i j : ℕ) → i < length entries → j < length entries → getD marks i 0 ≡ m → getD marks j 0 ≡ m → i ≡ j
+  one-place : (i j : ℕ) → i < length entries → j < length entries → getD hashes i 0 ≡ m → getD hashes j 0 ≡ m → i ≡ j
   one-place i j k l a b =
       ⊎-elim (λ z. absurd (not-before i j z l a b)) (λ z. ⊎-elim (λ y. absurd (not-before j i y k b a)) (λ y. omega arith) (lt-or-le j i)) (lt-or-le i j)
 
@@ -156,48 +145,50 @@ module _ (q : Query) (t : Store) (shape : StoreShape t) (codes : List ℕ) (ce :
   pub scan-by-keys : (r : Scanned) → ScansByKeys q codes entries r → Scans q entries r
   scan-by-keys r x = record { sound = x .sound ∙ ap (λ (b : Bool). b && distinct sameKey entries) told-sound; place = λ h. x .place }
 
-  module _ (g : Candidate) (gs : Candidates (q .entry) codes g) (nm : g .«marks_equal» ≡ false) where
-    apart : distinct sameMark codes ≡ true
-    apart = not-false (distinct sameMark codes) (sym (gs .marks-equal) ∙ nm)
+  module _ (g : Candidate) (gs : Candidates (q .entry) codes g) (nm : g .«hashes_equal» ≡ false) where
+    apart : distinct sameHash codes ≡ true
+    apart = not-false (distinct sameHash codes) (sym (gs .hashes-equal) ∙ nm)
 
-    -- where all entries are sound, the codes are their marks
+    -- where all entries are sound, the codes are their hashes
     module _ (all : every (soundEntry (q .tables)) entries ≡ true) where
-      marks-are : codes ≡ map entryMark entries
-      marks-are = ce ∙ codes-marks (q .tables) entries all
+      hashes-are : codes ≡ map entryHash entries
+      hashes-are = ce ∙ codes-hashes (q .tables) entries all
 
       keys-apart : distinct sameKey entries ≡ true
-      keys-apart = marks-tell entries (ap (distinct sameMark) (sym marks-are) ∙ apart)
+      keys-apart = hashes-tell entries (ap (distinct sameHash) (sym hashes-are) ∙ apart)
 
-      mark-at : (i : ℕ) → i < 128 → getD codes i 0 ≡ entryMark (getD entries i blankEntry)
-      mark-at i l = ap (λ (xs : List ℕ). getD xs i 0) marks-are ∙ mapped-at entries i (omega (arith, shape .entries))
+      hash-at : (i : ℕ) → i < 128 → getD codes i 0 ≡ entryHash (getD entries i blankEntry)
+      hash-at i l = ap (λ (xs : List ℕ). getD xs i 0) hashes-are ∙ mapped-at entryHash entries i blankEntry 0 (omega (arith, shape .entries))
 
-      free-place : firstPlace (isCode markEnd) codes ≡ firstPlace entryFree entries
+      free-place : firstPlace (isCode hashEnd) codes ≡ firstPlace entryFree entries
       free-place =
-          ap (firstPlace (isCode markEnd)) marks-are
-          ∙ first-agree entryMark (isCode markEnd) entryFree blankEntry entries
-          (λ i l. free-marked (q .tables) (getD entries i blankEntry) (every-at (soundEntry (q .tables)) entries blankEntry i all l))
+          let n = ap length hashes-are ∙ length-map entries entryHash in
+          first-agree (isCode hashEnd) entryFree 0 blankEntry codes entries n
+          (λ i l.
+          ap (isCode hashEnd) (hash-at i (omega (arith, n, shape .entries)))
+          ∙ free-hashed (q .tables) (getD entries i blankEntry) (every-at (soundEntry (q .tables)) entries blankEntry i all (omega (arith, n))))
 
       abbrev entry : Entry
       entry = q .entry
 
       abbrev m : ℕ
-      m = markKey (entry .table % markEnd) (keyOf entry)
+      m = hashKey (entry .table % hashEnd) (keyOf entry)
 
-      small : m < markEnd
-      small = key-below (entry .table % markEnd) (keyOf entry) (start-small (entry .table))
+      small : m < hashEnd
+      small = key-below (entry .table % hashEnd) (keyOf entry) (start-small (entry .table))
 
       keyed-at : (i : ℕ) → i < 128 → keyedAs entry (getD entries i blankEntry) ≡ true → getD codes i 0 ≡ m
       unfolding keyedAs
       keyed-at i l h =
-          mark-at i l
-          ∙ keyed-mark (entry .table) (keyOf entry) (getD entries i blankEntry)
+          hash-at i l
+          ∙ keyed-hash (entry .table) (keyOf entry) (getD entries i blankEntry)
           (and-second (leb (entry .«key_len») 64) (entryKeyed (entry .table) (keyOf entry) (getD entries i blankEntry)) h)
 
       -- an entry with the key stands at the candidate place
       stands-there : (i : ℕ) → i < 128 → keyedAs entry (getD entries i blankEntry) ≡ true → i ≡ g .place
       stands-there i l h =
           let c = keyed-at i l h in
-          one-place entries codes marks-are apart m small i (g .place) (omega (arith, shape .entries)) (omega (arith, gs .within, shape .entries)) c (gs .sought i l c)
+          one-place entries codes hashes-are apart m small i (g .place) (omega (arith, shape .entries)) (omega (arith, gs .within, shape .entries)) c (gs .sought i l c)
 
       module _ (b : Bool) (be : b ≡ keyedAs entry (getD entries (g .place) blankEntry)) where
         found-held : b ≡ true → firstPlace (keyedAs entry) entries ≡ found.At (g .place)
@@ -224,15 +215,15 @@ module _ (q : Query) (t : Store) (shape : StoreShape t) (codes : List ℕ) (ce :
             never k (ap (λ (x : ℕ). keyedAs entry (getD entries x blankEntry)) (stands-there j n k) ∙ sym be ∙ h))
             (λ y. y))
 
-        goes-there : cond b (place.Held (g .place)) (freeOf (firstPlace (isCode markEnd) codes)) ≡ goesTo entries entry
+        goes-there : cond b (place.Held (g .place)) (freeOf (firstPlace (isCode hashEnd) codes)) ≡ goesTo entries entry
         unfolding goesTo placeOf
         goes-there =
             by-test b
             (λ h. cond-true b _ _ h ∙ ap (λ (f : Found). placeOf f (firstPlace entryFree entries)) (sym (found-held h)))
             (λ h. cond-false b _ _ h ∙ ap freeOf free-place ∙ ap (λ (f : Found). placeOf f (firstPlace entryFree entries)) (sym (found-none h)))
 
-    pub scan-by-marks : (r : Scanned) → ScansByMarks q codes (g .place) (getD entries (g .place) noEntry) r → Scans q entries r
-    scan-by-marks r x =
+    pub scan-by-hashes : (r : Scanned) → ScansByHashes q codes (g .place) (getD entries (g .place) noEntry) r → Scans q entries r
+    scan-by-hashes r x =
         record {
           sound = by-test (every (soundEntry (q .tables)) entries)
               (λ h. x .sound ∙ told-sound ∙ sym (and-true (every (soundEntry (q .tables)) entries) (distinct sameKey entries) h ∙ (keys-apart h ∙ sym h)))

@@ -9,7 +9,7 @@ use Rattle.store.specs.declared.Entry.{Entry}
 use Rattle.store.specs.Limits.{entryPlaces}
 use Rattle.store.specs.Store.{keyOf}
 use Rattle.store.specs.Sound.{soundEntry, sameKey}
-use Rattle.store_soundness.specs.Marks.{markEnd, markKey, sameMark}
+use Rattle.store_soundness.specs.Hashes.{hashEnd, hashKey, sameHash}
 use Rattle.store_soundness.specs.Codes.{soundCode, isCode}
 use Rattle.store.specs.declared.entries.Place.the-variants as place
 use Rattle.store.specs.Places.{freeOf}
@@ -25,17 +25,17 @@ pub record Scans (q : Query) (entries : List Entry) (r : Scanned) : Type 0 where
 
 -- ---- its steps, on the codes of the entries
 
--- whether two marks are equal; and a place within the store, which has the mark of the sought key if any place has it
+-- whether two hashes are equal; and a place within the store, which has the hash of the sought key if any place has it
 pub record Candidates (entry : Entry) (codes : List ℕ) (r : Candidate) : Type 0 where
-  pub marks-equal : r .«marks_equal» ≡ not (distinct sameMark codes)
+  pub hashes-equal : r .«hashes_equal» ≡ not (distinct sameHash codes)
   pub within : r .place < entryPlaces
-  pub sought : (i : ℕ) → i < entryPlaces → getD codes i 0 ≡ markKey (entry .table % markEnd) (keyOf entry)
-      → getD codes (r .place) 0 ≡ markKey (entry .table % markEnd) (keyOf entry)
+  pub sought : (i : ℕ) → i < entryPlaces → getD codes i 0 ≡ hashKey (entry .table % hashEnd) (keyOf entry)
+      → getD codes (r .place) 0 ≡ hashKey (entry .table % hashEnd) (keyOf entry)
 
 -- by the codes, and by the key of e alone, which is to be the entry at place i
-pub record ScansByMarks (q : Query) (codes : List ℕ) (i : ℕ) (e : Entry) (r : Scanned) : Type 0 where
+pub record ScansByHashes (q : Query) (codes : List ℕ) (i : ℕ) (e : Entry) (r : Scanned) : Type 0 where
   pub sound : r .sound ≡ every soundCode codes
-  pub place : r .place ≡ cond (keyedAs (q .entry) e) (place.Held i) (freeOf (firstPlace (isCode markEnd) codes))
+  pub place : r .place ≡ cond (keyedAs (q .entry) e) (place.Held i) (freeOf (firstPlace (isCode hashEnd) codes))
 
 -- by the codes and by all keys
 pub record ScansByKeys (q : Query) (codes : List ℕ) (entries : List Entry) (r : Scanned) : Type 0 where

@@ -1,4 +1,4 @@
-// A store's entries tested and looked up behind a reference. They are copied only where two marks are equal.
+// A store's entries tested and looked up behind a reference. They are copied only where two hashes are equal.
 use lists::Found;
 use message::commit::place_of;
 use store::ENTRIES;
@@ -11,19 +11,19 @@ use store::entries::Place;
 use store_soundness::codes::all_sound;
 use store_soundness::codes::code_place;
 use store_soundness::codes::entry_code;
+use store_soundness::hashes::HASH_END;
+use store_soundness::hashes::hashes_distinct;
+use store_soundness::hashes::held_hash;
 use store_soundness::keys::entry_keyed;
 use store_soundness::keys::keys_distinct;
-use store_soundness::marks::MARK_END;
-use store_soundness::marks::held_mark;
-use store_soundness::marks::marks_distinct;
 ghost use mathlib.Core.Path.{_≡_};
 ghost use mathlib.Core.List.{map};
 ghost use Rattle.lists.specs.Lists.{firstPlace};
-ghost use Rattle.store_soundness.specs.Marks.{markEnd};
+ghost use Rattle.store_soundness.specs.Hashes.{hashEnd};
 ghost use Rattle.store_soundness.specs.Codes.{entryCode, isCode};
 ghost use Rattle.store.specs.Places.{freeOf};
 ghost use Rattle.message.specs.Targets.{keyedAs};
-ghost use Rattle.store_scan.specs.Scan.{Scans, Candidates, ScansByMarks, ScansByKeys};
+ghost use Rattle.store_scan.specs.Scan.{Scans, Candidates, ScansByHashes, ScansByKeys};
 
 // What a scan is asked: the tables that the entries are tested with, and an entry whose place is looked for.
 pub struct Query {
@@ -31,9 +31,9 @@ pub struct Query {
     pub entry: Entry,
 }
 
-// Whether two marks are equal, and a place that has the mark of the sought key if any place has it.
+// Whether two hashes are equal, and a place that has the hash of the sought key if any place has it.
 struct Candidate {
-    marks_equal: bool,
+    hashes_equal: bool,
     place: usize,
 }
 
@@ -47,7 +47,7 @@ pub struct Scanned {
 fn codes_of(store: &Store, tables: [Table; TABLES]) -> [u32; ENTRIES]
     ensures { λ r. ⌜ r ≡ map (entryCode tables) (now (store .entry) .entries) ⌝ }
 {
-    let mut codes = [MARK_END; ENTRIES];
+    let mut codes = [HASH_END; ENTRIES];
     let mut i = 0;
     while i < ENTRIES {
         let held = store.entries[i].held;
@@ -60,19 +60,19 @@ fn codes_of(store: &Store, tables: [Table; TABLES]) -> [u32; ENTRIES]
     codes
 }
 
-// Where the sought key stands, if it is held and no two marks are equal.
+// Where the sought key stands, if it is held and no two hashes are equal.
 fn candidate_place(entry: Entry, codes: [u32; ENTRIES]) -> Candidate
     ensures { λ r. ⌜ Candidates entry codes r ⌝ }
 {
-    let apart = marks_distinct(codes);
-    let mark = held_mark(entry);
-    match code_place(codes, mark) {
+    let apart = hashes_distinct(codes);
+    let hash = held_hash(entry);
+    match code_place(codes, hash) {
         Found::At(place) => Candidate {
-            marks_equal: !apart,
+            hashes_equal: !apart,
             place,
         },
         Found::Nothing => Candidate {
-            marks_equal: !apart,
+            hashes_equal: !apart,
             place: 0,
         },
     }
@@ -92,17 +92,17 @@ fn keyed_as(entry: Entry, e: Entry) -> bool
 
 // The first place with the code of a free one.
 fn lowest_free(codes: [u32; ENTRIES]) -> Place
-    ensures { λ r. ⌜ r ≡ freeOf (firstPlace (isCode markEnd) codes) ⌝ }
+    ensures { λ r. ⌜ r ≡ freeOf (firstPlace (isCode hashEnd) codes) ⌝ }
 {
-    match code_place(codes, MARK_END) {
+    match code_place(codes, HASH_END) {
         Found::At(place) => Place::Free(place),
         Found::Nothing => Place::Full,
     }
 }
 
-// Where no two marks are equal: the sought entry is e, at the candidate place, or isn't held.
-fn by_marks(query: Query, codes: [u32; ENTRIES], place: usize, e: Entry) -> Scanned
-    ensures { λ r. ⌜ ScansByMarks query codes place e r ⌝ }
+// Where no two hashes are equal: the sought entry is e, at the candidate place, or isn't held.
+fn by_hashes(query: Query, codes: [u32; ENTRIES], place: usize, e: Entry) -> Scanned
+    ensures { λ r. ⌜ ScansByHashes query codes place e r ⌝ }
 {
     let sound = all_sound(codes);
     let entry = query.entry;
@@ -116,7 +116,7 @@ fn by_marks(query: Query, codes: [u32; ENTRIES], place: usize, e: Entry) -> Scan
     Scanned { sound, place: free }
 }
 
-// Where two marks are equal: all keys are compared.
+// Where two hashes are equal: all keys are compared.
 fn by_keys(query: Query, codes: [u32; ENTRIES], entries: [Entry; ENTRIES]) -> Scanned
     ensures { λ r. ⌜ ScansByKeys query codes entries r ⌝ }
 {
@@ -140,10 +140,10 @@ pub fn scan(store: &Store, query: Query) -> Scanned
     let codes = codes_of(store, tables);
     let entry = query.entry;
     let candidate = candidate_place(entry, codes);
-    if candidate.marks_equal {
+    if candidate.hashes_equal {
         let entries = store.entries;
         return by_keys(query, codes, entries);
     }
     let e = store.entries[candidate.place];
-    by_marks(query, codes, candidate.place, e)
+    by_hashes(query, codes, candidate.place, e)
 }

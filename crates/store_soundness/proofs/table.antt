@@ -1,1 +1,1 @@
-pub mod TwoTests
+pub mod TableTests

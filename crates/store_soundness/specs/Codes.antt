@@ -6,15 +6,15 @@ use lib.Dec.{eqb, ltb}
 use Rattle.store.specs.declared.Table.{Table}
 use Rattle.store.specs.declared.Entry.{Entry}
 use Rattle.store.specs.Sound.{soundEntry}
-use Rattle.store_soundness.specs.Marks.{entryMark}
+use Rattle.store_soundness.specs.Hashes.{entryHash}
 
--- the code of an entry that isn't sound; every mark is less
+-- the code of an entry that isn't sound; every hash is less
 abbrev pub unsoundCode : ℕ
 unsoundCode = 2 ^ 31
 
--- the mark of an entry that is sound with these tables, else the code of one that isn't
+-- the hash of an entry that is sound with these tables, else the code of one that isn't
 unfoldable pub entryCode : List Table → Entry → ℕ
-entryCode tables e = cond (soundEntry tables e) (entryMark e) unsoundCode
+entryCode tables e = cond (soundEntry tables e) (entryHash e) unsoundCode
 
 -- the code of a sound entry
 abbrev pub soundCode : ℕ → Bool

@@ -1,3 +1,3 @@
 pub mod Narrow
-pub mod Marks
+pub mod Hashes
 pub mod Codes

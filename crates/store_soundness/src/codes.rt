@@ -1,7 +1,7 @@
 // A number for each entry of a store, by which entries are tested and looked up in place.
 use crate::entry::held_entry_ok;
-use crate::marks::MARK_END;
-use crate::marks::held_mark;
+use crate::hashes::HASH_END;
+use crate::hashes::held_hash;
 use lists::Found;
 use store::ENTRIES;
 use store::Entry;
@@ -14,12 +14,12 @@ ghost use Rattle.store_soundness.specs.Codes.{entryCode, soundCode, isCo
 // The code of an entry that isn't sound.
 pub const UNSOUND_CODE: u32 = 2147483648;
 
-// The mark of an entry that is sound with the tables (MARK_END for a free place), else UNSOUND_CODE.
+// The hash of an entry that is sound with the tables (HASH_END for a free place), else UNSOUND_CODE.
 pub fn entry_code(tables: [Table; TABLES], e: Entry) -> u32
     ensures { λ r. ⌜ r ≡ entryCode tables e ⌝ }
 {
     if e.held == 0 {
-        return MARK_END;
+        return HASH_END;
     }
     if e.held != 1 {
         return UNSOUND_CODE;
@@ -32,7 +32,7 @@ pub fn entry_code(tables: [Table; TABLES], e: Entry) -> u32
     if !held_entry_ok(t, e) {
         return UNSOUND_CODE;
     }
-    held_mark(e)
+    held_hash(e)
 }
 
 // Whether all codes are of sound entries. All are looked at: such a loop is compiled to wide instructions.

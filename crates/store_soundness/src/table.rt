@@ -4,6 +4,7 @@ ghost use mathlib.Core.Bool.{_&&_};
 ghost use Rattle.lists.specs.Lists.{allOf, every, distinct};
 ghost use Rattle.store.specs.Sound.{tableTests, soundTable, sameName};
 use crate::names::names_distinct;
+use store::DATA_TYPES_MAX;
 use store::NAME_MAX;
 use store::TABLES;
 use store::Table;
@@ -11,9 +12,6 @@ use store::types::is_known;
 use store::types::key_kind;
 use store::types::key_length_ok;
 use store::types::within;
-
-// Data types are bits 0 to 18.
-const DATA_TYPES_END: u32 = 524288;
 
 // The tests of a held table.
 fn held_table_ok(t: Table) -> bool
@@ -28,7 +26,7 @@ fn held_table_ok(t: Table) -> bool
     if !key_length_ok(t.key_type, t.key_len) {
         return false;
     }
-    if DATA_TYPES_END <= t.data_types {
+    if DATA_TYPES_MAX < t.data_types {
         return false;
     }
     t.timed <= 1

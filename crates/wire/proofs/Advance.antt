@@ -8,7 +8,7 @@ use borrow.Author.Tests.{lt-ltb, le-ltb}
 use Rattle.wire.specs.declared.Int.{Int}
 use Rattle.wire.specs.declared.Int.the-variants.{Value, Short, Overflow}
 use Rattle.wire.specs.Integer.{Later, ended, cut, endless, before, laterBytes, weighted, withLater, readFirst, readInt}
-use Rattle.wire.proofs.Order.{lt-or-le, split}
+use Rattle.lists.proofs.Cases.{lt-or-le, split}
 use Rattle.wire.proofs.Read.{fitting-value, fitting-over}
 
 Took : ℕ → ℕ → Later → Type 0

@@ -5,25 +5,18 @@ use native.Mathlib.Omega.{arith}
 use mathlib.Core.Logic.{_⊎_, inl, inr}
 use mathlib.Core.Path.{_≡_, refl, sym, _∙_}
 use mathlib.Core.List.{List, [], _∷_, _++_}
-use lib.IntN.{ℤ}
 use lib.ListN.{length, drop, length-append, List·getD-append}
 use lib.Seq.{drop-append-le, drop-append-add, getD-append-add}
 use borrow.Author.Tests.{lt-ltb, le-ltb}
 use Rattle.wire.specs.declared.Int.{Int}
 use Rattle.wire.specs.declared.Int.the-variants as int
-use Rattle.wire.specs.declared.Number.{Number}
-use Rattle.wire.specs.declared.Number.the-variants as number
-use Rattle.wire.specs.declared.Field.{Field}
-use Rattle.wire.specs.declared.Field.the-variants as field
-use Rattle.wire.specs.declared.Signed.{Signed}
-use Rattle.wire.specs.declared.Signed.the-variants as signed
-use Rattle.wire.specs.declared.ServerId.{ServerId}
-use Rattle.wire.specs.declared.ServerId.the-variants as server
+use Rattle.wire.specs.declared.fixed.FourBytes.{FourBytes}
+use Rattle.wire.specs.declared.fixed.FourBytes.the-variants as number
+use Rattle.wire.specs.declared.values.ServerId.the-variants as server
 use Rattle.wire.specs.Integer.{Later, ended, cut, endless, before, laterBytes, weighted, withLater, readFirst, readInt}
 use Rattle.wire.specs.Number.{readNumber}
-use Rattle.wire.specs.Value.{limited, readLimited}
-use Rattle.wire.specs.Server.{serverIdOf, serverBefore, serverOf, readServerId}
-use Rattle.wire.proofs.Order.{lt-or-le, split}
+use Rattle.wire.specs.Server.{serverOf, readServerId}
+use Rattle.lists.proofs.Cases.{lt-or-le, split}
 use Rattle.wire.proofs.Read.{fitting-value, fitting-over, first-end}
 use Rattle.wire.proofs.Numbers.{number-short, number-value}
 
@@ -54,12 +47,6 @@ int-behind s t at =
 
 pub int-value-behind : (s t : List ℕ) (at v next : ℕ) → readInt s at ≡ int.Value v next → readInt (s ++ t) at ≡ int.Value v next
 int-value-behind s t at v next e = split (int-behind s t at) (λ q. cc) (λ q. q ∙ e)
-
-pub int-overflow-behind : (s t : List ℕ) (at : ℕ) → readInt s at ≡ int.Overflow → readInt (s ++ t) at ≡ int.Overflow
-int-overflow-behind s t at e = split (int-behind s t at) (λ q. cc) (λ q. q ∙ e)
-
-pub int-short-behind : (s t : List ℕ) (at : ℕ) → readInt (s ++ t) at ≡ int.Short → readInt s at ≡ int.Short
-int-short-behind s t at e = split (int-behind s t at) (λ q. q) (λ q. sym q ∙ e)
 
 -- ---- the position: n bytes more before it move the next position by n
 unfoldable pub movedInt : ℕ → Int → Int
@@ -102,10 +89,7 @@ number-behind s t at =
 pub number-value-behind : (s t : List ℕ) (at v next : ℕ) → readNumber s at ≡ number.Value v next → readNumber (s ++ t) at ≡ number.Value v next
 number-value-behind s t at v next e = split (number-behind s t at) (λ q. cc) (λ q. q ∙ e)
 
-pub number-short-behind : (s t : List ℕ) (at : ℕ) → readNumber (s ++ t) at ≡ number.Short → readNumber s at ≡ number.Short
-number-short-behind s t at e = split (number-behind s t at) (λ q. q) (λ q. sym q ∙ e)
-
-unfoldable pub movedNumber : ℕ → Number → Number
+unfoldable pub movedNumber : ℕ → FourBytes → FourBytes
 movedNumber n (number.Value v next) = number.Value v (n + next)
 movedNumber n number.Short = number.Short
 
@@ -123,69 +107,7 @@ number-moved p s at =
     number-value (p ++ s) (length p + at) k
     ∙ rw (e₁, e₂, e₃, e₄, getD-append-add p s at 0, getD-append-add p s (at + 1) 0, getD-append-add p s (at + 2) 0, getD-append-add p s (at + 3) 0, number-value s at l))
 
--- ---- the value with a limit
-pub limited-behind : (limit : ℕ) (s t : List ℕ) (at : ℕ)
-    → (readLimited limit s at ≡ field.Short) ⊎ (readLimited limit (s ++ t) at ≡ readLimited limit s at)
-unfolding readLimited limited
-limited-behind limit s t at = split (int-behind s t at) (λ e. inl (rw e)) (λ e. inr (rw e))
-
-module _ (limit : ℕ) (s t : List ℕ) (at : ℕ) where
-  pub limited-value-behind : (v next : ℕ) → readLimited limit s at ≡ field.Value v next → readLimited limit (s ++ t) at ≡ field.Value v next
-  limited-value-behind v next e = split (limited-behind limit s t at) (λ q. cc) (λ q. q ∙ e)
-
-  pub limited-out-behind : readLimited limit s at ≡ field.OutOfRange → readLimited limit (s ++ t) at ≡ field.OutOfRange
-  limited-out-behind e = split (limited-behind limit s t at) (λ q. cc) (λ q. q ∙ e)
-
-  pub limited-short-behind : readLimited limit (s ++ t) at ≡ field.Short → readLimited limit s at ≡ field.Short
-  limited-short-behind e = split (limited-behind limit s t at) (λ q. q) (λ q. sym q ∙ e)
-
-unfoldable pub movedField : ℕ → Field → Field
-movedField n (field.Value v next) = field.Value v (n + next)
-movedField n field.Short = field.Short
-movedField n field.OutOfRange = field.OutOfRange
-
-limited-int : (limit n : ℕ) (i : Int) → limited limit (movedInt n i) ≡ movedField n (limited limit i)
-unfolding limited movedInt movedField
-limited-int limit n (int.Value v next) = split (lt-or-le limit v) (λ l. rw (lt-ltb limit v l)) (λ l. rw (le-ltb limit v l))
-limited-int limit n int.Short = refl
-limited-int limit n int.Overflow = refl
-
-pub limited-moved : (limit : ℕ) (p s : List ℕ) (at : ℕ)
-    → readLimited limit (p ++ s) (length p + at) ≡ movedField (length p) (readLimited limit s at)
-unfolding readLimited
-limited-moved limit p s at = rw (int-moved p s at) (limited-int limit (length p) (readInt s at))
-
 -- ---- the server ID
 pub server-behind : (s t : List ℕ) (at : ℕ) → (readServerId s at ≡ server.Short) ⊎ (readServerId (s ++ t) at ≡ readServerId s at)
 unfolding readServerId serverOf
 server-behind s t at = split (int-behind s t at) (λ e. inl (rw e)) (λ e. inr (rw e))
-
-module _ (s t : List ℕ) (at : ℕ) where
-  pub server-id-behind : (z : ℤ) (next : ℕ) → readServerId s at ≡ server.Id z next → readServerId (s ++ t) at ≡ server.Id z next
-  server-id-behind z next e = split (server-behind s t at) (λ q. cc) (λ q. q ∙ e)
-
-  pub server-out-behind : readServerId s at ≡ server.OutOfRange → readServerId (s ++ t) at ≡ server.OutOfRange
-  server-out-behind e = split (server-behind s t at) (λ q. cc) (λ q. q ∙ e)
-
-  pub server-short-behind : readServerId (s ++ t) at ≡ server.Short → readServerId s at ≡ server.Short
-  server-short-behind e = split (server-behind s t at) (λ q. q) (λ q. sym q ∙ e)
-
-unfoldable pub movedServer : ℕ → ServerId → ServerId
-movedServer n (server.Id z next) = server.Id z (n + next)
-movedServer n server.Short = server.Short
-movedServer n server.OutOfRange = server.OutOfRange
-
-server-signed : (n next : ℕ) (q : Signed) → serverBefore (n + next) q ≡ movedServer n (serverBefore next q)
-unfolding serverBefore movedServer
-server-signed n next (signed.Id z) = refl
-server-signed n next signed.OutOfRange = refl
-
-server-int : (n : ℕ) (i : Int) → serverOf (movedInt n i) ≡ movedServer n (serverOf i)
-unfolding serverOf movedInt movedServer
-server-int n (int.Value v next) = server-signed n next (serverIdOf v)
-server-int n int.Short = refl
-server-int n int.Overflow = refl
-
-pub server-moved : (p s : List ℕ) (at : ℕ) → readServerId (p ++ s) (length p + at) ≡ movedServer (length p) (readServerId s at)
-unfolding readServerId
-server-moved p s at = rw (int-moved p s at) (server-int (length p) (readInt s at))

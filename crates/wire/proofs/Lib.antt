@@ -1,4 +1,3 @@
-pub mod Order
 pub mod Read
 pub mod Reading
 pub mod Write
@@ -6,8 +5,5 @@ pub mod Sizes
 pub mod RoundTrip
 pub mod Advance
 pub mod Numbers
-pub mod Limited
-pub mod Server
 pub mod Behind
-pub mod Room
 pub mod Tenth

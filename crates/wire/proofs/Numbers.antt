@@ -7,12 +7,11 @@ use lib.ListN.{length, getD, take, drop, length-append}
 use lib.Seq.{getD-append-add, drop-cons}
 use borrow.Author.Needs.{needs}
 use borrow.Author.Tests.{le-leb, lt-leb}
-use Rattle.wire.specs.declared.Number.{Number}
-use Rattle.wire.specs.declared.Number.the-variants.{Value, Short}
+use Rattle.wire.specs.declared.fixed.FourBytes.{FourBytes}
+use Rattle.wire.specs.declared.fixed.FourBytes.the-variants.{Value, Short}
 use Rattle.wire.specs.Number.{numberOf, readNumber, encodeNumber}
 use Rattle.wire.specs.Value.{Bytes}
-use Rattle.wire.proofs.Order.{lt-or-le, split}
-use Rattle.wire.proofs.Sizes.{none-bytes, cons-bytes}
+use Rattle.lists.proofs.Cases.{lt-or-le, split}
 
 module _ (s : List ℕ) (at : ℕ) where
   pub number-short : length s < at + 4 → readNumber s at ≡ Short
@@ -43,10 +42,6 @@ pub ruleset numbers = (needs, past, few, four, number-bytes)
 pub number-length : (v : ℕ) → length (encodeNumber v) ≡ 4
 unfolding encodeNumber
 number-length v = refl
-
-pub encode-bytes : (v : ℕ) → Bytes (encodeNumber v)
-unfolding encodeNumber
-encode-bytes v = cons-bytes (omega arith) (cons-bytes (omega arith) (cons-bytes (omega arith) (cons-bytes (omega arith) none-bytes)))
 
 -- ---- there and back
 decode-encode : (v : ℕ) → v < 2 ^ 32 → numberOf (v / 2 ^ 24 % 256) (v / 2 ^ 16 % 256) (v / 2 ^ 8 % 256) (v % 256) ≡ v
@@ -91,7 +86,7 @@ four-taken s at h =
     let e₃ : at + 3 ≡ suc (suc (suc at)) = omega arith in
     rw (e₁, e₂, e₃, drop-cons s at 0 (omega arith), drop-cons s (suc at) 0 (omega arith), drop-cons s (suc (suc at)) 0 (omega arith), drop-cons s (suc (suc (suc at))) 0 (omega arith))
 
-Own : ℕ → List ℕ → Number → Type 0
+Own : ℕ → List ℕ → FourBytes → Type 0
 Own at s (Value v next) = (v < 2 ^ 32) × (next ≡ at + 4) × (next ≤ length s) × (take 4 (drop at s) ≡ encodeNumber v)
 Own at s Short = Unit {0}
 

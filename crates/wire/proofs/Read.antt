@@ -12,7 +12,7 @@ use borrow.Author.Tests.{lt-ltb, le-ltb}
 use Rattle.wire.specs.declared.Int.{Int}
 use Rattle.wire.specs.declared.Int.the-variants.{Value, Short, Overflow}
 use Rattle.wire.specs.Integer.{Later, ended, cut, endless, before, laterBytes, weighted, fitting, withLater, readFirst, readInt, tenthByte}
-use Rattle.wire.proofs.Order.{lt-or-le, split}
+use Rattle.lists.proofs.Cases.{lt-or-le, split}
 
 -- ---- a value fits, or not
 pub fitting-value : (v next : ℕ) → v < 2 ^ 64 → fitting v next ≡ Value v next

@@ -12,7 +12,7 @@ use mir.Val.{Fits}
 use Rattle.wire.specs.declared.Int.{Int}
 use Rattle.wire.specs.declared.Int.the-variants.{Value, Short, Overflow}
 use Rattle.wire.specs.Integer.{laterBytes, readInt, tenthByte}
-use Rattle.wire.proofs.Order.{lt-or-le, split}
+use Rattle.lists.proofs.Cases.{lt-or-le, split}
 use Rattle.wire.proofs.Read.{fitting-value, fitting-over, whole, at-end, at-last, at-more, first-end, first-alone, first-more, tenth-end, tenth-low, tenth-high, tenth-whole, weight-le}
 
 -- ---- `tenth_byte`

@@ -2,12 +2,12 @@
 use Prim.Native.Nat.{ℕ, zero, suc, _+_, _*_, _-_, _/_, _^_, _≤_, _<_}
 use native.Mathlib.Omega.{arith}
 use mathlib.Core.Path.{_≡_, refl, ap, _∙_}
-use mathlib.Core.List.{List, [], _∷_, _++_}
+use mathlib.Core.List.{List, [], _∷_}
 use lib.ListN.{length, getD, drop}
 use lib.Seq.{getD-drop}
 use Rattle.wire.specs.Integer.{encodeRest, encodeInt, smallest, encodedInt}
 use Rattle.wire.specs.Value.{Bytes}
-use Rattle.wire.proofs.Order.{lt-or-le, split}
+use Rattle.lists.proofs.Cases.{lt-or-le, split}
 use Rattle.wire.proofs.Write.{rest-last, rest-more, int-alone, int-more}
 
 -- ---- at most ten bytes, and one at least
@@ -46,26 +46,8 @@ cons-bytes h hs = record { byte = cons-byte _ _ h hs }
 pub tail-bytes : {b : ℕ} {s : List ℕ} → Bytes (b ∷ s) → Bytes s
 tail-bytes h = record { byte = λ i. h .byte (suc i) }
 
-pub append-bytes : (s : List ℕ) {t : List ℕ} → Bytes s → Bytes t → Bytes (s ++ t)
-append-bytes [] hs ht = ht
-append-bytes (b ∷ s) hs ht = cons-bytes (hs .byte 0) (append-bytes s (tail-bytes hs) ht)
-
 pub drop-bytes : (n : ℕ) {s : List ℕ} → Bytes s → Bytes (drop n s)
 drop-bytes n {s} h = record { byte = λ i. rw getD-drop (h .byte (n + i)) }
-
-rest-bytes : (n y : ℕ) → Bytes (encodeRest n y)
-unfolding encodeRest
-rest-bytes zero y = none-bytes
-rest-bytes (suc n) y =
-    split (lt-or-le y 128)
-    (λ l. rw (rest-last (suc n) n y refl l) (cons-bytes (omega arith) none-bytes))
-    (λ l. rw (rest-more (suc n) n y refl l) (cons-bytes (omega arith) (rest-bytes n ((y - 128) / 128))))
-
-pub int-bytes : (v : ℕ) → Bytes (encodeInt v)
-int-bytes v =
-    split (lt-or-le v 240)
-    (λ l. rw (int-alone v l) (cons-bytes (omega arith) none-bytes))
-    (λ l. rw (int-more v l) (cons-bytes (omega arith) (rest-bytes 9 ((v - 240) / 16))))
 
 -- ---- the table
 -- the smallest y that takes more than n bytes

@@ -10,7 +10,7 @@ use Rattle.wire.specs.declared.Int.{Int}
 use Rattle.wire.specs.declared.Int.the-variants.{Value, Short, Overflow}
 use Rattle.wire.specs.Integer.{Later, ended, cut, endless, before, laterBytes, weighted, withLater, readFirst, readInt}
 use Rattle.wire.specs.Value.{Bytes}
-use Rattle.wire.proofs.Order.{lt-or-le, split}
+use Rattle.lists.proofs.Cases.{lt-or-le, split}
 use Rattle.wire.proofs.Read.{fitting-value, fitting-over}
 use Rattle.wire.proofs.Sizes.{none-bytes, cons-bytes, tail-bytes, drop-bytes}
 

@@ -4,9 +4,9 @@ use mathlib.Core.Path.{_≡_, refl}
 use mathlib.Core.List.{[], _∷_}
 use lib.IntN.{pos, negsuc}
 use Rattle.wire.specs.declared.Int.the-variants as int
-use Rattle.wire.specs.declared.Number.the-variants as number
-use Rattle.wire.specs.declared.Signed.the-variants as signed
-use Rattle.wire.specs.declared.ServerId.the-variants as server
+use Rattle.wire.specs.declared.fixed.FourBytes.the-variants as number
+use Rattle.wire.specs.declared.values.Signed.the-variants as signed
+use Rattle.wire.specs.declared.values.ServerId.the-variants as server
 use Rattle.wire.specs.Integer.{encodeInt, encodeRest, readInt, readFirst, withLater, laterBytes, before, weighted, fitting}
 use Rattle.wire.specs.Number.{readNumber, numberOf, encodeNumber}
 use Rattle.wire.specs.Server.{serverWord, serverIdOf, readServerId, serverOf, serverBefore}

@@ -5,8 +5,8 @@ use mathlib.Core.Bool.{cond}
 use lib.Dec.{leb}
 use lib.ListN.{length}
 use Rattle.lists.specs.Lists.{overlay}
-use Rattle.wire.specs.declared.Put.{Put}
-use Rattle.wire.specs.declared.Put.the-variants as put
+use Rattle.wire.specs.declared.buffer.Put.{Put}
+use Rattle.wire.specs.declared.buffer.Put.the-variants as put
 
 -- The answer: the position after the bytes, or no room for them.
 unfoldable pub putResult : List ℕ → ℕ → List ℕ → Put

@@ -6,10 +6,10 @@ use lib.Dec.{ltb}
 use lib.IntN.{ℤ, pos, negsuc, natAbs, _+ℤ_, _-ℤ_}
 use Rattle.wire.specs.declared.Int.{Int}
 use Rattle.wire.specs.declared.Int.the-variants as int
-use Rattle.wire.specs.declared.Signed.{Signed}
-use Rattle.wire.specs.declared.Signed.the-variants as signed
-use Rattle.wire.specs.declared.ServerId.{ServerId}
-use Rattle.wire.specs.declared.ServerId.the-variants as server
+use Rattle.wire.specs.declared.values.Signed.{Signed}
+use Rattle.wire.specs.declared.values.Signed.the-variants as signed
+use Rattle.wire.specs.declared.values.ServerId.{ServerId}
+use Rattle.wire.specs.declared.values.ServerId.the-variants as server
 use Rattle.wire.specs.Integer.{readInt}
 
 -- The word of an ID: ".. a negative one is encoded as its value plus 2^64."

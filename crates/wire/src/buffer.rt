@@ -3,12 +3,17 @@ ghost use mathlib.Core.Path.{_≡_};
 ghost use Rattle.wire.specs.Integer.{encodeInt};
 ghost use Rattle.wire.specs.Number.{encodeNumber};
 ghost use Rattle.wire.specs.Room.{putResult, putRoom};
-use crate::Put;
 use crate::fixed::write_number;
 use crate::write_int;
 
+// What writing into lent room gives: the position after the bytes written, or no room for them.
+pub enum Put {
+    Next(usize),
+    NoRoom,
+}
+
 // `bytes` go to `room` from `at` on, if they fit whole.
-pub fn put_bytes(room: &mut [u8], at: usize, bytes: &[u8]) -> Put
+pub fn fit_bytes(room: &mut [u8], at: usize, bytes: &[u8]) -> Put
     ensures result { λ r. ⌜ r ≡ putResult (now (room .entry)) at (now (bytes .entry)) ⌝ }
     ensures left { λ _. ⌜ now (room .exit) ≡ putRoom (now (room .entry)) at (now (bytes .entry)) ⌝ }
 {
@@ -27,21 +32,21 @@ pub fn put_bytes(room: &mut [u8], at: usize, bytes: &[u8]) -> Put
 }
 
 // The encoding of v goes to `room` from `at` on, if it fits whole.
-pub fn put_int(room: &mut [u8], at: usize, v: u64) -> Put
+pub fn fit_int(room: &mut [u8], at: usize, v: u64) -> Put
     ensures result { λ r. ⌜ r ≡ putResult (now (room .entry)) at (encodeInt v) ⌝ }
     ensures left { λ _. ⌜ now (room .exit) ≡ putRoom (now (room .entry)) at (encodeInt v) ⌝ }
 {
     let e = write_int(v);
     let len = e.len;
     let bytes = e.bytes;
-    put_bytes(room, at, &bytes[..len])
+    fit_bytes(room, at, &bytes[..len])
 }
 
 // The four bytes of v go to `room` from `at` on, if they fit whole.
-pub fn put_number(room: &mut [u8], at: usize, v: u32) -> Put
+pub fn fit_number(room: &mut [u8], at: usize, v: u32) -> Put
     ensures result { λ r. ⌜ r ≡ putResult (now (room .entry)) at (encodeNumber v) ⌝ }
     ensures left { λ _. ⌜ now (room .exit) ≡ putRoom (now (room .entry)) at (encodeNumber v) ⌝ }
 {
     let bytes = write_number(v);
-    put_bytes(room, at, &bytes)
+    fit_bytes(room, at, &bytes)
 }

@@ -2,7 +2,12 @@
 ghost use mathlib.Core.Path.{_≡_};
 ghost use Prim.Native.Nat.{_<_};
 ghost use Rattle.wire.specs.Number.{readNumber, encodeNumber};
-use crate::Number;
+
+// What reading a 4-byte number finds.
+pub enum FourBytes {
+    Value { value: u32, next: usize },
+    Short,
+}
 
 // A byte as a u32, with its bound.
 fn word(b: u8) -> u32
@@ -12,20 +17,20 @@ fn word(b: u8) -> u32
 }
 
 // The 4-byte big-endian number at `at`.
-pub fn read_number(s: &[u8], at: usize) -> Number
+pub fn read_number(s: &[u8], at: usize) -> FourBytes
     ensures { λ r. ⌜ r ≡ readNumber (now (s .entry)) at ⌝ }
 {
     if s.len() < at {
-        return Number::Short;
+        return FourBytes::Short;
     }
     if s.len() - at < 4 {
-        return Number::Short;
+        return FourBytes::Short;
     }
     let a = word(s[at]);
     let b = word(s[at + 1]);
     let c = word(s[at + 2]);
     let d = word(s[at + 3]);
-    Number::Value {
+    FourBytes::Value {
         value: a * 0x100_0000 + b * 0x1_0000 + c * 0x100 + d,
         next: at + 4,
     }

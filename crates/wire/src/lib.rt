@@ -4,22 +4,15 @@ pub mod fixed;
 pub mod values;
 
 ghost use mathlib.Core.Path.{_≡_};
-ghost use Prim.Native.Nat.{_<_};
 ghost use lib.ListN.{drop};
 ghost use Rattle.wire.specs.Integer.{readInt, tenthByte, encodedInt};
+use lists::wide;
 
 // What reading an encoded integer finds.
 pub enum Int {
     Value { value: u64, next: usize },
     Short,
     Overflow,
-}
-
-// A byte as a u64, with its bound.
-fn wide(b: u8) -> u64
-    ensures { λ r. ⌜ (r ≡ b) × (r < 256) ⌝ }
-{
-    b as u64
 }
 
 // The tenth byte, at `i`, after nine bytes that give `value`.
@@ -105,36 +98,4 @@ pub fn write_int(v: u64) -> Encoded
         bytes,
         len: len + 1,
     }
-}
-
-// What reading a 4-byte number finds.
-pub enum Number {
-    Value { value: u32, next: usize },
-    Short,
-}
-
-// What reading a value with a limit finds. OutOfRange: the integer overflows or is over the limit.
-pub enum Field {
-    Value { value: u64, next: usize },
-    Short,
-    OutOfRange,
-}
-
-// What a 64-bit word stands for as a server ID.
-pub enum Signed {
-    Id(i32),
-    OutOfRange,
-}
-
-// What reading a server ID finds.
-pub enum ServerId {
-    Id { id: i32, next: usize },
-    Short,
-    OutOfRange,
-}
-
-// What writing into lent room gives: the position after the bytes written, or no room for them.
-pub enum Put {
-    Next(usize),
-    NoRoom,
 }

@@ -2,11 +2,28 @@
 ghost use mathlib.Core.Path.{_≡_};
 ghost use Rattle.wire.specs.Value.{readLimited, readWidth};
 ghost use Rattle.wire.specs.Server.{serverWord, serverIdOf, readServerId};
-use crate::Field;
 use crate::Int;
-use crate::ServerId;
-use crate::Signed;
 use crate::read_int;
+
+// What reading a value with a limit finds. OutOfRange: the integer overflows or is over the limit.
+pub enum Field {
+    Value { value: u64, next: usize },
+    Short,
+    OutOfRange,
+}
+
+// What a 64-bit word stands for as a server ID.
+pub enum Signed {
+    Id(i32),
+    OutOfRange,
+}
+
+// What reading a server ID finds.
+pub enum ServerId {
+    Id { id: i32, next: usize },
+    Short,
+    OutOfRange,
+}
 
 // The encoded integer at `at`, which may be at most `limit`.
 pub fn read_limited(s: &[u8], at: usize, limit: u64) -> Field

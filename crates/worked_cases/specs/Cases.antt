@@ -9,8 +9,8 @@ use lib.IntN.{ℤ, pos, negsuc}
 use Rattle.lists.specs.Lists.{every, eqBytes}
 use Rattle.wire.specs.declared.Int.{Int}
 use Rattle.wire.specs.declared.Int.the-variants as int
-use Rattle.wire.specs.declared.ServerId.{ServerId}
-use Rattle.wire.specs.declared.ServerId.the-variants as server
+use Rattle.wire.specs.declared.values.ServerId.{ServerId}
+use Rattle.wire.specs.declared.values.ServerId.the-variants as server
 use Rattle.wire.specs.Integer.{encodeInt, readInt}
 use Rattle.wire.specs.Server.{serverWord, readServerId}
 use Rattle.store.specs.Store.{emptyStore}

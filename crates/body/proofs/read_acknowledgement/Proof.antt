@@ -1,5 +1,4 @@
 use Rattle.body.proofs.OtherLaws.{acknowledgement-laws}
-use borrow.Author.Needs.{needs}
 use Rattle.body.proofs.read_acknowledgement.Statement.{statement}
 use Rattle.body.proofs.read_acknowledgement.Tie as tie
 

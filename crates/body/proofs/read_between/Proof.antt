@@ -1,5 +1,4 @@
 use Rattle.body.proofs.FieldLaws.{test-laws}
-use borrow.Author.Needs.{needs}
 use Rattle.body.proofs.read_between.Statement.{statement}
 use Rattle.body.proofs.read_between.Tie as tie
 

@@ -1,5 +1,4 @@
 use Rattle.body.proofs.FieldLaws.{part-laws}
-use borrow.Author.Needs.{needs}
 use Rattle.body.proofs.read_part.Statement.{statement}
 use Rattle.body.proofs.read_part.Tie as tie
 

@@ -1,5 +1,4 @@
 use Rattle.body.proofs.OtherLaws.{switch-laws}
-use borrow.Author.Needs.{needs}
 use Rattle.body.proofs.read_switch.Statement.{statement}
 use Rattle.body.proofs.read_switch.Tie as tie
 

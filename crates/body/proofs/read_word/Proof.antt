@@ -1,5 +1,4 @@
 use Rattle.body.proofs.FieldLaws.{word-laws}
-use borrow.Author.Needs.{needs}
 use Rattle.body.proofs.read_word.Statement.{statement}
 use Rattle.body.proofs.read_word.Tie as tie
 

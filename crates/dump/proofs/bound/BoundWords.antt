@@ -14,7 +14,7 @@ use Rattle.lists.proofs.Cases.{cond-true, cond-false}
 use Rattle.handshake.specs.Bytes.{ascii, decimal}
 use Rattle.session.specs.declared.Binding.{Binding}
 use Rattle.session.specs.Session.{isBound, isUpdated}
-use Rattle.session.proofs.Basics.{length-mapped}
+use Rattle.lists.proofs.Maps.{length-mapped}
 use Rattle.text.specs.Text.{spaced, line}
 use Rattle.text.specs.Room.{Wrote}
 use Rattle.text.proofs.Rooms.{joined, retold, nothing}

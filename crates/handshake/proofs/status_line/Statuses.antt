@@ -7,6 +7,7 @@ use lib.ListN.{length, take}
 use lib.Seq.{length-take-le}
 use borrow.Author.Needs.{needs}
 use borrow.Author.Tests.{lt-ltb, le-ltb}
+use Rattle.lists.proofs.Prefix.{first-bytes}
 use Rattle.handshake.specs.declared.Status.the-variants as status
 use Rattle.lists.specs.Lists.{eqBytes}
 use Rattle.handshake.specs.Bytes.{ascii, oneOf, decimalIn, decimal}
@@ -62,9 +63,6 @@ pub status-waits : (u : List ℕ) → length u < 4 → status.Waiting ≡ judgeS
 unfolding judgeStatus
 status-waits u h = rw (lt-ltb (length u) 4 h)
 
-pub status-count : (u : List ℕ) → 4 ≤ length u → 4 ≡ length (take 4 u)
-status-count u h = sym (length-take-le 4 u h)
-
 module _ (u : List ℕ) (h : 4 ≤ length u) (a : Bool) (ea : a ≡ eqBytes (take 4 u) (ascii "200\n")) where
   pub status-accepts : a ≡ true → status.Accepted ≡ judgeStatus u
   unfolding judgeStatus judgeFour oneOf statusLine decimal decimalIn lf
@@ -78,4 +76,4 @@ module _ (u : List ℕ) (h : 4 ≤ length u) (a : Bool) (ea : a ≡ eqBytes (tak
   unfolding judgeStatus judgeFour oneOf statusLine decimal decimalIn lf
   status-malformed b ha eb hb = rw (le-ltb (length u) 4 h, ← ea, ha, ← eb, hb)
 
-pub ruleset judging-status = (needs, status-waits, status-count, status-accepts, status-fails, status-malformed)
+pub ruleset judging-status = (needs, status-waits, first-bytes, status-accepts, status-fails, status-malformed)

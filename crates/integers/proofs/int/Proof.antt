@@ -1,4 +1,4 @@
-use Rattle.wire.proofs.Room.{putting-int}
+use Rattle.wire.proofs.buffer.Room.{putting-int}
 use Rattle.integers.proofs.int.Statement.{statement}
 use Rattle.integers.proofs.int.Tie as tie
 

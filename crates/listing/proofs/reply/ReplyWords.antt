@@ -6,6 +6,7 @@ use mathlib.Core.List.{List, [], _∷_}
 use lib.ListN.{length, take}
 use lib.Seq.{take-all, length-take-le}
 use borrow.Author.Needs.{needs}
+use Rattle.lists.proofs.Prefix.{first-bytes}
 use Rattle.handshake.specs.Bytes.{ascii}
 use Rattle.text.specs.Text.{hex, spaced}
 use Rattle.text.specs.Room.{Wrote}
@@ -30,7 +31,4 @@ module _ (reply : List ℕ) (len : ℕ) {room x : List ℕ} {at k : ℕ} where
   pub whole-reply : length reply ≤ len → Wrote room at (replyLine reply) x k → Wrote room at (replyLine (take len reply)) x k
   whole-reply h w = retold (ap replyLine (sym (take-all len reply h))) w
 
-pub part-count : (xs : List ℕ) (n : ℕ) → n < length xs → n ≡ length (take n xs)
-part-count xs n h = sym (length-take-le n xs (omega arith))
-
-pub ruleset reply-parts = (needs, whole-reply, part-count)
+pub ruleset reply-parts = (needs, whole-reply, first-bytes)

@@ -13,7 +13,7 @@ use Rattle.text.proofs.Rooms.{retold}
 use mathlib.Core.List.{List, [], _∷_}
 use lib.ListN.{length, take, getD, List·getD-eq-default}
 use Rattle.lists.proofs.Every.{getD-any}
-use Rattle.store.proofs.Typed.{length-mapped}
+use Rattle.lists.proofs.Maps.{length-mapped}
 use Rattle.store.specs.Store.{noTable}
 use Rattle.session.specs.declared.Connection.{Connection}
 use Rattle.session.specs.Session.{remoteName}

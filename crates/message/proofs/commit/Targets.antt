@@ -16,15 +16,14 @@ use Rattle.lists.specs.Lists.{firstFrom, firstPlace, padTo}
 use Rattle.lists.proofs.Cases.{by-test, never, cond-true, cond-false, and-true, and-false, lt-or-le}
 use Rattle.lists.proofs.Bytes.{pad-length, pad-take}
 use Rattle.lists.proofs.Every.{getD-any}
-use Rattle.lists.proofs.Places.{first-none, place-from}
+use Rattle.lists.proofs.Places.{first-none, first-agree}
 use Rattle.store.specs.declared.Entry.{Entry}
 use Rattle.store.specs.declared.Store.{Store}
 use Rattle.store.specs.Store.{entryKeyed, entryFree, keyOf, findEntry, freeEntry}
-use Rattle.store.proofs.Lookup.{blankEntry, long-key, Keys}
+use Rattle.store.proofs.Lookup.{blankEntry, long-key, Keys, array-keys}
 use Rattle.store.specs.declared.entries.Place.{Place}
 use Rattle.store.specs.declared.entries.Place.the-variants as place
 use Rattle.store.specs.Places.{freeOf, placeOf}
-use Rattle.store.proofs.entries.Looking.{array-keys}
 use Rattle.session.specs.declared.Connection.{Connection}
 use Rattle.session.specs.declared.Commit.the-variants as commit
 use Rattle.message.specs.declared.Effect.{Effect as EffectStruct}
@@ -58,16 +57,6 @@ long-none entries table key h l =
     let n : j < 128 = omega (arith, h .count) in
     rw (getD-any entries j d blankEntry m) (long-key (getD entries j blankEntry) table key (omega (arith, h .long j n))))
 
--- tests that agree on every element find the same place
-alike-from : {A : Type 0} (p q : A → Bool) (xs : List A) (k : ℕ) → ((x : A) → p x ≡ q x) → firstFrom k p xs ≡ firstFrom k q xs
-unfolding firstFrom
-alike-from p q [] k h = refl
-alike-from p q (x ∷ xs) k h =
-    ap (λ (t : Bool). cond t (found.At k) (firstFrom (k + 1) p xs)) (h x) ∙ ap (λ (f : Found). cond (q x) (found.At k) f) (alike-from p q xs (k + 1) h)
-
-first-alike : {A : Type 0} (p q : A → Bool) (xs : List A) → ((x : A) → p x ≡ q x) → firstPlace p xs ≡ firstPlace q xs
-first-alike p q xs h = place-from p xs ∙ (alike-from p q xs 0 h ∙ sym (place-from q xs))
-
 -- every entry's key has its length and its bytes
 keyed-short : (entry e : Entry) → entry .«key_len» ≤ 64 → keyedAs entry e ≡ entryKeyed (entry .table) (keyOf entry) e
 unfolding keyedAs
@@ -87,7 +76,8 @@ found-by entries entry key h short long =
     ∙ sym (first-none (keyedAs entry) entries (λ j d m. keyed-long entry (getD entries j d) l)))
     (λ l.
     ap (λ (k : List ℕ). firstPlace (entryKeyed (entry .table) k) entries) (sym (short l))
-    ∙ first-alike (entryKeyed (entry .table) (keyOf entry)) (keyedAs entry) entries (λ e. sym (keyed-short entry e l)))
+    ∙ first-agree (entryKeyed (entry .table) (keyOf entry)) (keyedAs entry) blankEntry blankEntry entries entries refl
+    (λ k m. sym (keyed-short entry (getD entries k blankEntry) l)))
     (lt-or-le 64 (entry .«key_len»))
 
 -- where m bytes of b are lent, b being 65 bytes with the entry's in front

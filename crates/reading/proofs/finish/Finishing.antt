@@ -8,6 +8,7 @@ use lib.ListN.{length, getD, take, set}
 use lib.Dec.{eqb, ltb}
 use borrow.Author.Needs.{needs}
 use borrow.Author.Tests.{eq-eqb, ne-eqb, lt-ltb, le-ltb, eqb-true, eqb-false, ltb-true, ltb-false, not-true, not-false}
+use Rattle.lists.proofs.Prefix.{shorter-bytes}
 use Rattle.lists.specs.Lists.{allOf, every, distinct}
 use Rattle.lists.proofs.Cases.{by-test, and-second, and-true, and-false, cond-true, cond-false}
 use lib.Seq.{set-out}
@@ -46,7 +47,7 @@ use Rattle.store_scan.specs.declared.Query.{Query}
 use Rattle.store_scan.specs.Scan.{Scans}
 use Rattle.reading.specs.declared.start.Started.{Started}
 use Rattle.reading.specs.Start.{takenBytes, Starts}
-use Rattle.reading.proofs.start.Starting.{taken-fits, taken-size, taken-are}
+use Rattle.reading.proofs.start.Starting.{taken-are}
 use Rattle.reading.specs.declared.finish.Finished.{Finished}
 use Rattle.reading.specs.Finish.{End, staying, waiting, answering, endOf, endStep, endRoom, finishedAs}
 
@@ -167,7 +168,7 @@ pub waits-taken : (c : Connection) (x : Taken) (n : ℕ) (r : StepChange) → n 
     → r ≡ waits c (take n (x .bytes)) (x .count) → r ≡ waits c (takenBytes x) (x .count)
 waits-taken c x n r q z e = e ∙ ap (λ (u : List ℕ). waits c u (x .count)) (taken-are x n q z)
 
-pub ruleset wait-rules = (needs, taken-fits, taken-size, waits-taken)
+pub ruleset wait-rules = (needs, shorter-bytes, waits-taken)
 
 -- ---- on a store and a piece of which start and scan said this, the promise of `read` is kept
 

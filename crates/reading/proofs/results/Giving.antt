@@ -6,6 +6,7 @@ use mathlib.Core.List.{List, []}
 use lib.ListN.{length, take}
 use lib.Seq.{length-take-le}
 use borrow.Author.Needs.{needs}
+use Rattle.lists.proofs.Prefix.{first-bytes}
 use Rattle.session.specs.declared.Session.{Session}
 use Rattle.session.specs.Session.{holding}
 use Rattle.message.specs.declared.Effect.{Effect as EffectStruct}
@@ -15,13 +16,7 @@ use Rattle.reading.proofs.results.Making.{replied-long, replied-short}
 
 -- ---- the reply
 
-pub prefix-length : (xs : List ℕ) (n m : ℕ) → length xs ≡ m → n ≤ m → n ≡ length (take n xs)
-prefix-length xs n m e h = sym (length-take-le n xs (omega arith))
-
-pub prefix-within : (xs : List ℕ) (n m : ℕ) → length xs ≡ m → n ≤ m → n ≤ length xs
-prefix-within xs n m e h = omega arith
-
-pub ruleset replying = (needs, prefix-length, prefix-within, replied-long, replied-short)
+pub ruleset replying = (needs, first-bytes, replied-long, replied-short)
 
 -- ---- the answer
 

@@ -7,7 +7,7 @@ use lib.ListN.{length, take}
 use lib.Seq.{length-take-le}
 use borrow.Author.Needs.{needs}
 use Rattle.store.specs.declared.Table.{Table}
-use Rattle.store.proofs.TwinLoops.{take-min}
+use Rattle.lists.proofs.Prefix.{shorter-bytes, prefix-shorter}
 use Rattle.session.specs.declared.Connection.{Connection}
 use Rattle.message.specs.declared.Asked.{Asked}
 use Rattle.message.specs.Structs.{asked}
@@ -16,17 +16,11 @@ use Rattle.reassembly.specs.Judge.{judgeBytes, asksOf}
 use Rattle.reading.specs.Start.{takenBytes}
 
 module _ (x : Taken) (n : ℕ) (q : n ≡ min (x .len) 1028) (z : length (x .bytes) ≡ 1028) where
-  pub taken-fits : n ≤ length (x .bytes)
-  taken-fits = omega arith
-
-  pub taken-size : n ≡ length (take n (x .bytes))
-  taken-size = sym (length-take-le n (x .bytes) taken-fits)
-
   pub taken-are : take n (x .bytes) ≡ takenBytes x
-  taken-are = ap (λ (k : ℕ). take k (x .bytes)) q ∙ take-min (x .bytes) (x .len) 1028 z
+  taken-are = ap (λ (k : ℕ). take k (x .bytes)) q ∙ prefix-shorter (x .bytes) (x .len) 1028 z
 
   pub taken-asked : (c : Connection) (tables : List Table) (a : Asked) → a ≡ asked c (asksOf c (judgeBytes c tables (take n (x .bytes))))
       → a ≡ asked c (asksOf c (judgeBytes c tables (takenBytes x)))
   taken-asked c tables a h = h ∙ ap (λ (u : List ℕ). asked c (asksOf c (judgeBytes c tables u))) taken-are
 
-pub ruleset asking = (needs, taken-fits, taken-size, taken-asked)
+pub ruleset asking = (needs, shorter-bytes, taken-asked)

@@ -10,11 +10,10 @@ use lib.Seq.{take-suc-set}
 use borrow.Author.Needs.{needs}
 use borrow.Author.Tests.{lt-ltb, le-ltb, eq-eqb, ne-eqb}
 use Rattle.lists.specs.Lists.{padTo}
-use Rattle.lists.proofs.Cases.{cond-true, cond-false, eq-or-ne}
+use Rattle.lists.proofs.Cases.{cond-true, cond-false, eq-or-ne, lt-or-le, split}
 use Rattle.wire.specs.declared.Int.{Int}
 use Rattle.wire.specs.declared.Int.the-variants as int
 use Rattle.wire.specs.Integer.{readInt}
-use Rattle.wire.proofs.Order.{lt-or-le, split}
 use Rattle.wire.proofs.Advance.{advance}
 use Rattle.wire.proofs.Behind.{int-value-behind}
 use Rattle.frame.specs.declared.Header.{Header}

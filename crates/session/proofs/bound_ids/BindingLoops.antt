@@ -16,7 +16,8 @@ use Rattle.lists.proofs.Cases.{cond-true, cond-false, and-true, and-false}
 use Rattle.lists.proofs.Places.{place-from, from-here, from-next, from-end}
 use Rattle.session.specs.declared.Binding.{Binding}
 use Rattle.session.specs.declared.Connection.{Connection}
-use Rattle.session.proofs.Basics.{length-mapped, blank, told-true, told-false}
+use Rattle.lists.proofs.Maps.{length-mapped}
+use Rattle.session.proofs.Basics.{blank, told-true, told-false}
 use Rattle.session.specs.Session.{isBound, boundTo, findBound, bindingAt, currentOf, withTables, unbind, bindTo, rebind, rebindFrom, bind, commitTo, committed}
 
 pub now-bound : (c : Connection) (place id current : ℕ) (bs : List Binding) → current ≡ currentOf place → bs ≡ rebindFrom 0 place id (c .bindings)

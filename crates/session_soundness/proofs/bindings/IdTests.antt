@@ -13,7 +13,8 @@ use Rattle.lists.proofs.Distinct.{distinct-stop, distinct-next, distinct-end}
 use Rattle.session.specs.declared.Binding.{Binding}
 use Rattle.session.specs.Session.{isBound, boundTo}
 use Rattle.session_soundness.specs.Sound.{sameId, otherId}
-use Rattle.session.proofs.Basics.{length-mapped, blank, told}
+use Rattle.lists.proofs.Maps.{length-mapped}
+use Rattle.session.proofs.Basics.{blank, told}
 use Rattle.session_soundness.proofs.EachBinding.{each-start, each-stop, each-next, each-end}
 
 module _ (b : Binding) where

@@ -16,7 +16,8 @@ use Rattle.store.proofs.Lookup.{blankTable}
 use Rattle.session.specs.declared.Connection.{Connection}
 use Rattle.session.specs.Session.{isBound, noBinding, bindingAt}
 use Rattle.session_soundness.specs.Sound.{currentOk}
-use Rattle.session.proofs.Basics.{length-mapped, blank}
+use Rattle.lists.proofs.Maps.{length-mapped}
+use Rattle.session.proofs.Basics.{blank}
 
 module _ (ts : List Table) (c : Connection) where
   pub current-none : c .current ≡ 0 → true ≡ currentOk ts c

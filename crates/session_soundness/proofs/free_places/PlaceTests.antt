@@ -23,7 +23,8 @@ use Rattle.lists.proofs.Every.{drop-step}
 use Rattle.store.specs.declared.Table.{Table}
 use Rattle.store.specs.Store.{tableHeld}
 use Rattle.session_soundness.specs.Sound.{noIds, freePlacesOk}
-use Rattle.session.proofs.Basics.{length-mapped, blank, told}
+use Rattle.lists.proofs.Maps.{length-mapped}
+use Rattle.session.proofs.Basics.{blank, told}
 
 module _ (b : Binding) where
   pub bound-there : b .bound ≡ 1 → false ≡ noIds b

@@ -7,27 +7,30 @@ use mathlib.Core.List.{List}
 use lib.ListN.{length, getD, take, drop, length-take}
 use lib.Seq.{getD-take}
 use lib.Dec.{eqb}
-use mir.Val.{Val}
-use denote.Laws.{Is}
-use denote.Array.{Array}
-use denote.Struct.Declared.{row}
 use borrow.Author.Needs.{needs}
 use borrow.Author.Tests.{eq-eqb, ne-eqb, eqb-true, eqb-false}
 use Rattle.lists.specs.declared.Found.the-variants as found
 use Rattle.lists.specs.Lists.{firstFrom, firstPlace, eqBytes}
 use Rattle.lists.proofs.Cases.{by-test, cond-true, cond-false}
 use Rattle.lists.proofs.Bytes.{bytes-stop, bytes-next, bytes-end}
-use Rattle.lists.proofs.Every.{getD-any}
 use Rattle.lists.proofs.Places.{place-from, from-here, from-next, from-end}
 use Rattle.lists.proofs.Searching.{Searching, search-start, search-here, search-next, search-end}
 use Rattle.store.specs.declared.Entry.{Entry}
-use Rattle.store.specs.Store.{entryOf, entryKeyed, entryFree, noEntry}
-use Rattle.store.proofs.Entry as entry-type
-use Rattle.store.proofs.Typed.{entries-shape}
-use Rattle.store.proofs.Lookup.{blankEntry, entry-free, entry-not-free, not-of, by-bytes, long-key, Keys}
+use Rattle.store.specs.Store.{entryOf, entryKeyed, entryFree}
+use Rattle.store.proofs.Lookup.{blankEntry, not-of, by-bytes, long-key, Keys}
 use Rattle.store.specs.declared.entries.Place.{Place}
 use Rattle.store.specs.declared.entries.Place.the-variants as place
 use Rattle.store.specs.Places.{freeOf, placeOf, nextFree, freePlace}
+
+-- ---- a free place
+
+entry-free : (e : Entry) → e .held ≡ 0 → entryFree e ≡ true
+unfolding entryFree
+entry-free e h = eq-eqb (e .held) 0 h
+
+entry-not-free : (e : Entry) → (e .held ≡ 0 → ⊥) → entryFree e ≡ false
+unfolding entryFree
+entry-not-free e f = ne-eqb (e .held) 0 f
 
 -- ---- the lowest free place as a number
 
@@ -75,15 +78,6 @@ pub record Matching (table : ℕ) (key : List ℕ) (n : ℕ) (entries : List Ent
   pub copy : bytes ≡ getD entries i blankEntry .key
   pub within : j ≤ n
   pub rest : eqBytes (take n bytes) key ≡ eqBytes (drop j (take n bytes)) (drop j key)
-
--- what the type of the code says of the entries
-pub array-keys : (es : List Entry) (vs : List Val) → Is (Array (row entry-type.the-type) 128) es vs → Keys es
-array-keys es vs p =
-    let h = entries-shape es vs p in
-    record {
-      count = h .0;
-      long = λ k l. ap (λ (e : Entry). length (e .key)) (getD-any es k blankEntry noEntry (omega (arith, h .0))) ∙ h .1 k l .key .size;
-    }
 
 pub look : (table : ℕ) (key : List ℕ) (n : ℕ) {entries : List Entry} → Keys entries → n ≡ length key → Looking table key n entries 128 0
 look table key n {entries} h e = record { bytes = e; keys = h; searching = search-start (h .count); lowest = place-from entryFree entries }

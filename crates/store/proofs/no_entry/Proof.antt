@@ -1,5 +1,5 @@
 use mathlib.Core.Path.{refl}
-use Rattle.store.specs.Store.{tableFree, entryFree, noTable, noEntry}
+use Rattle.store.specs.Store.{noEntry}
 use Rattle.store.proofs.no_entry.Statement.{statement}
 use Rattle.store.proofs.no_entry.Tie as tie
 

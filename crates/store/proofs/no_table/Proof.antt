@@ -1,5 +1,5 @@
 use mathlib.Core.Path.{refl}
-use Rattle.store.specs.Store.{tableFree, entryFree, noTable, noEntry}
+use Rattle.store.specs.Store.{noTable}
 use Rattle.store.proofs.no_table.Statement.{statement}
 use Rattle.store.proofs.no_table.Tie as tie
 

@@ -2,11 +2,11 @@ use Rattle.store_scan.proofs.Scanning.{choosing}
 use Rattle.store_scan.proofs.candidate_place.Statement.{statement}
 use Rattle.store_scan.proofs.candidate_place.Tie as tie
 
-marks-distinct-requires : tie.Need-marks-distinct-requires
-marks-distinct-requires c κs = search choosing
+hashes-distinct-requires : tie.Need-hashes-distinct-requires
+hashes-distinct-requires c κs = search choosing
 
-held-mark-requires : tie.Need-held-mark-requires
-held-mark-requires c κs = search choosing
+held-hash-requires : tie.Need-held-hash-requires
+held-hash-requires c κs = search choosing
 
 code-place-requires : tie.Need-code-place-requires
 code-place-requires c κs = search choosing
@@ -27,8 +27,8 @@ pub candidate-place-spec : {M : Type 1} → statement M
 candidate-place-spec =
     tie.close
     (tie.spec
-    marks-distinct-requires
-    held-mark-requires
+    hashes-distinct-requires
+    held-hash-requires
     code-place-requires
     enum-known-place
     enum-told

@@ -282,7 +282,7 @@ module _ {M : Type 1} (𝓤 : URA M) (H : Heap 𝓤) (A : Atoms 𝓤) (W : Given
         assigns ! (bin ! (load ! (from ! (stop !)) (look ! 29 refl)) (lit ! tt) tt) (from ! (stop !)) (init ! 23 refl (tt, tt)) $
         rewrite ! 23 (λ (t : Bool). ‵ (fat fullShare tyBool l₇ 0 (vbool t))) (holds (ltb i 128) (lt→ltb i 128 small)) refl $
         stays ! (load ! (from ! (stop !)) (look ! 23 refl)) $
-        -- the entry is found, and its mark is read
+        -- the entry is found, and its hash is read
         assigns ! (bin ! (load ! (from ! (stop !)) (look ! 29 refl)) (lit ! tt) (record { fits = far i small })) (from ! (stop !)) (init ! 21 refl (tt, record { fits = far i small })) $
         assigns ! (addr ! (from ! (hop ! (look ! 35 refl) (fld ! refl (stop !))))) (from ! (stop !)) (init ! 19 refl (tt, tt)) $
         assigns ! (bin ! (load ! (from ! (stop !)) (look ! 19 refl)) (load ! (from ! (stop !)) (look ! 21 refl)) tt) (from ! (stop !)) (init ! 17 refl (tt, tt)) $

@@ -1,6 +1,6 @@
 -- `scan` meets its contract: a walk of its MIR. `codes_of` gets a copy of the reference; then the borrow is opened for reading, and closed
--- before each return. All entries are copied where two marks are equal, else the one at the candidate place.
--- Of the four callees only their contracts are used; `scan-by-marks` and `scan-by-keys` of `Scanning` make the scan's of them.
+-- before each return. All entries are copied where two hashes are equal, else the one at the candidate place.
+-- Of the four callees only their contracts are used; `scan-by-hashes` and `scan-by-keys` of `Scanning` make the scan's of them.
 use mathlib.Core.Path.{_≡_, refl, ap, subst}
 use native.Mathlib.Omega.{arith}
 use Prim.Native.Nat.{ℕ, _*_, _<_, _^_}
@@ -61,8 +61,8 @@ use Rattle.store_soundness.specs.Codes.{entryCode}
 use Rattle.store_scan.specs.declared.Query.{Query}
 use Rattle.store_scan.specs.declared.Candidate.{Candidate}
 use Rattle.store_scan.specs.declared.Scanned.{Scanned}
-use Rattle.store_scan.specs.Scan.{Scans, Candidates, ScansByMarks, ScansByKeys}
-use Rattle.store_scan.proofs.Scanning.{scan-by-marks, scan-by-keys}
+use Rattle.store_scan.specs.Scan.{Scans, Candidates, ScansByHashes, ScansByKeys}
+use Rattle.store_scan.proofs.Scanning.{scan-by-hashes, scan-by-keys}
 use Rattle.store_scan.proofs.Items.{elem, unraw, vals-len, item-val, item-is, rows-is}
 use Rattle.store_scan.proofs.Query as Q
 use Rattle.store_scan.proofs.Query.Laws as Q′
@@ -78,10 +78,10 @@ use Rattle.store_scan.proofs.candidate_place as choosing
 use Rattle.store_scan.proofs.candidate_place.Symbol as choosing-def
 use Rattle.store_scan.proofs.candidate_place.Symbol.{name as #candidate-place}
 use Rattle.store_scan.proofs.candidate_place.Met as choosing-thm
-use Rattle.store_scan.proofs.by_marks as marking
-use Rattle.store_scan.proofs.by_marks.Symbol as marking-def
-use Rattle.store_scan.proofs.by_marks.Symbol.{name as #by-marks}
-use Rattle.store_scan.proofs.by_marks.Met as marking-thm
+use Rattle.store_scan.proofs.by_hashes as hashing
+use Rattle.store_scan.proofs.by_hashes.Symbol as hashing-def
+use Rattle.store_scan.proofs.by_hashes.Symbol.{name as #by-hashes}
+use Rattle.store_scan.proofs.by_hashes.Met as hashing-thm
 use Rattle.store_scan.proofs.by_keys as keying
 use Rattle.store_scan.proofs.by_keys.Symbol as keying-def
 use Rattle.store_scan.proofs.by_keys.Symbol.{name as #by-keys}
@@ -111,8 +111,8 @@ Codes 𝓤 H A mem run = tripleOf 𝓤 H A coding.signature (coding.spec 𝓤 H 
 abbrev Choice : {M : Type 1} (𝓤 : URA M) (H : Heap 𝓤) (A : Atoms 𝓤) (mem : Memory → SProp 𝓤) (run : Routine → Fun 𝓤) → Contract 𝓤
 Choice 𝓤 H A mem run = tripleOf 𝓤 H A choosing.signature (choosing.spec 𝓤 H A mem run)
 
-abbrev Marks : {M : Type 1} (𝓤 : URA M) (H : Heap 𝓤) (A : Atoms 𝓤) (mem : Memory → SProp 𝓤) (run : Routine → Fun 𝓤) → Contract 𝓤
-Marks 𝓤 H A mem run = tripleOf 𝓤 H A marking.signature (marking.spec 𝓤 H A mem run)
+abbrev Hashes : {M : Type 1} (𝓤 : URA M) (H : Heap 𝓤) (A : Atoms 𝓤) (mem : Memory → SProp 𝓤) (run : Routine → Fun 𝓤) → Contract 𝓤
+Hashes 𝓤 H A mem run = tripleOf 𝓤 H A hashing.signature (hashing.spec 𝓤 H A mem run)
 
 abbrev Keys : {M : Type 1} (𝓤 : URA M) (H : Heap 𝓤) (A : Atoms 𝓤) (mem : Memory → SProp 𝓤) (run : Routine → Fun 𝓤) → Contract 𝓤
 Keys 𝓤 H A mem run = tripleOf 𝓤 H A keying.signature (keying.spec 𝓤 H A mem run)
@@ -224,17 +224,17 @@ module _ {M : Type 1} (𝓤 : URA M) (H : Heap 𝓤) (A : Atoms 𝓤) (W : Given
   candidate : (cs : List ℕ) (g : Candidate) → ent 𝓤 (ensured 𝓤 H A choosing.ended (choosing.clauses 𝓤 H A mem run) tt (query .entry, (cs, tt)) tt g) (fact 𝓤 (Candidates (query .entry) cs g))
   candidate cs g = exE 𝓤 _ (λ ws. snd∗ 𝓤 (sem 𝓤 H A (lasts choosing.ended tt (query .entry, (cs, tt)) ws)) (fact 𝓤 (Candidates (query .entry) cs g)))
 
-  abbrev to-marks : List ℕ → ℕ → Entry → Marks 𝓤 H A mem run .Ghost
-  to-marks cs i e = ((tt, tt, tt, (query, (cs, (i, (e, tt)))), (qryV query ∷ [], (codesV cs ∷ [], (vint w64 i ∷ [], (entV e ∷ [], tt))))), tt)
+  abbrev to-hashes : List ℕ → ℕ → Entry → Hashes 𝓤 H A mem run .Ghost
+  to-hashes cs i e = ((tt, tt, tt, (query, (cs, (i, (e, tt)))), (qryV query ∷ [], (codesV cs ∷ [], (vint w64 i ∷ [], (entV e ∷ [], tt))))), tt)
 
-  goes-marks : (cs : List ℕ) (i : ℕ) (e : Entry) → i < 128 → Is Q.the-row query (qryV query ∷ []) → Is (Array u32 128) cs (codesV cs ∷ []) → Is N.the-row e (entV e ∷ []) → ent 𝓤 (emp 𝓤) (Marks 𝓤 H A mem run .pre (to-marks cs i e))
-  goes-marks cs i e small qis cis eis =
+  goes-hashes : (cs : List ℕ) (i : ℕ) (e : Entry) → i < 128 → Is Q.the-row query (qryV query ∷ []) → Is (Array u32 128) cs (codesV cs ∷ []) → Is N.the-row e (entV e ∷ []) → ent 𝓤 (emp 𝓤) (Hashes 𝓤 H A mem run .pre (to-hashes cs i e))
+  goes-hashes cs i e small qis cis eis =
       qed W (‵ ftrue ∷ []) ∵ owned ! N.the-row (Is N.the-row) (LL.makes N.the-type N′.the-plain 𝓤 H A) e _ eis $ fjoin ! $ owned ! usize (Is usize) (uint-makes 𝓤 H A W w64) i _ (refl, place-fits i small) $ fjoin ! $
       owned ! (Array u32 128) (Is (Array u32 128)) (array-makes 𝓤 H A W u32 (uint-makes 𝓤 H A W w32) 128) cs _ cis $ fjoin ! $ owned ! Q.the-row (Is Q.the-row) (LL.makes Q.the-type Q′.the-plain 𝓤 H A) query _ qis $ fjoin ! $
       nothing ! $ join ! $ frame ! $ nothing ! $ done !
 
-  neared : (cs : List ℕ) (i : ℕ) (e : Entry) (r : Scanned) → ent 𝓤 (ensured 𝓤 H A marking.ended (marking.clauses 𝓤 H A mem run) tt (query, (cs, (i, (e, tt)))) tt r) (fact 𝓤 (ScansByMarks query cs i e r))
-  neared cs i e r = exE 𝓤 _ (λ ws. snd∗ 𝓤 (sem 𝓤 H A (lasts marking.ended tt (query, (cs, (i, (e, tt)))) ws)) (fact 𝓤 (ScansByMarks query cs i e r)))
+  neared : (cs : List ℕ) (i : ℕ) (e : Entry) (r : Scanned) → ent 𝓤 (ensured 𝓤 H A hashing.ended (hashing.clauses 𝓤 H A mem run) tt (query, (cs, (i, (e, tt)))) tt r) (fact 𝓤 (ScansByHashes query cs i e r))
+  neared cs i e r = exE 𝓤 _ (λ ws. snd∗ 𝓤 (sem 𝓤 H A (lasts hashing.ended tt (query, (cs, (i, (e, tt)))) ws)) (fact 𝓤 (ScansByHashes query cs i e r)))
 
   abbrev to-keys : List ℕ → Keys 𝓤 H A mem run .Ghost
   to-keys cs = ((tt, tt, tt, (query, (cs, (xs, tt))), (qryV query ∷ [], (codesV cs ∷ [], (arrayVal (entVs xs) ∷ [], tt)))), tt)
@@ -249,7 +249,7 @@ module _ {M : Type 1} (𝓤 : URA M) (H : Heap 𝓤) (A : Atoms 𝓤) (W : Given
   exacted cs r = exE 𝓤 _ (λ ws. snd∗ 𝓤 (sem 𝓤 H A (lasts keying.ended tt (query, (cs, (xs, tt))) ws)) (fact 𝓤 (ScansByKeys query cs xs r)))
 
   -- ---- from the test of the candidate on
-  module _ (C : Calls 𝓤 H) (Λ : Loops 𝓤 H) (fm : FmC 𝓤 H (W .laws) C) (known-marks : Triple 𝓤 (C #by-marks) (Marks 𝓤 H A mem run)) (known-keys : Triple 𝓤 (C #by-keys) (Keys 𝓤 H A mem run)) (qis : Is Q.the-row query (qryV query ∷ []))
+  module _ (C : Calls 𝓤 H) (Λ : Loops 𝓤 H) (fm : FmC 𝓤 H (W .laws) C) (known-hashes : Triple 𝓤 (C #by-hashes) (Hashes 𝓤 H A mem run)) (known-keys : Triple 𝓤 (C #by-keys) (Keys 𝓤 H A mem run)) (qis : Is Q.the-row query (qryV query ∷ []))
       (l₀ l₁ l₂ l₃ l₄ l₅ l₆ l₇ l₈ l₉ l₁₀ l₁₁ l₁₂ l₁₃ : ℕ) (cs : List ℕ) (cis : Is (Array u32 128) cs (codesV cs ∷ [])) (ce : Coded cs) (g : Candidate) (ge : Candidates (query .entry) cs g) (is-store : Is T.the-row h (stoV h ∷ [])) (q′ : Share) where
     abbrev En : Env 𝓤 H
     En = (Sc′.mir, l₀) ∷ (tyRef (named 0) imm (pointee (T.the-row .written)), l₁) ∷ (Q′.mir, l₂) ∷ (tyArray Tb′.mir 8, l₃) ∷ (tyArray (tyInt w32) 128, l₄) ∷ (N′.mir, l₅) ∷ (Gu′.mir, l₆) ∷ (tyArray N′.mir 128, l₇) ∷ (N′.mir, l₈) ∷ (tyBool, l₉) ∷ (tyInt w64, l₁₀) ∷ (tyPtr, l₁₁) ∷ (tyPtr, l₁₂) ∷ (N′.mir, l₁₃) ∷ []
@@ -289,7 +289,7 @@ module _ {M : Type 1} (𝓤 : URA M) (H : Heap 𝓤) (A : Atoms 𝓤) (W : Given
     tail =
         assigns ! (of-opd ! (load ! (from ! (fld ! refl (stop !))) (look-in ! 16 (sub ! 0 refl (whole !))))) (from ! (stop !)) (init ! 10 refl (tt, tt)) $
         first ! $ branches ! (load ! (from ! (stop !)) (look ! 10 refl)) (λ t.
-        -- two marks are equal: all entries are copied, and `by_keys` compares keys
+        -- two hashes are equal: all entries are copied, and `by_keys` compares keys
         assigns ! (of-opd ! (load ! (from ! (hop ! (look ! 26 refl) (fld ! refl (stop !)))) (look-in ! 0 (unraw ! (sub ! 1 refl (whole !)))))) (from ! (stop !)) (init ! 14 refl (array-lawful 𝓤 H A W N.the-row (LL.lawful N.the-type N′.the-laws 𝓤 H A W) 128 .typed xs _ (all-is h is-store) .0)) $
         use0 W (raw (Keys 𝓤 H A mem run .pre (to-keys cs))) (goes-keys cs qis cis is-store) $ calls-at ! fm (Keys 𝓤 H A mem run) known-keys (to-keys cs) (and-then ! (load ! (from ! (stop !)) (look ! 25 refl)) (and-then ! (load ! (from ! (stop !)) (look ! 21 refl)) (and-then ! (load ! (from ! (stop !)) (look ! 15 refl)) (no-more !)))) (λ w.
         use1 W (later (some (λ (r : Scanned). (‵ ftrue ⊛ ‵ (Sc.the-row .own r (w ∷ []))) ⊛ raw (ensured 𝓤 H A keying.ended (keying.clauses 𝓤 H A mem run) tt (query, (cs, (xs, tt))) tt r)))) (id⊢ 𝓤 _) $ await ! tt $ pick ! (λ r. split ! $ move ! (1 ∷ []) $ use1 W (raw (fact 𝓤 (ScansByKeys query cs xs r))) (exacted cs r) $ heard ! (ScansByKeys query cs xs r) (λ ex.
@@ -298,25 +298,25 @@ module _ {M : Type 1} (𝓤 : URA M) (H : Heap 𝓤) (A : Atoms 𝓤) (W : Given
         -- [the token; the locals]
         returns-within ! Post refl (look ! 27 refl) $ forget ! 27 refl $ forget ! 25 refl $ forget ! 23 refl $ forget ! 21 refl $ forget ! 19 refl $ forget ! 17 refl $ forget ! 15 refl $ forget ! 13 refl $ forget ! 9 refl $ move ! (27 ∷ 28 ∷ []) $ free1 ! $ move ! (25 ∷ 26 ∷ []) $ free1 ! $ move ! (23 ∷ 24 ∷ []) $ free1 ! $ move ! (21 ∷ 22 ∷ []) $ free1 ! $ move ! (19 ∷ 20 ∷ []) $ free1 ! $ move ! (17 ∷ 18 ∷ []) $ free1 ! $ move ! (15 ∷ 16 ∷ []) $ free1 ! $ move ! (13 ∷ 14 ∷ []) $ free1 ! $ move ! (11 ∷ 12 ∷ []) $ free1 ! $ move ! (9 ∷ 10 ∷ []) $ free1 ! $ move ! (7 ∷ 8 ∷ []) $ free1 ! $ move ! (5 ∷ 6 ∷ []) $ free1 ! $ move ! (3 ∷ 4 ∷ []) $ free1 ! $ move ! (1 ∷ 2 ∷ []) $ free1 ! $ free0 ! $
         by ! (exits r (spelt-Sc r w is) (scan-by-keys query h (store-shape h _ is-store) cs ce r ex)))))))
-        -- no two marks are equal: the entry at the candidate place is copied, and `by_marks` looks at it
+        -- no two hashes are equal: the entry at the candidate place is copied, and `by_hashes` looks at it
         (λ t. skips ! $ exec ! C Λ En body.t-7 (atRet En Post) $
         assigns ! (bin ! (load ! (from ! (fld ! refl (stop !))) (look-in ! 16 (sub ! 1 refl (whole !)))) (lit ! tt) (record { fits = far i small })) (from ! (stop !)) (init ! 8 refl (tt, record { fits = far i small })) $
         assigns ! (addr ! (from ! (hop ! (look ! 26 refl) (fld ! refl (stop !))))) (from ! (stop !)) (init ! 6 refl (tt, tt)) $
         assigns ! (bin ! (load ! (from ! (stop !)) (look ! 6 refl)) (load ! (from ! (stop !)) (look ! 8 refl)) tt) (from ! (stop !)) (init ! 4 refl (tt, tt)) $
         assigns ! (of-opd ! (load ! (from ! (hop ! (look ! 4 refl) (stop !))) (look-in ! 0 (unraw ! (elem ! (entVs xs) i _ (entV e) (at-mul _ _ i) small (vals-len N.the-type N′.the-laws 128 xs _ (arr-is h is-store)) (item-val N.the-type N′.the-laws 128 xs _ (arr-is h is-store) i noEntry small) (sub ! 1 refl (whole !))))))) (from ! (stop !)) (init ! 2 refl (LL.lawful N.the-type N′.the-laws 𝓤 H A W .typed e _ eis .0)) $
         assigns ! (of-opd ! (load ! (from ! (stop !)) (look ! 2 refl))) (from ! (stop !)) (init ! 12 refl (LL.lawful N.the-type N′.the-laws 𝓤 H A W .typed e _ eis .0)) $
-        use0 W (raw (Marks 𝓤 H A mem run .pre (to-marks cs i e))) (goes-marks cs i e small qis cis eis) $ calls-at ! fm (Marks 𝓤 H A mem run) known-marks (to-marks cs i e) (and-then ! (load ! (from ! (stop !)) (look ! 25 refl)) (and-then ! (load ! (from ! (stop !)) (look ! 21 refl)) (and-then ! (load ! (from ! (fld ! refl (stop !))) (look-in ! 17 (sub ! 1 refl (whole !)))) (and-then ! (load ! (from ! (stop !)) (look ! 13 refl)) (no-more !))))) (λ w.
-        use1 W (later (some (λ (r : Scanned). (‵ ftrue ⊛ ‵ (Sc.the-row .own r (w ∷ []))) ⊛ raw (ensured 𝓤 H A marking.ended (marking.clauses 𝓤 H A mem run) tt (query, (cs, (i, (e, tt)))) tt r)))) (id⊢ 𝓤 _) $ await ! tt $ pick ! (λ r. split ! $ move ! (1 ∷ []) $ use1 W (raw (fact 𝓤 (ScansByMarks query cs i e r))) (neared cs i e r) $ heard ! (ScansByMarks query cs i e r) (λ nr.
+        use0 W (raw (Hashes 𝓤 H A mem run .pre (to-hashes cs i e))) (goes-hashes cs i e small qis cis eis) $ calls-at ! fm (Hashes 𝓤 H A mem run) known-hashes (to-hashes cs i e) (and-then ! (load ! (from ! (stop !)) (look ! 25 refl)) (and-then ! (load ! (from ! (stop !)) (look ! 21 refl)) (and-then ! (load ! (from ! (fld ! refl (stop !))) (look-in ! 17 (sub ! 1 refl (whole !)))) (and-then ! (load ! (from ! (stop !)) (look ! 13 refl)) (no-more !))))) (λ w.
+        use1 W (later (some (λ (r : Scanned). (‵ ftrue ⊛ ‵ (Sc.the-row .own r (w ∷ []))) ⊛ raw (ensured 𝓤 H A hashing.ended (hashing.clauses 𝓤 H A mem run) tt (query, (cs, (i, (e, tt)))) tt r)))) (id⊢ 𝓤 _) $ await ! tt $ pick ! (λ r. split ! $ move ! (1 ∷ []) $ use1 W (raw (fact 𝓤 (ScansByHashes query cs i e r))) (neared cs i e r) $ heard ! (ScansByHashes query cs i e r) (λ nr.
         split ! $ move ! (1 ∷ []) $ peeks ! Sc.the-row (Is Sc.the-row) (shows 𝓤 H A Sc.the-row) r (w ∷ []) (λ is. drop ! $ land ! (from ! (stop !)) (init ! 29 refl (LL.lawful Sc.the-type Sc′.the-laws 𝓤 H A W .typed r _ is .0)) $ rewrite ! 29 (λ (u : Val). ‵ (fat fullShare Sc′.mir l₀ 0 u)) (ap only (LL.tells Sc.the-type Sc′.the-laws r (w ∷ []) is)) refl $
         drop ! $ owned ! T.the-row (Is T.the-row) (LL.makes T.the-type T′.the-plain 𝓤 H A) h _ is-store $ move ! (1 ∷ 0 ∷ 2 ∷ []) $ shuts ! tt T.the-row q′ h (stoV h ∷ []) b o $
         -- [the token; the locals]
         returns ! (look ! 27 refl) $ forget ! 27 refl $ forget ! 25 refl $ forget ! 23 refl $ forget ! 21 refl $ forget ! 19 refl $ forget ! 17 refl $ forget ! 15 refl $ forget ! 11 refl $ forget ! 9 refl $ forget ! 7 refl $ forget ! 5 refl $ forget ! 3 refl $ forget ! 1 refl $ move ! (27 ∷ 28 ∷ []) $ free1 ! $ move ! (25 ∷ 26 ∷ []) $ free1 ! $ move ! (23 ∷ 24 ∷ []) $ free1 ! $ move ! (21 ∷ 22 ∷ []) $ free1 ! $ move ! (19 ∷ 20 ∷ []) $ free1 ! $ move ! (17 ∷ 18 ∷ []) $ free1 ! $ move ! (15 ∷ 16 ∷ []) $ free1 ! $ move ! (13 ∷ 14 ∷ []) $ free1 ! $ move ! (11 ∷ 12 ∷ []) $ free1 ! $ move ! (9 ∷ 10 ∷ []) $ free1 ! $ move ! (7 ∷ 8 ∷ []) $ free1 ! $ move ! (5 ∷ 6 ∷ []) $ free1 ! $ move ! (3 ∷ 4 ∷ []) $ free1 ! $ move ! (1 ∷ 2 ∷ []) $ free1 ! $ free0 ! $
-        by ! (exits r (spelt-Sc r w is) (scan-by-marks query h (store-shape h _ is-store) cs ce g ge (fails (g .«marks_equal») t) r nr)))))))
+        by ! (exits r (spelt-Sc r w is) (scan-by-hashes query h (store-shape h _ is-store) cs ce g ge (fails (g .«hashes_equal») t) r nr)))))))
 
   -- ---- the MIR, up to there
-  walk : (C : Calls 𝓤 H) (Λ : Loops 𝓤 H) → FmC 𝓤 H (W .laws) C → Triple 𝓤 (C #codes-of) (Codes 𝓤 H A mem run) → Triple 𝓤 (C #candidate-place) (Choice 𝓤 H A mem run) → Triple 𝓤 (C #by-marks) (Marks 𝓤 H A mem run) → Triple 𝓤 (C #by-keys) (Keys 𝓤 H A mem run)
+  walk : (C : Calls 𝓤 H) (Λ : Loops 𝓤 H) → FmC 𝓤 H (W .laws) C → Triple 𝓤 (C #codes-of) (Codes 𝓤 H A mem run) → Triple 𝓤 (C #candidate-place) (Choice 𝓤 H A mem run) → Triple 𝓤 (C #by-hashes) (Hashes 𝓤 H A mem run) → Triple 𝓤 (C #by-keys) (Keys 𝓤 H A mem run)
       → Is Q.the-row query (qryV query ∷ []) → ent 𝓤 (onEntry 𝓤 H A fn.signature (κ, tt) (q, tt) x at) (WpFn 𝓤 H C Λ code.function (vptr b o ∷ qryV query ∷ []) Post)
-  walk C Λ fm known-codes known-candidate known-marks known-keys qis =
+  walk C Λ fm known-codes known-candidate known-hashes known-keys qis =
       qed W ((‵ (flft κ q) ⊛ ‵ ftrue) ∷ ‵ (owns (ShrRef (named 0) κ T.the-row ∷ Q.the-row ∷ []) x at) ∷ []) ∵ split ! $ move ! (2 ∷ []) $ fsplit ! $ keep ! (0 ∷ 2 ∷ []) $
       -- [the reference; the token]
       enter ! C Λ code.function (vptr b o ∷ qryV query ∷ []) _ $
@@ -337,24 +337,24 @@ module _ {M : Type 1} (𝓤 : URA M) (H : Heap 𝓤) (A : Atoms 𝓤) (W : Given
       -- the borrow is looked into
       move ! (1 ∷ []) $ fsplit3 ! $ drop ! $ drop ! $ looks ! tt T.the-row (Is T.the-row) (shows 𝓤 H A T.the-row) (LL.vals T.the-type T′.the-laws) (LL.tells T.the-type T′.the-laws) (LL.copy T.the-type T′.the-copy 𝓤 H A W) h b o (λ q′ vs.
       spelt ! T.the-row (Is T.the-row) (shows 𝓤 H A T.the-row) (LL.vals T.the-type T′.the-laws) (LL.tells T.the-type T′.the-laws) q′ h vs b o $ move ! (1 ∷ []) $ peeks ! T.the-row (Is T.the-row) (shows 𝓤 H A T.the-row) h (stoV h ∷ []) (λ is-store. drop ! $ move ! (2 ∷ []) $ drop ! $ keep ! (0 ∷ 1 ∷ 2 ∷ 3 ∷ 4 ∷ 5 ∷ 6 ∷ 7 ∷ 8 ∷ 9 ∷ 10 ∷ 11 ∷ 12 ∷ 13 ∷ 14 ∷ 15 ∷ 16 ∷ 17 ∷ 18 ∷ 19 ∷ 20 ∷ 21 ∷ 22 ∷ 23 ∷ 24 ∷ 25 ∷ 26 ∷ 27 ∷ 28 ∷ 29 ∷ []) $
-      tail C Λ fm known-marks known-keys qis l₀ l₁ l₂ l₃ l₄ l₅ l₆ l₇ l₈ l₉ l₁₀ l₁₁ l₁₂ l₁₃ cs (spelt-codes cs w₁ is₁) ce g ge is-store q′))))))))))))))))))))))))
+      tail C Λ fm known-hashes known-keys qis l₀ l₁ l₂ l₃ l₄ l₅ l₆ l₇ l₈ l₉ l₁₀ l₁₁ l₁₂ l₁₃ cs (spelt-codes cs w₁ is₁) ce g ge is-store q′))))))))))))))))))))))))
 
 module _ {M : Type 1} (𝓤 : URA M) (H : Heap 𝓤) (A : Atoms 𝓤) (W : Given 𝓤 H A) (mem : Memory → SProp 𝓤) (run : Routine → Fun 𝓤) where
-  scan-walks : (C : Calls 𝓤 H) (Λ : Loops 𝓤 H) → FmC 𝓤 H (W .laws) C → Triple 𝓤 (C #codes-of) (Codes 𝓤 H A mem run) → Triple 𝓤 (C #candidate-place) (Choice 𝓤 H A mem run) → Triple 𝓤 (C #by-marks) (Marks 𝓤 H A mem run) → Triple 𝓤 (C #by-keys) (Keys 𝓤 H A mem run)
+  scan-walks : (C : Calls 𝓤 H) (Λ : Loops 𝓤 H) → FmC 𝓤 H (W .laws) C → Triple 𝓤 (C #codes-of) (Codes 𝓤 H A mem run) → Triple 𝓤 (C #candidate-place) (Choice 𝓤 H A mem run) → Triple 𝓤 (C #by-hashes) (Hashes 𝓤 H A mem run) → Triple 𝓤 (C #by-keys) (Keys 𝓤 H A mem run)
       → Walks 𝓤 H A fn.ended stayed (WpFn 𝓤 H C Λ code.function) (fn.clauses 𝓤 H A mem run)
-  scan-walks C Λ fm known-codes known-candidate known-marks known-keys = walked 𝓤 H A fn.ended stayed (fn.clauses 𝓤 H A mem run) (WpFn 𝓤 H C Λ code.function)
+  scan-walks C Λ fm known-codes known-candidate known-hashes known-keys = walked 𝓤 H A fn.ended stayed (fn.clauses 𝓤 H A mem run) (WpFn 𝓤 H C Λ code.function)
       (λ κs. (ptr-vals, (LL.vals Q.the-type Q′.the-laws, tt))) (λ κs. (shr-tells (named 0) (κs .0) T.the-row, (LL.tells Q.the-type Q′.the-laws, tt)))
-      (λ κs qs bounds a _ are. via 𝓤 _ (fst∗ 𝓤 _ (emp 𝓤)) (walk 𝓤 H A W mem run (κs .0) (qs .0) (a .0 .ptr .0) (a .0 .ptr .1) (a .0 .name) (a .0 .now) (a .1 .0) C Λ fm known-codes known-candidate known-marks known-keys (are .1 .0)))
+      (λ κs qs bounds a _ are. via 𝓤 _ (fst∗ 𝓤 _ (emp 𝓤)) (walk 𝓤 H A W mem run (κs .0) (qs .0) (a .0 .ptr .0) (a .0 .ptr .1) (a .0 .name) (a .0 .now) (a .1 .0) C Λ fm known-codes known-candidate known-hashes known-keys (are .1 .0)))
 
   goes : AllGo 𝓤 H A W 1 (fn.signature .params) (fn.ended .kept) stayed
   goes = (goes-dropped 𝓤 H A W 1 by-ref yes (λ κs x f. refl), (goes-dropped 𝓤 H A W 1 by-value yes (λ κs x f. refl), tt))
 
 scan-meets : {M : Type 1} (𝓤 : URA M) (H : Heap 𝓤) (A : Atoms 𝓤) → Given 𝓤 H A → (mem : Memory → SProp 𝓤) (run : Routine → Fun 𝓤) (𝓣 : Tables 𝓤 H)
-    → Triple 𝓤 (𝓣 .C #codes-of) (Codes 𝓤 H A mem run) → Triple 𝓤 (𝓣 .C #candidate-place) (Choice 𝓤 H A mem run) → Triple 𝓤 (𝓣 .C #by-marks) (Marks 𝓤 H A mem run) → Triple 𝓤 (𝓣 .C #by-keys) (Keys 𝓤 H A mem run)
+    → Triple 𝓤 (𝓣 .C #codes-of) (Codes 𝓤 H A mem run) → Triple 𝓤 (𝓣 .C #candidate-place) (Choice 𝓤 H A mem run) → Triple 𝓤 (𝓣 .C #by-hashes) (Hashes 𝓤 H A mem run) → Triple 𝓤 (𝓣 .C #by-keys) (Keys 𝓤 H A mem run)
     → Meets 𝓤 H A fn.signature (WpFn 𝓤 H (𝓣 .C) (𝓣 .Λ) code.function) (fn.spec 𝓤 H A mem run)
-scan-meets 𝓤 H A W mem run 𝓣 known-codes known-candidate known-marks known-keys =
+scan-meets 𝓤 H A W mem run 𝓣 known-codes known-candidate known-hashes known-keys =
     walk-meets 𝓤 H A fn.ended stayed W (goes 𝓤 H A W mem run) (fn.clauses 𝓤 H A mem run) (WpFn 𝓤 H (𝓣 .C) (𝓣 .Λ) code.function) (WpFn-mono 𝓤 H (W .laws) 𝓣 code.function)
-    (scan-walks 𝓤 H A W mem run (𝓣 .C) (𝓣 .Λ) (fmOf 𝓤 H (W .laws) 𝓣) known-codes known-candidate known-marks known-keys)
+    (scan-walks 𝓤 H A W mem run (𝓣 .C) (𝓣 .Λ) (fmOf 𝓤 H (W .laws) 𝓣) known-codes known-candidate known-hashes known-keys)
 
 pub scan-spec : {M : Type 1} → stated.statement M
 unfolding code.routine tablesOf
@@ -364,5 +364,5 @@ scan-spec 𝓤 H 𝓜 𝓖 𝓡 =
     (scan-meets 𝓤 H (𝓖 .A) (givenOf 𝓤 H 𝓜 𝓖) (𝓜 .mem) (𝓡 .run) (tablesOf 𝓤 H 𝓜 (tables 𝓤 H 𝓜 𝓡 code.env))
     (cited 𝓤 H (Codes 𝓤 H (𝓖 .A) (𝓜 .mem) (𝓡 .run)) 𝓜 𝓡 code.env #codes-of coding-def.routine code.calls-store-scan·codes-of (coding-thm.met 𝓤 H 𝓜 𝓖 𝓡))
     (cited 𝓤 H (Choice 𝓤 H (𝓖 .A) (𝓜 .mem) (𝓡 .run)) 𝓜 𝓡 code.env #candidate-place choosing-def.routine code.calls-store-scan·candidate-place (choosing-thm.met 𝓤 H 𝓜 𝓖 𝓡))
-    (cited 𝓤 H (Marks 𝓤 H (𝓖 .A) (𝓜 .mem) (𝓡 .run)) 𝓜 𝓡 code.env #by-marks marking-def.routine code.calls-store-scan·by-marks (marking-thm.met 𝓤 H 𝓜 𝓖 𝓡))
+    (cited 𝓤 H (Hashes 𝓤 H (𝓖 .A) (𝓜 .mem) (𝓡 .run)) 𝓜 𝓡 code.env #by-hashes hashing-def.routine code.calls-store-scan·by-hashes (hashing-thm.met 𝓤 H 𝓜 𝓖 𝓡))
     (cited 𝓤 H (Keys 𝓤 H (𝓖 .A) (𝓜 .mem) (𝓡 .run)) 𝓜 𝓡 code.env #by-keys keying-def.routine code.calls-store-scan·by-keys (keying-thm.met 𝓤 H 𝓜 𝓖 𝓡)))

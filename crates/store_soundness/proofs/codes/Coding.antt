@@ -1,18 +1,18 @@
 -- Codes of entries: of one entry, along the loops over them, and what the codes of all entries say of the entries.
-use Prim.Native.Nat.{ℕ, _+_, _%_, _^_, _≤_, _<_}
+use Prim.Native.Nat.{ℕ, _+_, _%_, _≤_, _<_}
 use native.Mathlib.Omega.{arith}
 use mathlib.Core.Path.{_≡_, refl, sym, ap, _∙_, subst}
 use mathlib.Core.Bool.{Bool, true, false, not, _&&_}
 use mathlib.Core.List.{List, [], _∷_, map}
-use lib.ListN.{length, getD, length-map, List·getD-map}
+use lib.ListN.{length, getD, length-map}
 use lib.Seq.{ext-getD}
-use lib.Dec.{eqb, ltb}
+use lib.Dec.{eqb}
 use borrow.Author.Needs.{needs}
-use borrow.Author.Tests.{eq-eqb, ne-eqb, eqb-true, lt-ltb, le-ltb, not-true, not-false}
+use borrow.Author.Tests.{eq-eqb, ne-eqb, lt-ltb, le-ltb, not-true, not-false}
 use Rattle.lists.specs.Lists.{allOf, every, firstPlace}
 use mathlib.Core.Logic.{⊎-elim}
 use Rattle.lists.proofs.Cases.{by-test, never, cond-true, cond-false, eq-or-ne}
-use Rattle.lists.proofs.Every.{getD-any, every-at, every-from, every-agree}
+use Rattle.lists.proofs.Every.{every-at, every-agree}
 use Rattle.lists.specs.declared.Found.the-variants as found
 use Rattle.lists.proofs.Searching.{Searching, search-start, search-here, search-next, search-end}
 use Rattle.store.specs.declared.Table.{Table}
@@ -20,16 +20,16 @@ use Rattle.store.specs.declared.Entry.{Entry}
 use Rattle.store.specs.Store.{tableHeld, entryHeld, entryFree, keyOf}
 use Rattle.store.specs.Sound.{soundEntry, entryKeyLengthOk, keyRestZero, valuesOk}
 use Rattle.store.proofs.Lookup.{blankTable, blankEntry}
-use Rattle.store.proofs.Typed.{length-mapped}
-use Rattle.store.proofs.Tested.{free-entry-sound, entry-mark-unsound, place-unsound, rows-sound}
-use Rattle.store_soundness.specs.Marks.{markEnd, markKey, entryMark}
-use Rattle.store_soundness.proofs.marks.Marking.{key-below, start-small, held-is}
+use Rattle.lists.proofs.Maps.{length-mapped, mapped-at}
+use Rattle.store_soundness.proofs.entry.EntryTests.{free-entry-sound, entry-flag-unsound, place-unsound, rows-sound}
+use Rattle.store_soundness.specs.Hashes.{hashEnd, hashKey, entryHash}
+use Rattle.store_soundness.proofs.hashes.Hashing.{key-below, start-small, held-is}
 use Rattle.store_soundness.specs.Codes.{unsoundCode, entryCode, soundCode, isCode}
 
 -- ---- one entry
 
 module _ (tables : List Table) (e : Entry) where
-  sound-code : soundEntry tables e ≡ true → entryCode tables e ≡ entryMark e
+  sound-code : soundEntry tables e ≡ true → entryCode tables e ≡ entryHash e
   unfolding entryCode
   sound-code h = cond-true _ _ _ h
 
@@ -37,22 +37,22 @@ module _ (tables : List Table) (e : Entry) where
   unfolding entryCode
   bad-code h = cond-false _ _ _ h
 
-  free-mark : e .held ≡ 0 → entryMark e ≡ markEnd
-  unfolding entryMark entryHeld
-  free-mark h = cond-false (eqb (e .held) 1) _ _ (ne-eqb (e .held) 1 (λ z. omega arith))
+  free-hash : e .held ≡ 0 → entryHash e ≡ hashEnd
+  unfolding entryHash entryHeld
+  free-hash h = cond-false (eqb (e .held) 1) _ _ (ne-eqb (e .held) 1 (λ z. omega arith))
 
-  key-mark : e .held ≡ 1 → entryMark e ≡ markKey (e .table % markEnd) (keyOf e)
-  unfolding entryMark entryHeld
-  key-mark h = cond-true (eqb (e .held) 1) _ _ (eq-eqb (e .held) 1 h)
+  key-hash : e .held ≡ 1 → entryHash e ≡ hashKey (e .table % hashEnd) (keyOf e)
+  unfolding entryHash entryHeld
+  key-hash h = cond-true (eqb (e .held) 1) _ _ (eq-eqb (e .held) 1 h)
 
   pub free-code : e .held ≡ 0 → entryCode tables e ≡ 2147483647
-  free-code h = sound-code (free-entry-sound tables e h) ∙ free-mark h
+  free-code h = sound-code (free-entry-sound tables e h) ∙ free-hash h
 
   pub code-free : e .held ≡ 0 → 2147483647 ≡ entryCode tables e
   code-free h = sym (free-code h)
 
-  pub code-mark : (e .held ≡ 0 → ⊥) → (e .held ≡ 1 → ⊥) → 2147483648 ≡ entryCode tables e
-  code-mark f g = sym (bad-code (entry-mark-unsound tables e f g))
+  pub code-flag : (e .held ≡ 0 → ⊥) → (e .held ≡ 1 → ⊥) → 2147483648 ≡ entryCode tables e
+  code-flag f g = sym (bad-code (entry-flag-unsound tables e f g))
 
   pub code-place : e .held ≡ 1 → 8 ≤ e .table → 2147483648 ≡ entryCode tables e
   code-place h l = sym (bad-code (place-unsound tables e h l))
@@ -62,14 +62,14 @@ module _ (tables : List Table) (e : Entry) where
     pub code-rows : not b ≡ true → 2147483648 ≡ entryCode tables e
     code-rows t = sym (bad-code (rows-sound tables e h _ b l n refl q ∙ not-true b t))
 
-    pub code-held : {m : ℕ} → not b ≡ false → m ≡ markKey (e .table % markEnd) (keyOf e) → m ≡ entryCode tables e
-    code-held t p = p ∙ sym (key-mark h) ∙ sym (sound-code (rows-sound tables e h _ b l n refl q ∙ not-false b t))
+    pub code-held : {m : ℕ} → not b ≡ false → m ≡ hashKey (e .table % hashEnd) (keyOf e) → m ≡ entryCode tables e
+    code-held t p = p ∙ sym (key-hash h) ∙ sym (sound-code (rows-sound tables e h _ b l n refl q ∙ not-false b t))
 
-pub ruleset coding = (needs, length-mapped, code-mark, code-place, code-rows, code-held)
+pub ruleset coding = (needs, length-mapped, code-flag, code-place, code-rows, code-held)
 
 -- a sound entry is free or held
 held-one : (tables : List Table) (e : Entry) → soundEntry tables e ≡ true → (e .held ≡ 0 → ⊥) → e .held ≡ 1
-held-one tables e h f = ⊎-elim (λ z. z) (λ g. never h (entry-mark-unsound tables e f g)) (eq-or-ne (e .held) 1)
+held-one tables e h f = ⊎-elim (λ z. z) (λ g. never h (entry-flag-unsound tables e f g)) (eq-or-ne (e .held) 1)
 
 -- ---- the loops over the codes
 
@@ -96,60 +96,50 @@ pub ruleset finding = (needs, search-start, search-end, code-here, code-next)
 
 -- ---- what the codes of all entries say
 
--- of a sound entry, the mark tells whether its place is free
-pub free-marked : (tables : List Table) (e : Entry) → soundEntry tables e ≡ true → isCode markEnd (entryMark e) ≡ entryFree e
+-- of a sound entry, the hash tells whether its place is free
+pub free-hashed : (tables : List Table) (e : Entry) → soundEntry tables e ≡ true → isCode hashEnd (entryHash e) ≡ entryFree e
 unfolding entryFree
-free-marked tables e h =
+free-hashed tables e h =
     ⊎-elim
-    (λ z. eq-eqb (entryMark e) markEnd (free-mark tables e z) ∙ sym (eq-eqb (e .held) 0 z))
+    (λ z. eq-eqb (entryHash e) hashEnd (free-hash tables e z) ∙ sym (eq-eqb (e .held) 0 z))
     (λ f.
     let one = held-one tables e h f in
-    let l = subst (λ (m : ℕ). m < markEnd) (sym (key-mark tables e one)) (key-below (e .table % markEnd) (keyOf e) (start-small (e .table))) in
-    ne-eqb (entryMark e) markEnd (λ z. omega (arith, l)) ∙ sym (ne-eqb (e .held) 0 f))
+    let l = subst (λ (m : ℕ). m < hashEnd) (sym (key-hash tables e one)) (key-below (e .table % hashEnd) (keyOf e) (start-small (e .table))) in
+    ne-eqb (entryHash e) hashEnd (λ z. omega (arith, l)) ∙ sym (ne-eqb (e .held) 0 f))
     (eq-or-ne (e .held) 0)
 
-unheld-mark : (e : Entry) → entryHeld e ≡ false → entryMark e ≡ markEnd
-unfolding entryMark
-unheld-mark e h = cond-false (entryHeld e) _ _ h
+unheld-hash : (e : Entry) → entryHeld e ≡ false → entryHash e ≡ hashEnd
+unfolding entryHash
+unheld-hash e h = cond-false (entryHeld e) _ _ h
 
-mark-within : (e : Entry) → entryMark e < unsoundCode
-mark-within e =
+hash-within : (e : Entry) → entryHash e < unsoundCode
+hash-within e =
     by-test (entryHeld e)
-    (λ h. subst (λ (m : ℕ). m < unsoundCode) (sym (held-is e h)) (let l = key-below (e .table % markEnd) (keyOf e) (start-small (e .table)) in omega (arith, l)))
-    (λ h. subst (λ (m : ℕ). m < unsoundCode) (sym (unheld-mark e h)) (omega arith))
+    (λ h. subst (λ (m : ℕ). m < unsoundCode) (sym (held-is e h)) (let l = key-below (e .table % hashEnd) (keyOf e) (start-small (e .table)) in omega (arith, l)))
+    (λ h. subst (λ (m : ℕ). m < unsoundCode) (sym (unheld-hash e h)) (omega arith))
 
 -- the code of an entry is that of a sound one if the entry is sound
 pub tells-sound : (tables : List Table) (e : Entry) → soundCode (entryCode tables e) ≡ soundEntry tables e
 tells-sound tables e =
     by-test (soundEntry tables e)
-    (λ h. ap soundCode (sound-code tables e h) ∙ lt-ltb (entryMark e) unsoundCode (mark-within e) ∙ sym h)
+    (λ h. ap soundCode (sound-code tables e h) ∙ lt-ltb (entryHash e) unsoundCode (hash-within e) ∙ sym h)
     (λ h. ap soundCode (bad-code tables e h) ∙ sym h)
 
 module _ (tables : List Table) (entries : List Entry) where
-  pub code-at : (k : ℕ) → k < length entries → getD (map (entryCode tables) entries) k 0 ≡ entryCode tables (getD entries k blankEntry)
-  code-at k l =
-      getD-any (map (entryCode tables) entries) k 0 (entryCode tables blankEntry) (omega (arith, length-map entries (entryCode tables)))
-      ∙ List·getD-map (entryCode tables) entries k blankEntry
-
-  every-map : (es : List Entry) → every soundCode (map (entryCode tables) es) ≡ every (soundEntry tables) es
-  unfolding every
-  every-map [] = refl
-  every-map (e ∷ es) = ap (λ (x : Bool). x && every soundCode (map (entryCode tables) es)) (tells-sound tables e) ∙ ap (λ (x : Bool). soundEntry tables e && x) (every-map es)
-
   -- all codes are of sound entries if all entries are sound
   pub codes-sound : every soundCode (map (entryCode tables) entries) ≡ every (soundEntry tables) entries
-  codes-sound = every-map entries
+  codes-sound =
+      every-agree soundCode (soundEntry tables) 0 blankEntry (map (entryCode tables) entries) entries (length-map entries (entryCode tables))
+      (λ k l.
+      ap soundCode (mapped-at (entryCode tables) entries k blankEntry 0 (omega (arith, length-map entries (entryCode tables))))
+      ∙ tells-sound tables (getD entries k blankEntry))
 
-  -- the codes of sound entries are their marks
-  pub codes-marks : every (soundEntry tables) entries ≡ true → map (entryCode tables) entries ≡ map entryMark entries
-  codes-marks h =
-      ext-getD 0 (map (entryCode tables) entries) (map entryMark entries) (length-map entries (entryCode tables) ∙ sym (length-map entries entryMark))
+  -- the codes of sound entries are their hashes
+  pub codes-hashes : every (soundEntry tables) entries ≡ true → map (entryCode tables) entries ≡ map entryHash entries
+  codes-hashes h =
+      ext-getD 0 (map (entryCode tables) entries) (map entryHash entries) (length-map entries (entryCode tables) ∙ sym (length-map entries entryHash))
       (λ k l.
       let m : k < length entries = omega (arith, length-map entries (entryCode tables)) in
-      code-at k m
+      mapped-at (entryCode tables) entries k blankEntry 0 m
       ∙ sound-code tables (getD entries k blankEntry) (every-at (soundEntry tables) entries blankEntry k h m)
-      ∙ sym (mark-at k m))
-    where
-      mark-at : (k : ℕ) → k < length entries → getD (map entryMark entries) k 0 ≡ entryMark (getD entries k blankEntry)
-      mark-at k l =
-          getD-any (map entryMark entries) k 0 (entryMark blankEntry) (omega (arith, length-map entries entryMark)) ∙ List·getD-map entryMark entries k blankEntry
+      ∙ sym (mapped-at entryHash entries k blankEntry 0 m))

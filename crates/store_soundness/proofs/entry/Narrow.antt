@@ -1,19 +1,18 @@
 -- Values below 2^32 fit every data type's width.
 use Prim.Native.Nat.{ℕ, _^_, _≤_, _<_}
-use mathlib.Core.Path.{_≡_, refl, sym, ap, _∙_}
-use mathlib.Core.Bool.{Bool, true, false, not, _&&_, _||_}
+use mathlib.Core.Path.{_≡_, refl, sym, _∙_}
+use mathlib.Core.Bool.{Bool, true, false}
 use mathlib.Core.List.{List, [], _∷_}
-use lib.Dec.{ltb}
 use borrow.Author.Needs.{needs}
-use borrow.Author.Tests.{lt-ltb, le-ltb}
+use borrow.Author.Tests.{lt-ltb, le-ltb, ltb-true}
 use Rattle.lists.specs.Lists.{allOf, every}
-use Rattle.lists.proofs.Cases.{and-first, and-second, and-intro, or-second, all-stop, all-next, all-last}
+use Rattle.lists.proofs.Cases.{and-first, and-second, and-intro, all-stop, all-next, all-last}
 use Rattle.lists.proofs.Every.{every-cons}
 use Rattle.store.specs.declared.Table.{Table}
 use Rattle.store.specs.declared.Entry.{Entry}
-use Rattle.store.specs.Limits.{present, isWide, slotTypes}
+use Rattle.store.specs.Limits.{slotTypes}
 use Rattle.store.specs.Sound.{slotOk, slotsOk, valuesOk}
-use Rattle.store.proofs.Tested.{values-row, table-gone, table-there}
+use Rattle.store_soundness.proofs.entry.EntryTests.{narrow-value, values-row, table-gone, table-there}
 use Rattle.store_soundness.specs.Narrow.{isNarrow}
 
 pub narrow-passes : (v : ℕ) → v < 4294967296 → isNarrow v ≡ true
@@ -22,12 +21,6 @@ narrow-passes v l = lt-ltb v (2 ^ 32) l
 pub wide-fails : (v : ℕ) → 4294967296 ≤ v → isNarrow v ≡ false
 wide-fails v l = le-ltb v (2 ^ 32) l
 
-narrow-slot : (types t v : ℕ) → isNarrow v ≡ true → slotOk types t v ≡ true
-unfolding slotOk
-narrow-slot types t v h =
-    let w = or-second (isWide t) (ltb v (2 ^ 32)) h ∙ h in
-    or-second (not (present types t)) (isWide t || ltb v (2 ^ 32)) w ∙ w
-
 narrow-slots : (types : ℕ) (ts vs : List ℕ) → every isNarrow vs ≡ true → slotsOk types ts vs ≡ true
 unfolding slotsOk
 narrow-slots types [] vs h = refl
@@ -35,7 +28,7 @@ narrow-slots types (t ∷ ts) [] h = refl
 narrow-slots types (t ∷ ts) (v ∷ vs) h =
     let e = sym (every-cons isNarrow v vs) ∙ h in
     and-intro (slotOk types t v) (slotsOk types ts vs)
-    (narrow-slot types t v (and-first (isNarrow v) (every isNarrow vs) e))
+    (narrow-value types t v (ltb-true v (2 ^ 32) (and-first (isNarrow v) (every isNarrow vs) e)))
     (narrow-slots types ts vs (and-second (isNarrow v) (every isNarrow vs) e))
 
 pub narrow-values : (t : Table) (e : Entry) (b : Bool) → b ≡ every isNarrow (e .values) → b ≡ true → true ≡ allOf (valuesOk t e ∷ [])

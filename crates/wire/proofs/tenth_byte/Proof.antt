@@ -1,5 +1,4 @@
 use Rattle.wire.proofs.Reading.{tenth}
-use borrow.Author.Needs.{needs}
 use Rattle.wire.proofs.tenth_byte.Statement.{statement}
 use Rattle.wire.proofs.tenth_byte.Tie as tie
 

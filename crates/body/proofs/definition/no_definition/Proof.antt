@@ -1,4 +1,4 @@
-use Rattle.body.proofs.DefinitionLaws.{blank-laws}
+use Rattle.body.proofs.definition.DefinitionLaws.{blank-laws}
 use Rattle.body.proofs.definition.no_definition.Statement.{statement}
 use Rattle.body.proofs.definition.no_definition.Tie as tie
 

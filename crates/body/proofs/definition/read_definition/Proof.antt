@@ -1,5 +1,4 @@
-use Rattle.body.proofs.DefinitionLaws.{definition-laws}
-use borrow.Author.Needs.{needs}
+use Rattle.body.proofs.definition.DefinitionLaws.{definition-laws}
 use Rattle.body.proofs.definition.read_definition.Statement.{statement}
 use Rattle.body.proofs.definition.read_definition.Tie as tie
 

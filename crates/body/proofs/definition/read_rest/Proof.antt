@@ -1,5 +1,4 @@
-use Rattle.body.proofs.DefinitionLaws.{rest-laws}
-use borrow.Author.Needs.{needs}
+use Rattle.body.proofs.definition.DefinitionLaws.{rest-laws}
 use Rattle.body.proofs.definition.read_rest.Statement.{statement}
 use Rattle.body.proofs.definition.read_rest.Tie as tie
 

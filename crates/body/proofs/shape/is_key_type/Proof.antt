@@ -1,5 +1,4 @@
-use Rattle.body.proofs.FieldLaws.{key-type-laws}
-use borrow.Author.Needs.{needs}
+use Rattle.body.proofs.shape.ShapeLaws.{key-type-laws}
 use Rattle.body.proofs.shape.is_key_type.Statement.{statement}
 use Rattle.body.proofs.shape.is_key_type.Tie as tie
 

@@ -1,5 +1,4 @@
 use Rattle.body.proofs.FieldLaws.{test-laws}
-use borrow.Author.Needs.{needs}
 use Rattle.body.proofs.shape.read_key_len.Statement.{statement}
 use Rattle.body.proofs.shape.read_key_len.Tie as tie
 

@@ -1,5 +1,4 @@
-use Rattle.body.proofs.DefinitionLaws.{shape-laws}
-use borrow.Author.Needs.{needs}
+use Rattle.body.proofs.shape.ShapeLaws.{shape-laws}
 use Rattle.body.proofs.shape.read_shape.Statement.{statement}
 use Rattle.body.proofs.shape.read_shape.Tie as tie
 
@@ -18,17 +17,20 @@ read-key-len-requires c κs = search shape-laws
 enum-known-len : tie.Need-enum-known-len
 enum-known-len c = search shape-laws
 
+cast-read-between : tie.Need-cast-read-between
+cast-read-between c = search shape-laws
+
 read-between-requires : tie.Need-read-between-requires
 read-between-requires c κs = search shape-laws
 
 enum-known-types : tie.Need-enum-known-types
 enum-known-types c = search shape-laws
 
-cast-t16 : tie.Need-cast-t16
-cast-t16 c = search shape-laws
+cast-t17 : tie.Need-cast-t17
+cast-t17 c = search shape-laws
 
-cast-t18 : tie.Need-cast-t18
-cast-t18 c = search shape-laws
+cast-t19 : tie.Need-cast-t19
+cast-t19 c = search shape-laws
 
 enum-told : tie.Need-enum-told
 enum-told c = search shape-laws
@@ -78,10 +80,11 @@ read-shape-spec =
     cast-read-key-len
     read-key-len-requires
     enum-known-len
+    cast-read-between
     read-between-requires
     enum-known-types
-    cast-t16
-    cast-t18
+    cast-t17
+    cast-t19
     enum-told
     enum-told-2
     enum-told-3

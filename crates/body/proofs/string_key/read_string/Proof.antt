@@ -1,31 +1,30 @@
-use Rattle.body.proofs.FieldLaws.{key-laws}
-use borrow.Author.Needs.{needs}
+use Rattle.body.proofs.string_key.StringLaws.{string-laws}
 use Rattle.body.proofs.string_key.read_string.Statement.{statement}
 use Rattle.body.proofs.string_key.read_string.Tie as tie
 
 read-between-requires : tie.Need-read-between-requires
-read-between-requires c κs = search key-laws
+read-between-requires c κs = search string-laws
 
 enum-known-len : tie.Need-enum-known-len
-enum-known-len c = search key-laws
+enum-known-len c = search string-laws
 
 read-part-requires : tie.Need-read-part-requires
-read-part-requires c κs = search key-laws
+read-part-requires c κs = search string-laws
 
 enum-told : tie.Need-enum-told
-enum-told c = search key-laws
+enum-told c = search string-laws
 
 enum-told-2 : tie.Need-enum-told-2
-enum-told-2 c = search key-laws
+enum-told-2 c = search string-laws
 
 returns : tie.Need-returns
-returns c = search key-laws
+returns c = search string-laws
 
 returns-2 : tie.Need-returns-2
-returns-2 c = search key-laws
+returns-2 c = search string-laws
 
 returns-3 : tie.Need-returns-3
-returns-3 c = search key-laws
+returns-3 c = search string-laws
 
 pub read-string-spec : {M : Type 1} → statement M
 read-string-spec =

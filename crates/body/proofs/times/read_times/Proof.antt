@@ -1,5 +1,4 @@
-use Rattle.body.proofs.DefinitionLaws.{times-laws, ended, expiry-short, expiry-out, expiry-value}
-use borrow.Author.Needs.{needs}
+use Rattle.body.proofs.times.TimesLaws.{times-laws}
 use Rattle.body.proofs.times.read_times.Statement.{statement}
 use Rattle.body.proofs.times.read_times.Tie as tie
 
@@ -7,8 +6,7 @@ no-times-requires : tie.Need-no-times-requires
 no-times-requires c κs = search times-laws
 
 returns : tie.Need-returns
-returns c =
-    ended _ (c .before .before .before .args .body .now) _ _ (c .no-times .ensures) (c .before .if1 .taken)
+returns c = search times-laws
 
 read-word-requires : tie.Need-read-word-requires
 read-word-requires c κs = search times-laws
@@ -32,23 +30,13 @@ no-times-requires-3 : tie.Need-no-times-requires-3
 no-times-requires-3 c κs = search times-laws
 
 returns-2 : tie.Need-returns-2
-returns-2 c =
-    let x = c .before .before .before in
-    let w = x .before .before in
-    expiry-value _ (w .before .before .before .args .body .now) _ (w .before .if1 .left) _ (w .read-word .ensures) _ _ (x .expiry .given .1) _ _
-    (c .before .read-periods .ensures)
+returns-2 c = search times-laws
 
 returns-3 : tie.Need-returns-3
-returns-3 c =
-    let w = c .before .before .before in
-    expiry-short _ (w .before .before .before .args .body .now) _ (w .before .if1 .left) _ (w .read-word .ensures) _ (c .no-times2 .ensures)
-    (c .before .enum-told .given .1)
+returns-3 c = search times-laws
 
 returns-4 : tie.Need-returns-4
-returns-4 c =
-    let w = c .before .before .before in
-    expiry-out _ (w .before .before .before .args .body .now) _ (w .before .if1 .left) _ (w .read-word .ensures) _ (c .no-times3 .ensures)
-    (c .before .enum-told2 .given .1)
+returns-4 c = search times-laws
 
 pub read-times-spec : {M : Type 1} → statement M
 read-times-spec =

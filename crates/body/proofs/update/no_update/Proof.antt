@@ -1,4 +1,4 @@
-use Rattle.body.proofs.UpdateLaws.{blank-laws}
+use Rattle.body.proofs.update.UpdateLaws.{blank-laws}
 use Rattle.body.proofs.update.no_update.Statement.{statement}
 use Rattle.body.proofs.update.no_update.Tie as tie
 

@@ -1,5 +1,4 @@
-use Rattle.body.proofs.UpdateLaws.{entry-laws}
-use borrow.Author.Needs.{needs}
+use Rattle.body.proofs.update.UpdateLaws.{entry-laws}
 use Rattle.body.proofs.update.read_entry.Statement.{statement}
 use Rattle.body.proofs.update.read_entry.Tie as tie
 

@@ -1,5 +1,4 @@
-use Rattle.body.proofs.FieldLaws.{key-laws}
-use borrow.Author.Needs.{needs}
+use Rattle.body.proofs.update.UpdateLaws.{key-laws}
 use Rattle.body.proofs.update.read_key.Statement.{statement}
 use Rattle.body.proofs.update.read_key.Tie as tie
 

@@ -1,5 +1,4 @@
-use Rattle.body.proofs.UpdateLaws.{data-laws}
-use borrow.Author.Needs.{needs}
+use Rattle.body.proofs.update_data.DataLaws.{data-laws}
 use Rattle.body.proofs.update_data.read_data.Statement.{statement}
 use Rattle.body.proofs.update_data.read_data.Tie as tie
 

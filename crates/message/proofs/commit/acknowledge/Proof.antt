@@ -11,26 +11,26 @@ add-t8 c = search acknowledging
 cast-t9 : tie.Need-cast-t9
 cast-t9 c = search acknowledging
 
-slice-aggregate-put-bytes : tie.Need-slice-aggregate-put-bytes
-slice-aggregate-put-bytes c = search acknowledging
+slice-aggregate-fit-bytes : tie.Need-slice-aggregate-fit-bytes
+slice-aggregate-fit-bytes c = search acknowledging
 
 array-share-prefix-encoded : tie.Need-array-share-prefix-encoded
 array-share-prefix-encoded c = search acknowledging
 
-slice-aggregate-put-bytes-2 : tie.Need-slice-aggregate-put-bytes-2
-slice-aggregate-put-bytes-2 c = search acknowledging
+slice-aggregate-fit-bytes-2 : tie.Need-slice-aggregate-fit-bytes-2
+slice-aggregate-fit-bytes-2 c = search acknowledging
 
-put-bytes-requires : tie.Need-put-bytes-requires
-put-bytes-requires c κs = search acknowledging
+fit-bytes-requires : tie.Need-fit-bytes-requires
+fit-bytes-requires c κs = search acknowledging
 
-slice-aggregate-put-number : tie.Need-slice-aggregate-put-number
-slice-aggregate-put-number c = search acknowledging
+slice-aggregate-fit-number : tie.Need-slice-aggregate-fit-number
+slice-aggregate-fit-number c = search acknowledging
 
-add-put-number : tie.Need-add-put-number
-add-put-number c = search acknowledging
+add-fit-number : tie.Need-add-fit-number
+add-fit-number c = search acknowledging
 
-put-number-requires : tie.Need-put-number-requires
-put-number-requires c κs = search acknowledging
+fit-number-requires : tie.Need-fit-number-requires
+fit-number-requires c κs = search acknowledging
 
 add-t8-2 : tie.Need-add-t8-2
 add-t8-2 c = search acknowledging
@@ -45,12 +45,12 @@ acknowledge-spec =
     write-int-requires
     add-t8
     cast-t9
-    slice-aggregate-put-bytes
+    slice-aggregate-fit-bytes
     array-share-prefix-encoded
-    slice-aggregate-put-bytes-2
-    put-bytes-requires
-    slice-aggregate-put-number
-    add-put-number
-    put-number-requires
+    slice-aggregate-fit-bytes-2
+    fit-bytes-requires
+    slice-aggregate-fit-number
+    add-fit-number
+    fit-number-requires
     add-t8-2
     returns)

@@ -8,11 +8,11 @@ returns c = search replying
 array-share-prefix-text : tie.Need-array-share-prefix-text
 array-share-prefix-text c = search replying
 
-slice-aggregate-put-bytes : tie.Need-slice-aggregate-put-bytes
-slice-aggregate-put-bytes c = search replying
+slice-aggregate-fit-bytes : tie.Need-slice-aggregate-fit-bytes
+slice-aggregate-fit-bytes c = search replying
 
-put-bytes-requires : tie.Need-put-bytes-requires
-put-bytes-requires c κs = search replying
+fit-bytes-requires : tie.Need-fit-bytes-requires
+fit-bytes-requires c κs = search replying
 
 same-length : tie.Need-same-length
 same-length c = search replying
@@ -26,7 +26,7 @@ put-reply-spec =
     (tie.spec
     returns
     array-share-prefix-text
-    slice-aggregate-put-bytes
-    put-bytes-requires
+    slice-aggregate-fit-bytes
+    fit-bytes-requires
     same-length
     returns-2)

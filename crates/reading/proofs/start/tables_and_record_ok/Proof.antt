@@ -1,4 +1,4 @@
-use Rattle.store_soundness.proofs.table.TwoTests.{two-tests}
+use Rattle.lists.proofs.Cases.{two-tests}
 use Rattle.reading.proofs.start.tables_and_record_ok.Statement.{statement}
 use Rattle.reading.proofs.start.tables_and_record_ok.Tie as tie
 

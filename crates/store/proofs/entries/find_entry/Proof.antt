@@ -1,7 +1,8 @@
 use Prim.Native.Nat.{_-_}
 use mathlib.Core.Path.{refl}
 use mathlib.Core.Logic.{⊎-elim}
-use Rattle.store.proofs.entries.Looking.{looking, Looking, Matching, array-keys, look, look-past, look-next, byte-differs, key-too-long}
+use Rattle.store.proofs.Lookup.{array-keys}
+use Rattle.store.proofs.entries.Looking.{looking, Looking, Matching, look, look-past, look-next, byte-differs, key-too-long}
 use Rattle.store.proofs.entries.find_entry.Statement.{statement}
 use Rattle.store.proofs.entries.find_entry.Tie as tie
 

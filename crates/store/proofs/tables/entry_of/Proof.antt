@@ -1,4 +1,4 @@
-use Rattle.store.proofs.Lookup.{holding}
+use Rattle.store.proofs.tables.Finding.{holding}
 use Rattle.store.proofs.tables.entry_of.Statement.{statement}
 use Rattle.store.proofs.tables.entry_of.Tie as tie
 

@@ -1,5 +1,5 @@
 use Prim.Native.Nat.{_-_}
-use Rattle.store.proofs.Lookup.{named}
+use Rattle.store.proofs.tables.Finding.{named}
 use Rattle.lists.proofs.Searching.{Searching}
 use Rattle.store.specs.Store.{tableNamed}
 use Rattle.store.proofs.tables.find_table.Statement.{statement}

@@ -1,5 +1,5 @@
 use Prim.Native.Nat.{_-_}
-use Rattle.store.proofs.Lookup.{free}
+use Rattle.store.proofs.tables.Finding.{free}
 use Rattle.lists.proofs.Searching.{Searching}
 use Rattle.store.specs.Store.{tableFree, entryFree, noTable, noEntry}
 use Rattle.store.proofs.tables.free_table.Statement.{statement}

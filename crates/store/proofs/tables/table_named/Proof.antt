@@ -1,4 +1,4 @@
-use Rattle.store.proofs.Lookup.{naming}
+use Rattle.store.proofs.tables.Finding.{naming}
 use borrow.Author.Needs.{needs}
 use Rattle.store.proofs.tables.table_named.Statement.{statement}
 use Rattle.store.proofs.tables.table_named.Tie as tie

@@ -1,6 +1,6 @@
 use mathlib.Core.Path.{_≡_, refl, sym, ap, _∙_}
 use Rattle.store.specs.Limits.{keyMax, keyLengthFits, keyLengthOk}
-use Rattle.store.specs.declared.KeyKind.{KeyKind}
+use Rattle.store.specs.declared.types.KeyKind.{KeyKind}
 use borrow.Author.Needs.{needs}
 use Rattle.store.proofs.types.key_length_ok.Statement.{statement}
 use Rattle.store.proofs.types.key_length_ok.Tie as tie

@@ -1,8 +1,8 @@
 use lib.ListN.{length}
 use mathlib.Core.Path.{_≡_}
 use borrow.Author.Needs.{needs}
-use Rattle.store.proofs.Typed.{length-mapped}
-use Rattle.store_soundness.proofs.codes.Coding.{coding, code-free, code-mark, code-place, code-rows, code-held}
+use Rattle.lists.proofs.Maps.{length-mapped}
+use Rattle.store_soundness.proofs.codes.Coding.{coding, code-free, code-flag, code-place, code-rows, code-held}
 use Rattle.store_soundness.proofs.codes.entry_code.Statement.{statement}
 use Rattle.store_soundness.proofs.codes.entry_code.Tie as tie
 
@@ -10,7 +10,7 @@ returns : tie.Need-returns
 returns c = code-free _ _ (c .if1 .taken)
 
 returns-2 : tie.Need-returns-2
-returns-2 c = code-mark _ _ (c .before .before .if1 .left) (c .if2 .taken)
+returns-2 c = code-flag _ _ (c .before .before .if1 .left) (c .if2 .taken)
 
 returns-3 : tie.Need-returns-3
 returns-3 c = code-place _ _ (c .before .if2 .left) (c .if3 .taken)
@@ -31,8 +31,8 @@ returns-4 c =
     let n : length (l .before .before .before .before .before .args .t1) ≡ 8 = search (needs, length-mapped) in
     code-rows _ _ (l .before .if2 .left) (l .if3 .left) n (k .held-entry-ok .ensures) (c .if4 .taken)
 
-held-mark-requires : tie.Need-held-mark-requires
-held-mark-requires c κs = search coding
+held-hash-requires : tie.Need-held-hash-requires
+held-hash-requires c κs = search coding
 
 returns-5 : tie.Need-returns-5
 returns-5 c =
@@ -40,7 +40,7 @@ returns-5 c =
     let k = t .before in
     let l = k .before .before in
     let n : length (l .before .before .before .before .before .args .t1) ≡ 8 = search (needs, length-mapped) in
-    code-held _ _ (l .before .if2 .left) (l .if3 .left) n (k .held-entry-ok .ensures) (t .if4 .left) (c .held-mark .ensures)
+    code-held _ _ (l .before .if2 .left) (l .if3 .left) n (k .held-entry-ok .ensures) (t .if4 .left) (c .held-hash .ensures)
 
 pub entry-code-spec : {M : Type 1} → statement M
 entry-code-spec =
@@ -53,5 +53,5 @@ entry-code-spec =
     array-copy-out-t
     held-entry-ok-requires
     returns-4
-    held-mark-requires
+    held-hash-requires
     returns-5)

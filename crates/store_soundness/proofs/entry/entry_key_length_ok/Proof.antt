@@ -1,5 +1,4 @@
-use Rattle.store.proofs.Tested.{lengths}
-use borrow.Author.Needs.{needs}
+use Rattle.store_soundness.proofs.entry.EntryTests.{lengths}
 use Rattle.store_soundness.proofs.entry.entry_key_length_ok.Statement.{statement}
 use Rattle.store_soundness.proofs.entry.entry_key_length_ok.Tie as tie
 

@@ -1,4 +1,4 @@
-use Rattle.store.proofs.Tested.{no-rest, rest-is}
+use Rattle.store_soundness.proofs.entry.EntryTests.{no-rest, rest-is}
 use mathlib.Core.Path.{_≡_}
 use lib.ListN.{length}
 use native.Mathlib.Omega.{arith}

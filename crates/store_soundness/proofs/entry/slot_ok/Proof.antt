@@ -1,5 +1,4 @@
-use Rattle.store.proofs.Tested.{values}
-use borrow.Author.Needs.{needs}
+use Rattle.store_soundness.proofs.entry.EntryTests.{values}
 use Rattle.store_soundness.proofs.entry.slot_ok.Statement.{statement}
 use Rattle.store_soundness.proofs.entry.slot_ok.Tie as tie
 

@@ -1,4 +1,4 @@
-use Rattle.store.proofs.Tested.{slots, Slots, slots-next, slots-narrow}
+use Rattle.store_soundness.proofs.entry.EntryTests.{slots, Slots, slots-next, slots-narrow}
 use Prim.Native.Nat.{_-_}
 use mathlib.Core.Logic.{⊎-elim}
 use Rattle.store_soundness.proofs.entry.slots_ok.Statement.{statement}

@@ -1,4 +1,4 @@
-use Rattle.store.proofs.TwinLoops.{keying}
+use Rattle.store_soundness.proofs.keys.Keying.{keying}
 use Rattle.store_soundness.proofs.keys.entry_keyed.Statement.{statement}
 use Rattle.store_soundness.proofs.keys.entry_keyed.Tie as tie
 

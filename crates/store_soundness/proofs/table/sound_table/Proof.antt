@@ -1,5 +1,4 @@
-use Rattle.store.proofs.Tested.{tables}
-use borrow.Author.Needs.{needs}
+use Rattle.store_soundness.proofs.table.TableTests.{tables}
 use Rattle.store_soundness.proofs.table.sound_table.Statement.{statement}
 use Rattle.store_soundness.proofs.table.sound_table.Tie as tie
 

@@ -1,4 +1,4 @@
-use Rattle.store.proofs.Tested.{all-tables}
+use Rattle.store_soundness.proofs.table.TableTests.{all-tables}
 use Prim.Native.Nat.{_-_}
 use Rattle.lists.proofs.Testing.{Testing}
 use Rattle.store.specs.Sound.{soundTable}

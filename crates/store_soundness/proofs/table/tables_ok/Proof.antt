@@ -1,4 +1,4 @@
-use Rattle.store_soundness.proofs.table.TwoTests.{two-tests}
+use Rattle.lists.proofs.Cases.{two-tests}
 use Rattle.store_soundness.proofs.table.tables_ok.Statement.{statement}
 use Rattle.store_soundness.proofs.table.tables_ok.Tie as tie
 

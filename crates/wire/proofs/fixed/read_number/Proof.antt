@@ -1,5 +1,4 @@
 use Rattle.wire.proofs.Numbers.{numbers}
-use borrow.Author.Needs.{needs}
 use Rattle.wire.proofs.fixed.read_number.Statement.{statement}
 use Rattle.wire.proofs.fixed.read_number.Tie as tie
 

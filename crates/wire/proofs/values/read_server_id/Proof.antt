@@ -1,5 +1,4 @@
-use Rattle.wire.proofs.Server.{id-read}
-use borrow.Author.Needs.{needs}
+use Rattle.wire.proofs.values.Server.{id-read}
 use Rattle.wire.proofs.values.read_server_id.Statement.{statement}
 use Rattle.wire.proofs.values.read_server_id.Tie as tie
 

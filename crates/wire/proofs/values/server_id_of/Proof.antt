@@ -1,5 +1,4 @@
-use Rattle.wire.proofs.Server.{id-of}
-use borrow.Author.Needs.{needs}
+use Rattle.wire.proofs.values.Server.{id-of}
 use Rattle.wire.proofs.values.server_id_of.Statement.{statement}
 use Rattle.wire.proofs.values.server_id_of.Tie as tie
 

@@ -1,4 +1,4 @@
-use Rattle.wire.proofs.Server.{word-of, word-cast, flip-cast}
+use Rattle.wire.proofs.values.Server.{word-of, word-cast, flip-cast}
 use Rattle.wire.proofs.values.server_id_word.Statement.{statement}
 use Rattle.wire.proofs.values.server_id_word.Tie as tie
 

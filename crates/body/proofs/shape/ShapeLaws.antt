@@ -1,0 +1,87 @@
+-- Each way through the readers of key type, key length and data types, in the form of what it has to show.
+use Prim.Native.Nat.{ℕ, _-_, _^_, _<_}
+use native.Mathlib.Omega.{arith}
+use mathlib.Core.Path.{_≡_, sym, _∙_}
+use mathlib.Core.List.{List}
+use mathlib.Core.Bool.{Bool, true, false}
+use borrow.Author.Needs.{needs}
+use borrow.Author.Tests.{lt-ltb, le-ltb, lt-leb, le-leb, ne-eqb}
+use Rattle.lists.proofs.Cases.{lt-or-le, split, never}
+use Rattle.wire.specs.declared.values.Field.{Field}
+use Rattle.wire.specs.declared.values.Field.the-variants as field
+use Rattle.store.specs.declared.types.KeyKind.{KeyKind}
+use Rattle.store.specs.Limits.{keyKind, isKnown, dataTypesOk, keyLengthOk}
+use Rattle.body.specs.Fields.{andThen, integer, between}
+use Rattle.body.specs.Bodies.{isKeyType, shapeFields}
+use Rattle.body.specs.Results.{fieldRead, shapeRead}
+use Rattle.body.specs.declared.shape.ShapeRead.the-variants as shape-read
+use Rattle.body.proofs.FieldLaws.{same-integer, field-got}
+use Rattle.body.proofs.Taken.{integer-passed, between-high}
+
+-- ---- `is_key_type`
+pub no-type : (n : ℕ) → 255 < n → false ≡ isKeyType n
+unfolding isKeyType keyKind
+no-type n h =
+    rw (ne-eqb n 0 (omega arith), ne-eqb n 1 (omega arith), ne-eqb n 2 (omega arith), ne-eqb n 3 (omega arith), ne-eqb n 4 (omega arith))
+
+pub a-type : (n : ℕ) (kind : KeyKind) (r : Bool) → kind ≡ keyKind n → r ≡ isKnown kind → r ≡ isKeyType n
+unfolding isKeyType
+a-type n kind r e q = q ∙ rw e
+
+pub ruleset key-type-laws = (needs, no-type, a-type)
+
+-- "Data types are bits 0 to 18"
+pub types-between : (n : ℕ) → between 0 0x7ffff n ≡ dataTypesOk n
+unfolding between dataTypesOk
+types-between n =
+    split (lt-or-le 0x7ffff n)
+    (λ l. rw (le-leb 0 n (omega arith), lt-leb n 0x7ffff l, le-ltb n (2 ^ 19) (omega arith)))
+    (λ l. rw (le-leb 0 n (omega arith), le-leb n 0x7ffff l, lt-ltb n (2 ^ 19) (omega arith)))
+
+-- ---- `read_shape`, where f, g and h are what was read of key type, key length and data types
+small-type : (n : ℕ) → isKeyType n ≡ true → n < 256
+small-type n t = split (lt-or-le n 256) (λ l. l) (λ l. never t (sym (no-type n (omega arith))))
+
+module _ (s : List ℕ) (at : ℕ) (f : Field) (p : fieldRead f ≡ integer isKeyType s at) where
+  pub type-short : f ≡ field.Short → shapeRead shape-read.Short ≡ shapeFields s at
+  unfolding shapeFields shapeRead andThen fieldRead
+  type-short e = rw (← p, e)
+
+  pub type-out : f ≡ field.OutOfRange → shapeRead shape-read.OutOfRange ≡ shapeFields s at
+  unfolding shapeFields shapeRead andThen fieldRead
+  type-out e = rw (← p, e)
+
+  pub type-fits : (kind at₁ : ℕ) → f ≡ field.Value kind at₁ → kind < 256
+  type-fits kind at₁ e = small-type kind (integer-passed isKeyType s at kind at₁ (field-got _ f p kind at₁ e))
+
+  module _ (kind at₁ : ℕ) (e : f ≡ field.Value kind at₁) (g : Field) (p₁ : fieldRead g ≡ integer (keyLengthOk kind) s at₁) where
+    pub len-short : g ≡ field.Short → shapeRead shape-read.Short ≡ shapeFields s at
+    unfolding shapeFields shapeRead andThen fieldRead
+    len-short e₁ = rw (← p, e, ← p₁, e₁)
+
+    pub len-out : g ≡ field.OutOfRange → shapeRead shape-read.OutOfRange ≡ shapeFields s at
+    unfolding shapeFields shapeRead andThen fieldRead
+    len-out e₁ = rw (← p, e, ← p₁, e₁)
+
+    module _ (len at₂ : ℕ) (e₁ : g ≡ field.Value len at₂) (h : Field) (p₂ : fieldRead h ≡ integer (between 0 0x7ffff) s at₂) where
+      types-read : fieldRead h ≡ integer dataTypesOk s at₂
+      types-read = p₂ ∙ same-integer (between 0 0x7ffff) dataTypesOk types-between s at₂
+
+      pub types-short : h ≡ field.Short → shapeRead shape-read.Short ≡ shapeFields s at
+      unfolding shapeFields shapeRead andThen fieldRead
+      types-short e₂ = rw (← p, e, ← p₁, e₁, ← types-read, e₂)
+
+      pub types-out : h ≡ field.OutOfRange → shapeRead shape-read.OutOfRange ≡ shapeFields s at
+      unfolding shapeFields shapeRead andThen fieldRead
+      types-out e₂ = rw (← p, e, ← p₁, e₁, ← types-read, e₂)
+
+      pub types-value : (types next : ℕ) → h ≡ field.Value types next → shapeRead (shape-read.Fields kind len types next) ≡ shapeFields s at
+      unfolding shapeFields shapeRead andThen fieldRead
+      types-value types next e₂ = rw (← p, e, ← p₁, e₁, ← types-read, e₂)
+
+pub types-fits : (high : ℕ) (s : List ℕ) (at : ℕ) (h : Field) → fieldRead h ≡ integer (between 0 high) s at → high < 2 ^ 32
+    → (types next : ℕ) → h ≡ field.Value types next → types < 2 ^ 32
+types-fits high s at h p l types next e =
+    omega (arith, between-high 0 high types (integer-passed (between 0 high) s at types next (field-got _ h p types next e)))
+
+pub ruleset shape-laws = (needs, type-short, type-out, type-fits, len-short, len-out, types-short, types-out, types-value, types-fits)
