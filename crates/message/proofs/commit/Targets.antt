@@ -110,7 +110,9 @@ pub goes-by-key : (entries : List Entry) (e : Entry) (table : ℕ) (key : List �
 unfolding goesTo
 goes-by-key entries e table key l p q =
     ap (λ (f : Found). placeOf f (firstPlace entryFree entries))
-    (first-alike (keyedAs e) (entryKeyed table key) entries (λ x.
+    (first-agree (keyedAs e) (entryKeyed table key) blankEntry blankEntry entries entries refl
+    (λ i m.
+    let x = getD entries i blankEntry in
     keyed-short e x l ∙ (ap (λ (n : ℕ). entryKeyed n (keyOf e) x) p ∙ ap (λ (k : List ℕ). entryKeyed table k x) q)))
 
 -- ---- the target

@@ -10,7 +10,7 @@ use mir.Syntax.{w32, w64}
 use mir.Facts.{toZ-ofZ}
 use mir.Val.{Fits, SFits, toZ, ofZ}
 use Rattle.wire.specs.Server.{serverWord}
-use Rattle.wire.proofs.Server.{word-neg}
+use Rattle.wire.proofs.values.Server.{word-neg}
 use Rattle.handshake.specs.declared.Digits.{Digits}
 use Rattle.handshake.specs.Bytes.{decimal, digitsOf}
 use Rattle.handshake.proofs.writing.DigitArray.{digits-start, digits-taken}
