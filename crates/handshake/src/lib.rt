@@ -1,8 +1,8 @@
 // The handshake of the peers protocol: a hello read and written, a status read, and which names may be given at opening.
 // The types that the modules share stand here.
+pub mod judging;
 pub mod lines;
 pub mod names;
-pub mod reading;
 pub mod sender;
 pub mod status_line;
 pub mod writing;

@@ -17,17 +17,17 @@ use Rattle.listing.specs.CallLines.{callLines}
 use Rattle.listing.specs.AnswerLines.{answerLine}
 
 -- ---- the lines of a call
-more-number : answerNumber answer.More ≡ 100
+more-number : answerNumber answer.More ≡ 256
 unfolding answerNumber
 more-number = refl
 
 module _ (c : Connection) (tables : List Table) (a : Answer) (reply : List ℕ) (n : ℕ) (is : n ≡ answerNumber a) {room : List ℕ} {at : ℕ} where
-  pub call-more : n ≡ 100 → Wrote room at (callLines c tables a reply) room at
+  pub call-more : n ≡ 256 → Wrote room at (callLines c tables a reply) room at
   unfolding callLines
   call-more e =
       retold (sym (cond-true (eqb (answerNumber a) (answerNumber answer.More)) _ _ (eq-eqb (answerNumber a) (answerNumber answer.More) (sym is ∙ e ∙ sym more-number)))) (nothing room at)
 
-  pub call-lines : {x y : List ℕ} {k m : ℕ} → (n ≡ 100 → ⊥) → Wrote room at (answerLine c tables a) x k → Wrote x k (replyLine reply) y m → Wrote room at (callLines c tables a reply) y m
+  pub call-lines : {x y : List ℕ} {k m : ℕ} → (n ≡ 256 → ⊥) → Wrote room at (answerLine c tables a) x k → Wrote x k (replyLine reply) y m → Wrote room at (callLines c tables a reply) y m
   unfolding callLines
   call-lines f p q =
       retold (sym (cond-false (eqb (answerNumber a) (answerNumber answer.More)) _ _ (ne-eqb (answerNumber a) (answerNumber answer.More) (λ e. f (is ∙ e ∙ more-number))))) (joined p q)

@@ -3,13 +3,13 @@ use crate::update::update_line;
 use crate::words::hello_line;
 use crate::words::number_line;
 use crate::words::numbers_line;
-use crate::words::table_at;
 use crate::words::table_line;
 use crate::words::word_line;
 use session::Answer;
 use session::Connection;
 use store::TABLES;
 use store::Table;
+use store::tables::table_at;
 ghost use Rattle.text.specs.Room.{Wrote};
 ghost use Rattle.listing.specs.AnswerLines.{answerLine};
 

@@ -27,7 +27,7 @@ pub fn put_call(
 ) -> usize
     ensures { λ r. ⌜ Wrote (now (room .entry)) at (callLines connection tables answer (take len (now (reply .entry)))) (now (room .exit)) r ⌝ }
 {
-    if session::answers::answer_number(answer) == 100 {
+    if session::answers::answer_number(answer) == 256 {
         return at;
     }
     let next = put_answer(room, at, connection, tables, answer);

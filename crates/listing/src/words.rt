@@ -2,7 +2,6 @@
 use handshake::PEER_NAME_MAX;
 use session::Connection;
 use store::NAME_MAX;
-use store::TABLES;
 use store::Table;
 use text::put;
 use text::spaced::put_decimal_word;
@@ -10,9 +9,8 @@ use text::spaced::put_hex_word;
 use text::spaced::put_word;
 ghost use mathlib.Core.Path.{_≡_};
 ghost use mathlib.Core.List.{[], _∷_};
-ghost use lib.ListN.{getD};
 ghost use Rattle.handshake.specs.Bytes.{ascii, decimal};
-ghost use Rattle.store.specs.Store.{nameOf, noTable};
+ghost use Rattle.store.specs.Store.{nameOf};
 ghost use Rattle.session.specs.Session.{remoteName};
 ghost use Rattle.text.specs.Text.{hex, spaced, line};
 ghost use Rattle.text.specs.Room.{Wrote};
@@ -67,15 +65,6 @@ pub fn hello_line(room: &mut [u8], at: usize, c: Connection, process: u32, relat
     let b = put_peer(room, a, c);
     let d = put_numbers(room, b, process as u64, relative as u64);
     put(room, d, b"\n")
-}
-
-pub fn table_at(tables: [Table; TABLES], place: usize) -> Table
-    ensures { λ r. ⌜ r ≡ getD tables place noTable ⌝ }
-{
-    if TABLES <= place {
-        return store::no_table();
-    }
-    tables[place]
 }
 
 // A table's name in hex.

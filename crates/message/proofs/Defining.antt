@@ -37,20 +37,6 @@ use Rattle.message.specs.Changes.{tableChange}
 use Rattle.message.specs.Structs.{effectStruct}
 use Rattle.message.proofs.Settling.{struct}
 
--- ---- the table at a place
--- what a read past the end gives
-abbrev pub blank : Table
-blank = record { held = 0; «key_type» = 0; timed = 0; «data_types» = 0; «name_len» = 0; «key_len» = 0; expiry = 0; periods = []; name = [] }
-
-module _ (ts : List Table) (place : ℕ) (l : length ts ≡ 8) where
-  pub past-tables : (t : Table) → t ≡ noTable → 8 ≤ place → t ≡ getD ts place noTable
-  past-tables t e h = e ∙ sym (List·getD-eq-default ts noTable (omega arith))
-
-  pub table-there : place < 8 → getD ts place blank ≡ getD ts place noTable
-  table-there h = getD-any ts place blank noTable (omega arith)
-
-pub ruleset placing = (needs, length-mapped, past-tables, table-there)
-
 -- ---- whether two tables agree
 module _ (held t : Table) where
   pub type-differs : (held .«key_type» ≡ t .«key_type» → ⊥) → false ≡ agrees held t

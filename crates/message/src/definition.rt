@@ -1,7 +1,6 @@
 // What a definition does to session and store.
 use crate::Effect;
 use crate::changes::refuse;
-use crate::table_at;
 use body::Reading;
 use lists::Found;
 use session::Answer;
@@ -9,6 +8,7 @@ use session::Connection;
 use session::reply_bytes::no_reply;
 use store::TABLES;
 use store::Table;
+use store::tables::table_at;
 ghost use mathlib.Core.Path.{_≡_};
 ghost use Rattle.lists.specs.Lists.{firstPlace};
 ghost use Rattle.store.specs.Store.{tableFree, tableNamed};

@@ -8,7 +8,6 @@ pub mod update;
 
 ghost use mathlib.Core.Path.{_≡_};
 ghost use lib.ListN.{getD};
-ghost use Rattle.store.specs.Store.{noTable};
 ghost use Rattle.session.specs.Session.{noBinding};
 use session::Answer;
 use session::Binding;
@@ -17,7 +16,6 @@ use session::Reply;
 use store::Entry;
 use store::TABLES;
 use store::Table;
-use store::no_table;
 
 // The kinds of a change: nothing, a table that is put at a place, an entry that is put at a place.
 pub const PUTS_NOTHING: u8 = 0;
@@ -49,16 +47,6 @@ pub struct Asked {
     pub commits: bool,
     pub id: u32,
     pub entry: Entry,
-}
-
-// The table at a place; past the last place, what a free one holds.
-pub fn table_at(tables: [Table; TABLES], place: usize) -> Table
-    ensures { λ r. ⌜ r ≡ getD tables place noTable ⌝ }
-{
-    if TABLES <= place {
-        return no_table();
-    }
-    tables[place]
 }
 
 // What the session knows of the table at a place; past the last place, nothing.

@@ -54,7 +54,7 @@ use Rattle.message.proofs.Kept.{Held, Kept, stays-kept, refuse-kept, error-kept
 use Rattle.receiver.specs.Ledger.{Ledger, tableId, updateId, at, kindOf, nextId, explicitId, startLedger}
 use Rattle.reassembly.specs.Judge.{Judged, waiting, settled, helloJudged, statusJudged, frameJudged, asksNone, judgeBytes, doneOf, judge}
 use Rattle.receiver.specs.Model.{ends}
-use Rattle.receiver.proofs.Following.{Follows, Follow, current-some, last-some, refuse-follow, hello-follow, status-follow, error-follow, control-follow, skipped-follow, acknowledgement-follow, switch-follow, define-follow, commit-follow}
+use Rattle.receiver.proofs.Following.{Follows, Follow, refusal-none, current-some, last-some, refuse-follow, hello-follow, status-follow, error-follow, control-follow, skipped-follow, acknowledgement-follow, switch-follow, define-follow, commit-follow}
 use Rattle.receiver.proofs.FirstFields.{body-starts, definition-id, switch-id, update-explicit}
 
 pub record Right (c : Connection) (s : Store) (m : List ℕ) (e : Effect) : Type 0 where
@@ -63,22 +63,6 @@ pub record Right (c : Connection) (s : Store) (m : List ℕ) (e : Effect) : Type
   pub follow : Follow c m e
 
 -- ---- refusals
-
-line-short : (n : ℕ) → length (refusalLine n) ≤ 12
-unfolding refusalLine statusLine hb.decimal hb.decimalIn lf
-line-short n =
-    by-test (eqb n 10)
-    (λ a. rw a (omega arith))
-    (λ a.
-    rw a
-    (by-test (eqb n 11)
-    (λ b. rw b (omega arith))
-    (λ b. rw b (by-test (eqb n 12) (λ d. rw d (omega arith)) (λ d. rw d (by-test (eqb n 13) (λ e. rw e (omega arith)) (λ e. rw e (omega arith))))))))
-
-refusal-short : (n : ℕ) → length (refusalReply n) ≤ 12
-unfolding refusalReply
-refusal-short n =
-    by-test (isSizeLimit n) (λ a. rw a (omega arith)) (λ a. rw a (by-test (isProtocolError n) (λ b. rw b (omega arith)) (λ b. rw b (line-short n))))
 
 closing-from : (n low high : ℕ) → low ≤ n → n ≤ high → (leb low n && leb n high) ≡ true
 closing-from n low high a b = and-intro (leb low n) (leb n high) (le-leb low n a) (le-leb n high b)
@@ -106,7 +90,7 @@ accepted-short = omega arith
 module _ (c : Connection) (s : Store) (h : Held c s) (m : List ℕ) where
   pub refuse-right : (n : ℕ) → 10 ≤ n → n < 2 ^ 8 → isClosing n ≡ true → Right c s m (refuse c n)
   refuse-right n l b k = record {
-    short = unfold refuse in refusal-short n;
+    short = unfold refuse in omega (arith, refusal-none n .short);
     kept = refuse-kept c s h n k b;
     follow = refuse-follow c n m;
   }

@@ -4,7 +4,7 @@ use frame::judge_frame;
 use handshake::Hello;
 use handshake::PEER_NAME_MAX;
 use handshake::Status;
-use handshake::reading::judge_hello;
+use handshake::judging::judge_hello;
 use handshake::status_line::judge_status;
 use session::AWAITING_HELLO;
 use session::AWAITING_STATUS;

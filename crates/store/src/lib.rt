@@ -1,11 +1,11 @@
 // The store of document 01: 8 table places and 128 entry places, as plain numbers.
-// The lender of a store can put any number anywhere; `sound_store` of the crate `store_soundness` says whether it is one that the rules allow.
+// The lender of a store can put any number anywhere; the tests of the crate `store_soundness` say whether the rules allow it.
 pub mod entries;
 pub mod tables;
 pub mod types;
 
 ghost use mathlib.Core.Path.{_≡_};
-ghost use Rattle.store.specs.Store.{makeEntry, makeTable, putTable, putEntry, noTable, noEntry, emptyStore};
+ghost use Rattle.store.specs.Store.{makeEntry, makeTable, noTable, noEntry, emptyStore};
 
 // ---- limits
 
@@ -103,30 +103,6 @@ pub fn make_table(name: &[u8], definition: Definition) -> Table
         periods,
         name: bytes,
     }
-}
-
-// The store with the table at the place; as it was, if there is no such place.
-pub fn put_table(store: Store, place: usize, table: Table) -> Store
-    ensures { λ r. ⌜ r ≡ putTable store place table ⌝ }
-{
-    if TABLES <= place {
-        return store;
-    }
-    let mut next = store;
-    next.tables[place] = table;
-    next
-}
-
-// The store with the entry at the place; as it was, if there is no such place.
-pub fn put_entry(store: Store, place: usize, entry: Entry) -> Store
-    ensures { λ r. ⌜ r ≡ putEntry store place entry ⌝ }
-{
-    if ENTRIES <= place {
-        return store;
-    }
-    let mut next = store;
-    next.entries[place] = entry;
-    next
 }
 
 // What a table place of the empty store holds.

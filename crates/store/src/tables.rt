@@ -1,11 +1,13 @@
 // Lookup of tables and entries, and the lowest free place.
 ghost use mathlib.Core.Path.{_≡_};
+ghost use lib.ListN.{getD};
 ghost use Rattle.lists.specs.Lists.{firstPlace};
-ghost use Rattle.store.specs.Store.{entryOf, tableNamed, tableFree};
+ghost use Rattle.store.specs.Store.{entryOf, tableNamed, tableFree, noTable};
 use crate::Entry;
 use crate::NAME_MAX;
 use crate::TABLES;
 use crate::Table;
+use crate::no_table;
 use lists::Found;
 
 // Whether a table is held under the name.
@@ -67,4 +69,14 @@ pub fn free_table(tables: [Table; TABLES]) -> Found
         i += 1;
     }
     Found::Nothing
+}
+
+// The table at a place; past the last place, what a free one holds.
+pub fn table_at(tables: [Table; TABLES], place: usize) -> Table
+    ensures { λ r. ⌜ r ≡ getD tables place noTable ⌝ }
+{
+    if TABLES <= place {
+        return no_table();
+    }
+    tables[place]
 }
