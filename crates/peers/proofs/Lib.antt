@@ -1,1 +1,3 @@
 pub mod Promising
+pub mod AsMade
+pub mod ExportedDemand3
