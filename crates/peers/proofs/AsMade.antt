@@ -14,7 +14,7 @@ use Rattle.store.specs.declared.Store.{Store}
 use Rattle.session.specs.declared.Session.{Session}
 use Rattle.session.specs.declared.Answer.{Answer}
 use Rattle.session.specs.declared.Answer.the-variants as answer
-use Rattle.session.specs.Answers.{answerValues}
+use Rattle.session.specs.Answers.{answerNumber, answerValues}
 use Rattle.session.proofs.answers.OneToOne.{RefusedByte}
 use Rattle.receiver.specs.Promise.{Made, ReadPromise, callOf, outcomeOf}
 use Rattle.receiver.specs.Demand3.{Chain}
@@ -23,6 +23,7 @@ use Rattle.receiver.proofs.Acknowledging.{refused-untouched}
 use Rattle.peers.specs.Numbers.{rawOutcome}
 use Rattle.peers.specs.Reading.{RawMade, RawPromise}
 use Rattle.peers.specs.ExportedDemand3.{RawChain, rawValues}
+use Rattle.peers.proofs.Promising.{raw-promised}
 
 -- ---- one call
 
@@ -69,14 +70,7 @@ made-same s t m p = λ i. record {
 }
 
 pub raw-promise : (s : Session) (t : Store) (m : Made) → ReadPromise s t m → RawPromise s t (rawOf m)
-raw-promise s t m p = record {
-  outcome = ap rawOutcome (p .outcome);
-  session = p .session;
-  store = p .store;
-  final = p .final;
-  shaped = p .shaped;
-  bytes = p .bytes;
-}
+raw-promise s t m p = raw-promised (rawOutcome (m .outcome)) refl p
 
 -- ---- a list of calls
 
@@ -124,7 +118,26 @@ pub values-told : (m : Made) → rawValues (rawOf m) ≡ answerValues (m .outcom
 unfolding rawValues rawOutcome
 values-told m = pad-take 4 (answerValues (m .outcome .answer)) (values-most (m .outcome .answer))
 
--- a refusal's number is below 256, where the other answers' numbers start
+-- a number below 256 is a refusal's
+pub refused-is : (a : Answer) → answerNumber a < 256 → a ≡ answer.Refused (answerNumber a)
+unfolding answerNumber
+refused-is answer.More l = absurd (omega (arith, l))
+refused-is (answer.Hello process relative) l = absurd (omega (arith, l))
+refused-is answer.Status l = absurd (omega (arith, l))
+refused-is answer.Request l = absurd (omega (arith, l))
+refused-is answer.Finished l = absurd (omega (arith, l))
+refused-is answer.Partial l = absurd (omega (arith, l))
+refused-is answer.Confirmed l = absurd (omega (arith, l))
+refused-is answer.Heartbeat l = absurd (omega (arith, l))
+refused-is (answer.Error type) l = absurd (omega (arith, l))
+refused-is (answer.Table place) l = absurd (omega (arith, l))
+refused-is (answer.Switch place) l = absurd (omega (arith, l))
+refused-is (answer.Update table id entry how) l = absurd (omega (arith, l))
+refused-is (answer.Acknowledgement id update) l = absurd (omega (arith, l))
+refused-is (answer.Skipped type) l = absurd (omega (arith, l))
+refused-is (answer.Refused n) l = refl
+
+-- and a refusal's number is below 256
 closes-below : (n : ℕ) → closes n ≡ true → n < 256
 unfolding closes
 closes-below n h =

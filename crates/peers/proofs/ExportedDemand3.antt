@@ -28,7 +28,7 @@ use Rattle.receiver.proofs.Demand3.{demand-3}
 use Rattle.peers.specs.Numbers.{rawOutcome}
 use Rattle.peers.specs.Reading.{RawMade}
 use Rattle.peers.specs.ExportedDemand3.{RawChain, rawValues, rawReply, rawTaken, rawLastSession, rawLastStore, endsNumber, RawResponse, rawResponses, rawReplies, RawResult, rawCameTo, responseInNumbers, inNumbers, RawCallAsModel, RawEachCall, RawOffersTo, RawWithinCuts, RawRooms, RawOffering, rawPost, RawRightReply, RawAcknowledgedCalls, RawNeverUnsound, ExportedDemand3, EveryListOfCalls}
-use Rattle.peers.proofs.AsMade.{rawOf, madesBy, mades-chain, mades-same, raw-chain, values-most, values-told, refused-byte}
+use Rattle.peers.proofs.AsMade.{rawOf, madesBy, mades-chain, mades-same, raw-chain, values-most, values-told, refused-is, refused-byte}
 
 -- ---- the test on the number is the test on the answer
 
@@ -65,25 +65,6 @@ ends-number (answer.Update table id entry how) h = refl
 ends-number (answer.Acknowledgement id update) h = refl
 ends-number (answer.Skipped type) h = refl
 ends-number (answer.Refused n) h = let l = h n refl in rw (ne-eqb n 256 (λ e. omega (arith, l, e)))
-
--- the number 4 is the refusal's alone
-is-4 : (a : Answer) → answerNumber a ≡ 4 → a ≡ answer.Refused 4
-unfolding answerNumber
-is-4 answer.More e = absurd (omega (arith, e))
-is-4 (answer.Hello process relative) e = absurd (omega (arith, e))
-is-4 answer.Status e = absurd (omega (arith, e))
-is-4 answer.Request e = absurd (omega (arith, e))
-is-4 answer.Finished e = absurd (omega (arith, e))
-is-4 answer.Partial e = absurd (omega (arith, e))
-is-4 answer.Confirmed e = absurd (omega (arith, e))
-is-4 answer.Heartbeat e = absurd (omega (arith, e))
-is-4 (answer.Error type) e = absurd (omega (arith, e))
-is-4 (answer.Table place) e = absurd (omega (arith, e))
-is-4 (answer.Switch place) e = absurd (omega (arith, e))
-is-4 (answer.Update table id entry how) e = absurd (omega (arith, e))
-is-4 (answer.Acknowledgement id update) e = absurd (omega (arith, e))
-is-4 (answer.Skipped type) e = absurd (omega (arith, e))
-is-4 (answer.Refused n) e = ap answer.Refused e
 
 -- ---- what the calls took, wrote and left
 
@@ -254,7 +235,7 @@ acknowledged-calls s t l u (m ∷ ms) c k =
 never-4 : (ms : List Made) → NeverUnsound ms → RawNeverUnsound (map rawOf ms)
 unfolding NeverUnsound RawNeverUnsound rawOutcome
 never-4 [] h = tt
-never-4 (m ∷ ms) h = ((λ e. h .0 (is-4 (m .outcome .answer) e)), never-4 ms (h .1))
+never-4 (m ∷ ms) h = ((λ e. h .0 (refused-is (m .outcome .answer) (omega (arith, e)) ∙ ap answer.Refused e)), never-4 ms (h .1))
 
 -- ---- the claim
 

@@ -1,3 +1,4 @@
 pub mod Promising
 pub mod AsMade
 pub mod ExportedDemand3
+pub mod ExportedCorollaries
