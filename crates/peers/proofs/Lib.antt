@@ -2,3 +2,4 @@ pub mod Promising
 pub mod AsMade
 pub mod ExportedDemand3
 pub mod ExportedCorollaries
+pub mod FromTheStart
