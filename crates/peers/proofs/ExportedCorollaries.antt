@@ -1,13 +1,12 @@
 -- The corollaries for the exported call, from those for calls with the answer enum.
-use Prim.Native.Nat.{ℕ, suc, _<_, _≤_, _^_}
+use Prim.Native.Nat.{ℕ, _<_}
 use native.Mathlib.Omega.{arith}
 use mathlib.Core.Path.{_≡_, refl, sym, ap, _∙_, subst}
 use mathlib.Core.Logic.{_⊎_, inl, inr, ⊎-elim}
-use mathlib.Core.Bool.{true, false}
+use mathlib.Core.Bool.{true}
 use mathlib.Core.List.{List, [], _∷_, _++_, map, map-append}
-use lib.ListN.{length, getD}
+use lib.ListN.{getD}
 use Rattle.store.specs.declared.Store.{Store}
-use Rattle.store.specs.declared.Entry.{Entry}
 use Rattle.store.specs.Store.{noEntry}
 use Rattle.session.specs.declared.Session.{Session}
 use Rattle.session.specs.declared.Commit.{Commit}
@@ -20,8 +19,8 @@ use Rattle.session_soundness.specs.Sound.{sound}
 use Rattle.receiver.specs.Model.{heldBy}
 use Rattle.receiver.specs.Promise.{Made, ReadPromise}
 use Rattle.receiver.specs.Ledger.{isAcknowledgement}
-use Rattle.receiver.specs.Demand3.{Chain, replyIn, takenBy, lastSession, lastStore}
-use Rattle.receiver.specs.Corollaries.{EntryHeld, NothingChanged, OnlyClosed, RefusedCall, messageOf}
+use Rattle.receiver.specs.Demand3.{Chain, lastSession}
+use Rattle.receiver.specs.Corollaries.{EntryHeld, NothingChanged, OnlyClosed}
 use Rattle.receiver.proofs.Acknowledging.{refused-untouched, others-untouched, held-when-acknowledged}
 use Rattle.receiver.proofs.Sharing.{other-records-sound}
 use Rattle.message_bytes.specs.MessageBytes.{UpdateMessage, tableAt}
@@ -29,7 +28,7 @@ use Rattle.message_bytes.specs.LastUpdates.{lastEntry, NoneUpdates, NeverUpdate
 use Rattle.message_bytes.proofs.LastUpdates.{bytes-of-every-entry}
 use Rattle.peers.specs.Numbers.{rawOutcome}
 use Rattle.peers.specs.Reading.{RawMade, RawPromise}
-use Rattle.peers.specs.ExportedDemand3.{RawChain, rawValues, rawReply, rawTaken, rawLastSession, rawLastStore, rawReplies, RawResult, rawCameTo, RawOffersTo}
+use Rattle.peers.specs.ExportedDemand3.{RawChain, rawReply, rawTaken, rawLastSession, RawResult, rawCameTo, RawOffersTo}
 use Rattle.peers.specs.ExportedCorollaries.{RawSameByAnyDivision, RawAnyDivision, rawMessage, ToldUpdate, RawEntryHeld, RawHeldWhenAcknowledged, answering, rawLastEntry, RawNoneUpdates, RawNeverUpdated, RawLastUpdate, RawBytesOfEveryEntry, RawNothingChanged, RawOnlyClosed, RawRefusedCall, RawRefusedUntouched, RawUntouched, RawOthersUntouched, RawOtherRecordsSound}
 use Rattle.peers.proofs.AsMade.{rawOf, madeBy, made-promised, made-same, madesBy, mades-chain, mades-same, values-told, refused-is, refused-byte}
 use Rattle.peers.proofs.ExportedDemand3.{same-reply, same-taken, same-session, same-store, exported-demand-3}
@@ -165,10 +164,10 @@ unfolding Chain NoneUpdates RawNoneUpdates rawOutcome
 none-updates s t place [] c n = tt
 none-updates s t place (m ∷ ms) c n = (
   (λ e q.
-  let a = m .outcome .answer in
-  let u = updates a (refused-byte s t m (c .0)) e in
-  let third = ap (λ (vs : List ℕ). getD vs 2 0) (sym (values-told m)) ∙ q in
-  n .0 (u .0) (u .1 .0) (u .1 .1 .0) (u .1 .1 .1 ∙ ap (λ (i : ℕ). answer.Update (u .0) (u .1 .0) i (u .1 .1 .0)) third)),
+      let a = m .outcome .answer in
+      let u = updates a (refused-byte s t m (c .0)) e in
+      let third = ap (λ (vs : List ℕ). getD vs 2 0) (sym (values-told m)) ∙ q in
+      n .0 (u .0) (u .1 .0) (u .1 .1 .0) (u .1 .1 .1 ∙ ap (λ (i : ℕ). answer.Update (u .0) (u .1 .0) i (u .1 .1 .0)) third)),
   none-updates (m .session) (m .store) place ms (c .1) (n .1),
 )
 

@@ -1,11 +1,11 @@
 -- Demand 3 for lists of the exported call, from that for calls with the answer enum.
-use Prim.Native.Nat.{ℕ, _<_}
+use Prim.Native.Nat.{ℕ}
 use native.Mathlib.Omega.{arith}
 use mathlib.Core.Path.{_≡_, refl, sym, ap, _∙_, subst}
-use mathlib.Core.Logic.{_⊎_, inl, inr, ⊎-elim}
-use mathlib.Core.Bool.{Bool, true, false, cond, not, _||_, true≢false}
+use mathlib.Core.Logic.{_⊎_, inl, inr}
+use mathlib.Core.Bool.{true, false, true≢false}
 use mathlib.Core.List.{List, [], _∷_, _++_, map, flatten}
-use lib.ListN.{length, take, drop, getD}
+use lib.ListN.{length, take, drop}
 use lib.Dec.{eqb}
 use borrow.Author.Tests.{eqb-true, ne-eqb}
 use Rattle.lists.proofs.Cases.{by-test}
@@ -19,15 +19,13 @@ use Rattle.session.specs.Session.{unfinished}
 use Rattle.session.proofs.answers.OneToOne.{RefusedByte}
 use Rattle.session_soundness.specs.Sound.{sound}
 use Rattle.streams.specs.Model.{Ended}
-use Rattle.streams.specs.Calls.{Response, Result, resultOf}
-use Rattle.receiver.specs.Model.{State, heldBy, ends}
+use Rattle.receiver.specs.Model.{heldBy, ends}
 use Rattle.receiver.specs.Promise.{Made}
 use Rattle.receiver.specs.Ledger.{Ledger, startLedger, post, RightReply}
-use Rattle.receiver.specs.Demand3.{Chain, replyIn, takenBy, lastSession, lastStore, responsesOf, repliesOf, cameTo, modelRan, callMade, CallAsModel, EachCall, OffersTo, WithinCutsOf, RoomsAre, Offering, endedBy, AcknowledgedCalls, NeverUnsound, Demand3}
+use Rattle.receiver.specs.Demand3.{Chain, replyIn, takenBy, lastSession, lastStore, responsesOf, repliesOf, cameTo, callMade, CallAsModel, EachCall, OffersTo, WithinCutsOf, RoomsAre, Offering, endedBy, AcknowledgedCalls, NeverUnsound}
 use Rattle.receiver.proofs.Demand3.{demand-3}
 use Rattle.peers.specs.Numbers.{rawOutcome}
-use Rattle.peers.specs.Reading.{RawMade}
-use Rattle.peers.specs.ExportedDemand3.{RawChain, rawValues, rawReply, rawTaken, rawLastSession, rawLastStore, endsNumber, RawResponse, rawResponses, rawReplies, RawResult, rawCameTo, responseInNumbers, inNumbers, RawCallAsModel, RawEachCall, RawOffersTo, RawWithinCuts, RawRooms, RawOffering, rawPost, RawRightReply, RawAcknowledgedCalls, RawNeverUnsound, ExportedDemand3, EveryListOfCalls}
+use Rattle.peers.specs.ExportedDemand3.{rawReply, rawTaken, rawLastSession, rawLastStore, endsNumber, rawResponses, rawReplies, rawCameTo, responseInNumbers, inNumbers, RawCallAsModel, RawEachCall, RawOffersTo, RawWithinCuts, RawRooms, RawOffering, rawPost, RawRightReply, RawAcknowledgedCalls, RawNeverUnsound, ExportedDemand3, EveryListOfCalls}
 use Rattle.peers.proofs.AsMade.{rawOf, madesBy, mades-chain, mades-same, raw-chain, values-most, values-told, refused-is, refused-byte}
 
 -- ---- the test on the number is the test on the answer

@@ -1,13 +1,13 @@
 -- Demand 3 for every list of exported calls on an opened record and the empty store.
 use Prim.Native.Nat.{ℕ, zero, suc, _^_, _≤_, _<_}
 use native.Mathlib.Omega.{arith}
-use mathlib.Core.Path.{_≡_, refl, sym, ap, _∙_, subst}
-use mathlib.Core.Bool.{true, false, _&&_}
+use mathlib.Core.Path.{_≡_, refl, sym, subst}
+use mathlib.Core.Bool.{true, _&&_}
 use mathlib.Core.List.{List, [], _∷_}
 use lib.ListN.{length, getD, getD-replicate}
 use lib.Dec.{ltb, leb, lit<}
 use borrow.Author.Tests.{leb-true}
-use Rattle.lists.proofs.Cases.{by-test, and-first, and-second, cond-true, cond-false}
+use Rattle.lists.proofs.Cases.{by-test, and-first, and-second}
 use Rattle.store.specs.Store.{emptyStore}
 use Rattle.store.proofs.Kept.{pad-cells, empty-shape}
 use Rattle.store.proofs.Ruled.{empty-sound}
@@ -19,9 +19,8 @@ use Rattle.session.specs.Session.{noBinding, bindingAt, holding}
 use Rattle.session.specs.Shape.{BindingShape, ConnectionShape, SessionShape}
 use Rattle.session.proofs.Shapes.{holding-shape}
 use Rattle.session_soundness.specs.Sound.{sound}
-use Rattle.opening.specs.Opening.{Role, answerer, caller, firstPhase, newConnection, opened, refusedOpening, refuseOpening, accept, Opening, «open», openedOf}
+use Rattle.opening.specs.Opening.{Role, answerer, caller, firstPhase, newConnection, opened, refusedOpening, «open», openedOf}
 use Rattle.opening.proofs.SoundOpening.{open-sound}
-use Rattle.receiver.specs.Promise.{Shaped}
 use Rattle.peers.specs.Numbers.{rawOpened}
 use Rattle.peers.specs.Reading.{RawMade}
 use Rattle.peers.specs.ExportedDemand3.{RawChain}
@@ -90,11 +89,9 @@ started : (role : Role) (local remote room : List ℕ) (s : Session) (calls : Li
     → RawChain s emptyStore calls → Started s calls
 started role local remote room s calls e c =
     let h = subst (λ (x : Session). sound x emptyStore ≡ true) (sym e) (open-sound role local remote (length room) emptyStore empty-sound) in
-    record {
-      sound = h;
-      shaped = record { session = subst SessionShape (sym e) (open-shape role local remote (length room)); store = empty-shape };
-      demand = exported-demand-3 s emptyStore calls h c;
-    }
+    let shape = subst SessionShape (sym e) (open-shape role local remote (length room)) in
+    let d = exported-demand-3 s emptyStore calls h c in
+    record { sound = h; demand = d; exists = d .exists (record { session = shape; store = empty-shape }) }
 
 pub from-the-start : FromTheStart
 unfolding rawOpened openedOf

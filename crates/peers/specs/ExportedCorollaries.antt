@@ -1,10 +1,11 @@
 -- What follows from the exported call's promise and from its demand 3, in the auditor's words and in the numbers that a host has.
-use Prim.Native.Nat.{ℕ, _+_, _-_, _<_}
+use Prim.Native.Nat.{ℕ, _+_, _-_, _≤_, _<_}
 use mathlib.Core.Path.{_≡_}
 use mathlib.Core.Logic.{_⊎_}
 use mathlib.Core.List.{List, [], _∷_, _++_}
 use mathlib.Core.Bool.{true}
 use lib.ListN.{length, take, drop, getD}
+use Rattle.lists.specs.Lists.{every}
 use Rattle.store.specs.declared.Entry.{Entry}
 use Rattle.store.specs.declared.Store.{Store}
 use Rattle.store.specs.Store.{makeEntry, noEntry, noTable, emptyStore}
@@ -21,24 +22,26 @@ use Rattle.opening.specs.Opening.{Role, «open», openedOf}
 use Rattle.body.specs.Fields.{got, spanIn}
 use Rattle.body.specs.Bodies.{Update}
 use Rattle.message.specs.Effects.{acknowledge}
-use Rattle.receiver.specs.Promise.{Made, Shaped}
+use Rattle.receiver.specs.Model.{replyRoom, isByte}
+use Rattle.receiver.specs.Promise.{Made}
 use Rattle.receiver.specs.Ledger.{isAcknowledgement}
 use Rattle.receiver.specs.Corollaries.{fieldsOf, closes}
 use Rattle.message_bytes.specs.MessageBytes.{UpdateMessage}
 use Rattle.peers.specs.declared.numbers.RawOpened.{RawOpened}
 use Rattle.peers.specs.Numbers.{rawOpened}
 use Rattle.peers.specs.Reading.{RawMade, RawPromise}
-use Rattle.peers.specs.ExportedDemand3.{RawChain, rawValues, rawReply, rawTaken, rawLastSession, rawLastStore, rawReplies, rawCameTo, RawOffersTo, ExportedDemand3}
+use Rattle.peers.specs.ExportedDemand3.{RawChain, rawValues, rawReply, rawTaken, rawLastSession, rawLastStore, rawReplies, rawCameTo, RawOffersTo, RawOffering, ExportedDemand3}
 
 -- ---- from where a host starts: a record that `peers_open_answerer` or `peers_open_caller` gave, and the store of `peers_empty_store`
 
--- demand 3 holds of every list of calls from there, refused openings included; record and store have the shape that `exists` asks for
+-- demand 3 holds of every list of calls from there, and for every cutting of every stream into pieces and every room that is large enough there is
+-- such a list
 pub record Started (s : Session) (calls : List RawMade) : Type 0 where
   pub sound : sound s emptyStore ≡ true
-  pub shaped : Shaped s emptyStore
   pub demand : ExportedDemand3 s emptyStore calls
+  pub exists : (cuts : List (List ℕ)) (room : List ℕ) → every (every isByte) cuts ≡ true → replyRoom ≤ length room → RawOffering s emptyStore cuts room
 
--- "1 and 3 in opening return a closed record .. which counts as sound"
+-- in either role, with any names and any room: a refused opening too, since "1 and 3 in opening return a closed record .. which counts as sound"
 abbrev pub FromTheStart : Type 0
 FromTheStart =
     (role : Role) (local remote room : List ℕ) (o : RawOpened) (calls : List RawMade)
