@@ -1,25 +1,17 @@
 -- Each exported call is a call with the answer enum, in numbers: what is proved of lists of those carries over.
-use Prim.Native.Nat.{ℕ, _≤_, _<_}
+use Prim.Native.Nat.{_≤_, _<_}
 use native.Mathlib.Omega.{arith}
-use mathlib.Core.Path.{_≡_, refl, sym, _∙_}
-use mathlib.Core.Logic.{⊎-elim}
-use mathlib.Core.Bool.{true, _&&_}
+use mathlib.Core.Path.{_≡_, refl}
 use mathlib.Core.List.{List, [], _∷_, map}
 use lib.ListN.{length}
-use lib.Dec.{leb}
-use borrow.Author.Tests.{leb-true}
-use Rattle.lists.proofs.Cases.{by-test, and-second, or-false}
 use Rattle.lists.proofs.Bytes.{pad-take}
 use Rattle.store.specs.declared.Store.{Store}
 use Rattle.session.specs.declared.Session.{Session}
 use Rattle.session.specs.declared.Answer.{Answer}
 use Rattle.session.specs.declared.Answer.the-variants as answer
 use Rattle.session.specs.Answers.{answerNumber, answerValues}
-use Rattle.session.proofs.answers.OneToOne.{RefusedByte}
 use Rattle.receiver.specs.Promise.{Made, ReadPromise, callOf, outcomeOf}
 use Rattle.receiver.specs.Demand3.{Chain}
-use Rattle.receiver.specs.Corollaries.{closes}
-use Rattle.receiver.proofs.Acknowledging.{refused-untouched}
 use Rattle.peers.specs.Numbers.{rawOutcome}
 use Rattle.peers.specs.Reading.{RawMade, RawPromise}
 use Rattle.peers.specs.ExportedDemand3.{RawChain, rawValues}
@@ -136,18 +128,3 @@ refused-is (answer.Update table id entry how) l = absurd (omega (arith, l))
 refused-is (answer.Acknowledgement id update) l = absurd (omega (arith, l))
 refused-is (answer.Skipped type) l = absurd (omega (arith, l))
 refused-is (answer.Refused n) l = refl
-
--- and a refusal's number is below 256
-closes-below : (n : ℕ) → closes n ≡ true → n < 256
-unfolding closes
-closes-below n h =
-    by-test (leb 10 n && leb n 15)
-    (λ a. let b = leb-true n 15 (and-second (leb 10 n) (leb n 15) a) in omega arith)
-    (λ a. let b = leb-true n 29 (and-second (leb 20 n) (leb n 29) (sym (or-false (leb 10 n && leb n 15) _ a) ∙ h)) in omega arith)
-
-pub refused-byte : (s : Session) (t : Store) (m : Made) → ReadPromise s t m → RefusedByte (m .outcome .answer)
-refused-byte s t m p n a =
-    ⊎-elim
-    (λ k. ⊎-elim (λ e. omega (arith, e)) (λ r. ⊎-elim (λ e. omega (arith, e)) (λ e. omega (arith, e)) r) (k .0))
-    (λ k. closes-below n (k .0))
-    (refused-untouched s t m n p a)

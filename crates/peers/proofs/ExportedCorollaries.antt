@@ -22,7 +22,7 @@ use Rattle.receiver.specs.Ledger.{isAcknowledgement}
 use Rattle.receiver.specs.Demand3.{Chain, lastSession}
 use Rattle.receiver.specs.Corollaries.{EntryHeld, NothingChanged, OnlyClosed}
 use Rattle.receiver.proofs.Acknowledging.{refused-untouched, others-untouched, held-when-acknowledged}
-use Rattle.receiver.proofs.Sharing.{other-records-sound}
+use Rattle.receiver.proofs.Sharing.{other-records-sound, refused-byte}
 use Rattle.message_bytes.specs.MessageBytes.{UpdateMessage, tableAt}
 use Rattle.message_bytes.specs.LastUpdates.{lastEntry, NoneUpdates, NeverUpdated, LastUpdate}
 use Rattle.message_bytes.proofs.LastUpdates.{bytes-of-every-entry}
@@ -30,7 +30,7 @@ use Rattle.peers.specs.Numbers.{rawOutcome}
 use Rattle.peers.specs.Reading.{RawMade, RawPromise}
 use Rattle.peers.specs.ExportedDemand3.{RawChain, rawReply, rawTaken, rawLastSession, RawResult, rawCameTo, RawOffersTo}
 use Rattle.peers.specs.ExportedCorollaries.{RawSameByAnyDivision, RawAnyDivision, rawMessage, ToldUpdate, RawEntryHeld, RawHeldWhenAcknowledged, answering, rawLastEntry, RawNoneUpdates, RawNeverUpdated, RawLastUpdate, RawBytesOfEveryEntry, RawNothingChanged, RawOnlyClosed, RawRefusedCall, RawRefusedUntouched, RawUntouched, RawOthersUntouched, RawOtherRecordsSound}
-use Rattle.peers.proofs.AsMade.{rawOf, madeBy, made-promised, made-same, madesBy, mades-chain, mades-same, values-told, refused-is, refused-byte}
+use Rattle.peers.proofs.AsMade.{rawOf, madeBy, made-promised, made-same, madesBy, mades-chain, mades-same, values-told, refused-is}
 use Rattle.peers.proofs.ExportedDemand3.{same-reply, same-taken, same-session, same-store, exported-demand-3}
 
 -- ---- any division

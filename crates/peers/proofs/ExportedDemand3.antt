@@ -24,9 +24,10 @@ use Rattle.receiver.specs.Promise.{Made}
 use Rattle.receiver.specs.Ledger.{Ledger, startLedger, post, RightReply}
 use Rattle.receiver.specs.Demand3.{Chain, replyIn, takenBy, lastSession, lastStore, responsesOf, repliesOf, cameTo, callMade, CallAsModel, EachCall, OffersTo, WithinCutsOf, RoomsAre, Offering, endedBy, AcknowledgedCalls, NeverUnsound}
 use Rattle.receiver.proofs.Demand3.{demand-3}
+use Rattle.receiver.proofs.Sharing.{refused-byte}
 use Rattle.peers.specs.Numbers.{rawOutcome}
 use Rattle.peers.specs.ExportedDemand3.{rawReply, rawTaken, rawLastSession, rawLastStore, endsNumber, rawResponses, rawReplies, rawCameTo, responseInNumbers, inNumbers, RawCallAsModel, RawEachCall, RawOffersTo, RawWithinCuts, RawRooms, RawOffering, rawPost, RawRightReply, RawAcknowledgedCalls, RawNeverUnsound, ExportedDemand3, EveryListOfCalls}
-use Rattle.peers.proofs.AsMade.{rawOf, madesBy, mades-chain, mades-same, raw-chain, values-most, values-told, refused-is, refused-byte}
+use Rattle.peers.proofs.AsMade.{rawOf, madesBy, mades-chain, mades-same, raw-chain, values-most, values-told, refused-is}
 
 -- ---- the test on the number is the test on the answer
 
