@@ -188,7 +188,7 @@ refuses-three : refusesOpening 3 ≡ true
 unfolding refusesOpening
 refuses-three = refl
 
-open-cases : (P : Opening → Type 0) (role : Role) (local remote : List ℕ) (room : ℕ) → P (refuseOpening 1) → P (refuseOpening 3)
+pub open-cases : (P : Opening → Type 0) (role : Role) (local remote : List ℕ) (room : ℕ) → P (refuseOpening 1) → P (refuseOpening 3)
     → (nameOk local ≡ true → nameOk remote ≡ true → P (accept role local remote))
     → P («open» role local remote room)
 unfolding «open»

@@ -1,1 +1,5 @@
 pub mod Promising
+pub mod AsMade
+pub mod ExportedDemand3
+pub mod ExportedCorollaries
+pub mod FromTheStart

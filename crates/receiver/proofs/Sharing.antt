@@ -73,12 +73,13 @@ closes-below n h =
     (λ a. let b = leb-true n 15 (and-second (leb 10 n) (leb n 15) a) in omega arith)
     (λ a. let b = leb-true n 29 (and-second (leb 20 n) (leb n 29) (sym (or-false (leb 10 n && leb n 15) _ a) ∙ h)) in omega arith)
 
-below : (s : Session) (t : Store) (m : Made) → ReadPromise s t m → RefusedByte (m .outcome .answer)
-below s t m p n a =
+-- a refusal's number is below 256
+pub refused-byte : (s : Session) (t : Store) (m : Made) → ReadPromise s t m → RefusedByte (m .outcome .answer)
+refused-byte s t m p n a =
     ⊎-elim
     (λ k. ⊎-elim (λ e. omega (arith, e)) (λ r. ⊎-elim (λ e. omega (arith, e)) (λ e. omega (arith, e)) r) (k .0))
     (λ k. closes-below n (k .0))
     (refused-untouched s t m n p a)
 
 pub answers-by-number : AnswersByNumber
-answers-by-number s t m s′ t′ m′ p p′ e f = answers-one-to-one (m .outcome .answer) (m′ .outcome .answer) (below s t m p) (below s′ t′ m′ p′) e f
+answers-by-number s t m s′ t′ m′ p p′ e f = answers-one-to-one (m .outcome .answer) (m′ .outcome .answer) (refused-byte s t m p) (refused-byte s′ t′ m′ p′) e f

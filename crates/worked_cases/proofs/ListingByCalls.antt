@@ -1,29 +1,26 @@
 -- The listing's stream, in any division, gives the listing; and it can be offered in every cutting.
-use Prim.Native.Nat.{ℕ, zero, suc, _<_, _^_}
-use native.Mathlib.Omega.{arith}
-use mathlib.Core.Path.{_≡_, refl, sym, ap, _∙_, subst}
+use Prim.Native.Nat.{ℕ}
+use mathlib.Core.Path.{_≡_, refl, sym, ap, _∙_}
 use mathlib.Core.Bool.{true, false, _||_}
 use mathlib.Core.List.{List, [], _∷_, flatten}
-use lib.ListN.{length, getD, replicate}
-use lib.Dec.{ltb, eqb, lit<}
-use borrow.Author.Tests.{ltb-true}
+use lib.ListN.{length}
+use lib.Dec.{eqb}
 use Rattle.lists.specs.Lists.{every}
 use Rattle.lists.proofs.Cases.{cond-false, and-first, and-second, and-intro}
 use Rattle.lists.proofs.Every.{every-nil, every-cons, every-append}
 use Rattle.store.specs.Store.{emptyStore}
 use Rattle.store.proofs.Ruled.{empty-sound}
-use Rattle.store.proofs.Kept.{pad-cells, empty-shape}
+use Rattle.store.proofs.Kept.{empty-shape}
 use Rattle.handshake.specs.Bytes.{within}
 use Rattle.handshake.specs.Handshake.{nameOk}
 use Rattle.session.specs.declared.Session.{Session}
 use Rattle.session.specs.declared.Answer.{Answer}
-use Rattle.session.specs.Shape.{BindingShape, ConnectionShape}
-use Rattle.session.specs.Session.{unfinished, isClosed, holding, noBinding, bindingAt}
-use Rattle.session.proofs.Shapes.{holding-shape}
+use Rattle.session.specs.Session.{unfinished, isClosed, holding}
 use Rattle.session_soundness.specs.Sound.{sound}
 use Rattle.session_soundness.proofs.Records.{sound-both}
 use Rattle.opening.specs.Opening.{answerer, opened, newConnection}
 use Rattle.opening.proofs.SoundOpening.{opened-sound}
+use Rattle.opening.proofs.ShapedOpening.{opened-shape}
 use Rattle.streams.specs.Calls.{Result}
 use Rattle.receiver.specs.Model.{State, heldBy, isByte}
 use Rattle.receiver.specs.Promise.{Made, Shaped}
@@ -68,42 +65,8 @@ listing-by-calls = listed-by-calls
 
 -- ---- and it can be offered in every cutting
 
-small-name : (xs : List ℕ) → every (λ (b : ℕ). ltb b 256) xs ≡ true → (i : ℕ) → getD xs i 0 < 2 ^ 8
-small-name [] h i = lit< tt
-small-name (x ∷ xs) h zero = ltb-true x 256 (and-first (ltb x 256) _ (sym (every-cons (λ (b : ℕ). ltb b 256) x xs) ∙ h))
-small-name (x ∷ xs) h (suc i) = small-name xs (and-second (ltb x 256) _ (sym (every-cons (λ (b : ℕ). ltb b 256) x xs) ∙ h)) i
-
-free-place : (n i : ℕ) → getD (replicate n noBinding) i noBinding ≡ noBinding
-free-place zero i = refl
-free-place (suc n) zero = refl
-free-place (suc n) (suc i) = free-place n i
-
-none-shape : BindingShape noBinding
-unfolding noBinding
-none-shape = record { bound = lit< tt; updated = lit< tt; id = lit< tt; previous = lit< tt }
-
-names-small : (every (λ (b : ℕ). ltb b 256) east ≡ true) × (every (λ (b : ℕ). ltb b 256) west ≡ true)
-unfolding every east west
-names-small = (refl, refl)
-
-start-connection : ConnectionShape (newConnection 0 0 0 east west)
-unfolding newConnection bindingAt
-start-connection = record {
-  phase = lit< tt;
-  closed = lit< tt;
-  number = lit< tt;
-  current = lit< tt;
-  localLength = (unfold east in lit< tt);
-  remoteLength = (unfold west in lit< tt);
-  local = pad-cells 32 east (small-name east (names-small .0));
-  remote = pad-cells 32 west (small-name west (names-small .1));
-  places = refl;
-  binding = λ i l. subst BindingShape (sym (free-place 8 i)) none-shape;
-}
-
 start-shaped : Shaped start emptyStore
-unfolding opened
-start-shaped = record { session = holding-shape start-connection [] (omega arith) (λ i. lit< tt); store = empty-shape }
+start-shaped = record { session = opened-shape answerer east west (names-ok .0) (names-ok .1); store = empty-shape }
 
 listing-bytes : every isByte listing ≡ true
 unfolding every listing hello flatten

@@ -1,0 +1,234 @@
+-- The corollaries for the exported call, from those for calls with the answer enum.
+use Prim.Native.Nat.{ℕ, _<_}
+use native.Mathlib.Omega.{arith}
+use mathlib.Core.Path.{_≡_, refl, sym, ap, _∙_, subst}
+use mathlib.Core.Logic.{_⊎_, inl, inr, ⊎-elim}
+use mathlib.Core.Bool.{true}
+use mathlib.Core.List.{List, [], _∷_, _++_, map, map-append}
+use lib.ListN.{getD}
+use Rattle.store.specs.declared.Store.{Store}
+use Rattle.store.specs.Store.{noEntry}
+use Rattle.session.specs.declared.Session.{Session}
+use Rattle.session.specs.declared.Commit.{Commit}
+use Rattle.session.specs.declared.Answer.{Answer}
+use Rattle.session.specs.declared.Answer.the-variants as answer
+use Rattle.session.specs.Answers.{answerNumber, answerValues, refusalReply}
+use Rattle.session.specs.Session.{unfinished, holding, closedWith}
+use Rattle.session.proofs.answers.OneToOne.{RefusedByte}
+use Rattle.session_soundness.specs.Sound.{sound}
+use Rattle.receiver.specs.Model.{heldBy}
+use Rattle.receiver.specs.Promise.{Made, ReadPromise}
+use Rattle.receiver.specs.Ledger.{isAcknowledgement}
+use Rattle.receiver.specs.Demand3.{Chain, lastSession}
+use Rattle.receiver.specs.Corollaries.{EntryHeld, NothingChanged, OnlyClosed}
+use Rattle.receiver.proofs.Acknowledging.{refused-untouched, others-untouched, held-when-acknowledged}
+use Rattle.receiver.proofs.Sharing.{other-records-sound, refused-byte}
+use Rattle.message_bytes.specs.MessageBytes.{UpdateMessage, tableAt}
+use Rattle.message_bytes.specs.LastUpdates.{lastEntry, NoneUpdates, NeverUpdated, LastUpdate}
+use Rattle.message_bytes.proofs.LastUpdates.{bytes-of-every-entry}
+use Rattle.peers.specs.Numbers.{rawOutcome}
+use Rattle.peers.specs.Reading.{RawMade, RawPromise}
+use Rattle.peers.specs.ExportedDemand3.{RawChain, rawReply, rawTaken, rawLastSession, RawResult, rawCameTo, RawOffersTo}
+use Rattle.peers.specs.ExportedCorollaries.{RawSameByAnyDivision, RawAnyDivision, rawMessage, ToldUpdate, RawEntryHeld, RawHeldWhenAcknowledged, answering, rawLastEntry, RawNoneUpdates, RawNeverUpdated, RawLastUpdate, RawBytesOfEveryEntry, RawNothingChanged, RawOnlyClosed, RawRefusedCall, RawRefusedUntouched, RawUntouched, RawOthersUntouched, RawOtherRecordsSound}
+use Rattle.peers.proofs.AsMade.{rawOf, madeBy, made-promised, made-same, madesBy, mades-chain, mades-same, values-told, refused-is}
+use Rattle.peers.proofs.ExportedDemand3.{same-reply, same-taken, same-session, same-store, exported-demand-3}
+
+-- ---- any division
+
+module _ (s : Session) (t : Store) (stream : List ℕ) (calls others : List RawMade) (f : sound s t ≡ true) (c : RawChain s t calls) (d : RawChain s t others)
+    (o : RawOffersTo s stream calls) (q : RawOffersTo s stream others) where
+  divided-came : rawCameTo s t calls ≡ rawCameTo s t others
+  divided-came = exported-demand-3 s t calls f c .whole stream o ∙ sym (exported-demand-3 s t others f d .whole stream q)
+
+  divided : RawSameByAnyDivision s t stream calls others
+  unfolding rawCameTo heldBy
+  divided = record {
+    came = divided-came;
+    store = ap (λ (r : RawResult). r .state .store) divided-came;
+    session = exported-demand-3 s t calls f c .whole-record stream o ∙ sym (exported-demand-3 s t others f d .whole-record stream q);
+    replies = ap (λ (r : RawResult). r .replies) divided-came;
+  }
+
+pub raw-any-division : RawAnyDivision
+raw-any-division = divided
+
+-- ---- one call
+
+-- what holds of every promised call in numbers holds of every promised exported one
+by-made : (P : RawMade → Type 0) (s : Session) (t : Store) (m : RawMade) → RawPromise s t m → P (rawOf (madeBy s t m)) → P m
+by-made P s t m p h = subst P (sym (made-same s t m p)) h
+
+module _ (s : Session) (t : Store) (m : Made) where
+  nothing-changed : NothingChanged s t m → RawNothingChanged s t (rawOf m)
+  unfolding rawOutcome
+  nothing-changed h = record { taken = h .taken; count = h .count; session = h .session; store = h .store; room = h .room }
+
+  only-closed : (n : ℕ) → answerNumber (m .outcome .answer) ≡ n → OnlyClosed s t m n → RawOnlyClosed s t (rawOf m)
+  unfolding rawOutcome
+  only-closed n e h = record {
+    session = h .session ∙ ap (λ (k : ℕ). holding (closedWith (s .connection) k) []) (sym e);
+    store = h .store;
+    reply = same-reply m ∙ h .reply ∙ ap refusalReply (sym e);
+    room = h .room;
+  }
+
+  refused : ReadPromise s t m → answerNumber (m .outcome .answer) < 256 → RawRefusedCall s t (rawOf m)
+  unfolding rawOutcome
+  refused p l =
+      ⊎-elim
+      (λ k. inl (k .0, nothing-changed (k .1)))
+      (λ k. inr (k .0, only-closed (answerNumber (m .outcome .answer)) refl (k .1)))
+      (refused-untouched s t m (answerNumber (m .outcome .answer)) p (refused-is (m .outcome .answer) l))
+
+  others : ReadPromise s t m → (answerNumber (m .outcome .answer) ≡ 265 → ⊥) → (answerNumber (m .outcome .answer) ≡ 267 → ⊥) → RawUntouched t (rawOf m)
+  unfolding rawOutcome answerNumber
+  others p a b =
+      let u = others-untouched s t m p (λ place e. a (ap answerNumber e)) (λ table id place how e. b (ap answerNumber e)) in
+      record { store = u .store; room = u .room }
+
+  told : (table id place : ℕ) (how : Commit) → m .outcome .answer ≡ answer.Update table id place how → ToldUpdate (rawOf m) table id place how
+  unfolding rawOutcome answerNumber answerValues
+  told table id place how e = record { number = ap answerNumber e; values = values-told m ∙ ap answerValues e }
+
+  entry-held : EntryHeld s t m → RawEntryHeld s t (rawOf m)
+  unfolding rawOutcome
+  entry-held h = record {
+    table = h .table;
+    id = h .id;
+    place = h .place;
+    how = h .how;
+    told = told (h .table) (h .id) (h .place) (h .how) (h .answer);
+    kind = h .kind;
+    start = h .start;
+    end = h .end;
+    framed = h .framed;
+    type = h .type;
+    current = h .current;
+    body = h .body;
+    body-is = h .body-is;
+    fields = h .fields;
+    after = h .after;
+    read = h .read;
+    own-id = h .own-id;
+    holds = h .holds;
+    others = h .others;
+    tables = h .tables;
+    reply = same-reply m ∙ h .reply;
+  }
+
+pub raw-refused-untouched : RawRefusedUntouched
+unfolding rawOutcome
+raw-refused-untouched s t m p =
+    by-made (λ (x : RawMade). x .outcome .number < 256 → RawRefusedCall s t x) s t m p (refused s t (madeBy s t m) (made-promised s t m p))
+
+pub raw-others-untouched : RawOthersUntouched
+unfolding rawOutcome
+raw-others-untouched s t m p =
+    by-made (λ (x : RawMade). (x .outcome .number ≡ 265 → ⊥) → (x .outcome .number ≡ 267 → ⊥) → RawUntouched t x) s t m p
+    (others s t (madeBy s t m) (made-promised s t m p))
+
+pub raw-held-when-acknowledged : RawHeldWhenAcknowledged
+raw-held-when-acknowledged s t m p =
+    by-made (λ (x : RawMade). isAcknowledgement (rawReply x) ≡ true → RawEntryHeld s t x) s t m p
+    (λ h.
+    let made = madeBy s t m in
+    entry-held s t made (held-when-acknowledged s t made (made-promised s t m p) (ap isAcknowledgement (sym (same-reply made)) ∙ h)))
+
+pub raw-other-records-sound : RawOtherRecordsSound
+raw-other-records-sound s t m other p f = other-records-sound s t (madeBy s t m) other (made-promised s t m p) f
+
+-- ---- the bytes of every entry
+
+-- the number 267 is an update's alone
+updates : (a : Answer) → RefusedByte a → answerNumber a ≡ 267
+    → (table : ℕ) × ((id : ℕ) × ((how : Commit) × (a ≡ answer.Update table id (getD (answerValues a) 2 0) how)))
+unfolding answerNumber answerValues
+updates answer.More h e = absurd (omega (arith, e))
+updates (answer.Hello process relative) h e = absurd (omega (arith, e))
+updates answer.Status h e = absurd (omega (arith, e))
+updates answer.Request h e = absurd (omega (arith, e))
+updates answer.Finished h e = absurd (omega (arith, e))
+updates answer.Partial h e = absurd (omega (arith, e))
+updates answer.Confirmed h e = absurd (omega (arith, e))
+updates answer.Heartbeat h e = absurd (omega (arith, e))
+updates (answer.Error type) h e = absurd (omega (arith, e))
+updates (answer.Table place) h e = absurd (omega (arith, e))
+updates (answer.Switch place) h e = absurd (omega (arith, e))
+updates (answer.Update table id entry how) h e = (table, (id, (how, refl)))
+updates (answer.Acknowledgement id update) h e = absurd (omega (arith, e))
+updates (answer.Skipped type) h e = absurd (omega (arith, e))
+updates (answer.Refused n) h e = let l = h n refl in absurd (omega (arith, l, e))
+
+none-updates : (s : Session) (t : Store) (place : ℕ) (ms : List Made) → Chain s t ms → NoneUpdates place ms → RawNoneUpdates place (map rawOf ms)
+unfolding Chain NoneUpdates RawNoneUpdates rawOutcome
+none-updates s t place [] c n = tt
+none-updates s t place (m ∷ ms) c n = (
+  (λ e q.
+      let a = m .outcome .answer in
+      let u = updates a (refused-byte s t m (c .0)) e in
+      let third = ap (λ (vs : List ℕ). getD vs 2 0) (sym (values-told m)) ∙ q in
+      n .0 (u .0) (u .1 .0) (u .1 .1 .0) (u .1 .1 .1 ∙ ap (λ (i : ℕ). answer.Update (u .0) (u .1 .0) i (u .1 .1 .0)) third)),
+  none-updates (m .session) (m .store) place ms (c .1) (n .1),
+)
+
+-- the calls after some are a list of calls too
+chain-after : (s : Session) (t : Store) (before : List Made) (m : Made) (after : List Made) → Chain s t (before ++ (m ∷ after)) → Chain (m .session) (m .store) after
+unfolding Chain
+chain-after s t [] m after c = c .1
+chain-after s t (b ∷ before) m after c = chain-after (b .session) (b .store) before m after (c .1)
+
+module _ (s : Session) (t : Store) (ms : List Made) (place : ℕ) (c : Chain s t ms) where
+  same-entry : rawLastEntry t (map rawOf ms) place ≡ lastEntry t ms place
+  same-entry = ap (λ (x : Store). getD (x .entries) place noEntry) (same-store t ms)
+
+  never-updated : NeverUpdated t ms place → RawNeverUpdated t (map rawOf ms) place
+  never-updated n = record { none = none-updates s t place ms c (n .none); same = same-entry ∙ n .same }
+
+  module _ (u : LastUpdate s t ms place) where
+    after-chain : Chain (u .call .session) (u .call .store) (u .after)
+    after-chain = chain-after s t (u .before) (u .call) (u .after) (subst (Chain s t) (u .among) c)
+
+    answered : u .call ≡ answering (answer.Update (u .table) (u .id) place (u .how)) (rawOf (u .call))
+    unfolding rawOutcome
+    answered = λ i. record {
+      piece = u .call .piece;
+      room = u .call .room;
+      outcome = record { taken = u .call .outcome .taken; «reply_len» = u .call .outcome .«reply_len»; answer = u .answer i };
+      session = u .call .session;
+      store = u .call .store;
+      final = u .call .final;
+    }
+
+    message-is : UpdateMessage (rawLastSession s (map rawOf (u .before))) (answering (answer.Update (u .table) (u .id) place (u .how)) (rawOf (u .call))) (u .table) (u .id)
+        (tableAt (u .call) (u .table)) (rawLastEntry t (map rawOf ms) place)
+    message-is =
+        rw (same-session s (u .before), same-entry)
+        (subst (λ (x : Made). UpdateMessage (lastSession s (u .before)) x (u .table) (u .id) (tableAt (u .call) (u .table)) (lastEntry t ms place)) answered (u .message))
+
+    stood-is : unfinished s ++ rawTaken (map rawOf ms)
+        ≡ u .earlier ++ (rawMessage (rawLastSession s (map rawOf (u .before))) (rawOf (u .call)) ++ rawTaken (map rawOf (u .after)))
+    unfolding rawOutcome
+    stood-is = rw (same-taken ms, same-session s (u .before), same-taken (u .after)) (u .stood)
+
+    last-update : RawLastUpdate s t (map rawOf ms) place
+    last-update = record {
+      before = map rawOf (u .before);
+      call = rawOf (u .call);
+      after = map rawOf (u .after);
+      among = ap (map rawOf) (u .among) ∙ map-append rawOf (u .before) (u .call ∷ u .after);
+      table = u .table;
+      id = u .id;
+      how = u .how;
+      told = told s t (u .call) (u .table) (u .id) place (u .how) (u .answer);
+      last = none-updates (u .call .session) (u .call .store) place (u .after) after-chain (u .last);
+      message = message-is;
+      earlier = u .earlier;
+      stood = stood-is;
+    }
+
+pub raw-bytes-of-every-entry : RawBytesOfEveryEntry
+raw-bytes-of-every-entry s t calls place c =
+    let made = madesBy s t calls in
+    let chain = mades-chain s t calls c in
+    subst (λ (ms : List RawMade). RawNeverUpdated t ms place ⊎ RawLastUpdate s t ms place) (sym (mades-same s t calls c))
+    (⊎-elim (λ n. inl (never-updated s t made place chain n)) (λ u. inr (last-update s t made place chain u)) (bytes-of-every-entry s t made place chain))

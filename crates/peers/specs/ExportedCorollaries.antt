@@ -1,0 +1,195 @@
+-- What follows from the exported call's promise and from its demand 3, in the auditor's words and in the numbers that a host has.
+use Prim.Native.Nat.{ℕ, _+_, _-_, _≤_, _<_}
+use mathlib.Core.Path.{_≡_}
+use mathlib.Core.Logic.{_⊎_}
+use mathlib.Core.List.{List, [], _∷_, _++_}
+use mathlib.Core.Bool.{true}
+use lib.ListN.{length, take, drop, getD}
+use Rattle.lists.specs.Lists.{every}
+use Rattle.store.specs.declared.Entry.{Entry}
+use Rattle.store.specs.declared.Store.{Store}
+use Rattle.store.specs.Store.{makeEntry, noEntry, noTable, emptyStore}
+use Rattle.frame.specs.declared.Frame.the-variants as frame
+use Rattle.frame.specs.Frame.{judgeFrame}
+use Rattle.session.specs.declared.Session.{Session}
+use Rattle.session.specs.declared.Commit.{Commit}
+use Rattle.session.specs.declared.Answer.{Answer}
+use Rattle.session.specs.declared.Answer.the-variants as answer
+use Rattle.session.specs.Answers.{commitNumber, refusalReply}
+use Rattle.session.specs.Session.{unfinished, bindingAt, holding, closedWith}
+use Rattle.session_soundness.specs.Sound.{sound}
+use Rattle.opening.specs.Opening.{Role, «open», openedOf}
+use Rattle.body.specs.Fields.{got, spanIn}
+use Rattle.body.specs.Bodies.{Update}
+use Rattle.message.specs.Effects.{acknowledge}
+use Rattle.receiver.specs.Model.{replyRoom, isByte}
+use Rattle.receiver.specs.Promise.{Made}
+use Rattle.receiver.specs.Ledger.{isAcknowledgement}
+use Rattle.receiver.specs.Corollaries.{fieldsOf, closes}
+use Rattle.message_bytes.specs.MessageBytes.{UpdateMessage}
+use Rattle.peers.specs.declared.numbers.RawOpened.{RawOpened}
+use Rattle.peers.specs.Numbers.{rawOpened}
+use Rattle.peers.specs.Reading.{RawMade, RawPromise}
+use Rattle.peers.specs.ExportedDemand3.{RawChain, rawValues, rawReply, rawTaken, rawLastSession, rawLastStore, rawReplies, rawCameTo, RawOffersTo, RawOffering, ExportedDemand3}
+
+-- ---- from where a host starts: a record that `peers_open_answerer` or `peers_open_caller` gave, and the store of `peers_empty_store`
+
+-- demand 3 holds of every list of calls from there, and for every cutting of every stream into pieces and every room that is large enough there is
+-- such a list
+pub record Started (s : Session) (calls : List RawMade) : Type 0 where
+  pub sound : sound s emptyStore ≡ true
+  pub demand : ExportedDemand3 s emptyStore calls
+  pub exists : (cuts : List (List ℕ)) (room : List ℕ) → every (every isByte) cuts ≡ true → replyRoom ≤ length room → RawOffering s emptyStore cuts room
+
+-- in either role, with any names and any room: a refused opening too, since "1 and 3 in opening return a closed record .. which counts as sound"
+abbrev pub FromTheStart : Type 0
+FromTheStart =
+    (role : Role) (local remote room : List ℕ) (o : RawOpened) (calls : List RawMade)
+    → o ≡ rawOpened (openedOf («open» role local remote (length room))) → RawChain (o .session) emptyStore calls
+    → Started (o .session) calls
+
+-- ---- "would another division of the same traffic by TCP have left another table?"
+
+-- two lists of calls that offer one stream from one record and store come to the same answers, replies, record and store
+pub record RawSameByAnyDivision (s : Session) (t : Store) (stream : List ℕ) (calls others : List RawMade) : Type 0 where
+  pub came : rawCameTo s t calls ≡ rawCameTo s t others
+  pub store : rawLastStore t calls ≡ rawLastStore t others
+  pub session : rawLastSession s calls ≡ rawLastSession s others
+  pub replies : rawReplies calls ≡ rawReplies others
+
+abbrev pub RawAnyDivision : Type 0
+RawAnyDivision =
+    (s : Session) (t : Store) (stream : List ℕ) (calls others : List RawMade) → sound s t ≡ true → RawChain s t calls → RawChain s t others
+    → RawOffersTo s stream calls → RawOffersTo s stream others → RawSameByAnyDivision s t stream calls others
+
+-- ---- "which entries did you hold when this acknowledgement went out?"
+
+-- the message that a call ended: the record's unfinished bytes and the bytes taken
+abbrev pub rawMessage : Session → RawMade → List ℕ
+rawMessage s m = unfinished s ++ take (m .outcome .taken) (m .piece)
+
+-- "An update shows table place, update ID and entry place", and new or replaced as 0 or 1; its number is 267
+pub record ToldUpdate (m : RawMade) (table id place : ℕ) (how : Commit) : Type 0 where
+  pub number : m .outcome .number ≡ 267
+  pub values : rawValues m ≡ table ∷ id ∷ place ∷ commitNumber how ∷ []
+
+-- the store that the call left holds the entry with the message's key and values, and else what it held before; the reply is the
+-- acknowledgement of this update with the table's ID
+pub record RawEntryHeld (s : Session) (t : Store) (m : RawMade) : Type 0 where
+  pub table : ℕ
+  pub id : ℕ
+  pub place : ℕ
+  pub how : Commit
+  pub told : ToldUpdate m table id place how
+  pub kind : ℕ
+  pub start : ℕ
+  pub end : ℕ
+  pub framed : judgeFrame (rawMessage s m) ≡ frame.Body kind start end
+  pub type : (kind ≡ 128) ⊎ (kind ≡ 129)
+  pub current : s .connection .current ≡ table + 1
+  pub body : List ℕ
+  pub body-is : body ≡ take (end - start) (drop start (rawMessage s m))
+  pub fields : Update
+  pub after : ℕ
+  pub read : fieldsOf (s .connection) t table kind body ≡ got fields after
+  pub own-id : fields .id ≡ id
+  pub holds : getD (m .store .entries) place noEntry ≡ makeEntry table (spanIn body (fields .key)) (fields .server) (fields .values)
+  pub others : (i : ℕ) → (i ≡ place → ⊥) → getD (m .store .entries) i noEntry ≡ getD (t .entries) i noEntry
+  pub tables : m .store .tables ≡ t .tables
+  pub reply : rawReply m ≡ acknowledge (bindingAt (s .connection) table .id) id
+
+abbrev pub RawHeldWhenAcknowledged : Type 0
+RawHeldWhenAcknowledged = (s : Session) (t : Store) (m : RawMade) → RawPromise s t m → isAcknowledgement (rawReply m) ≡ true → RawEntryHeld s t m
+
+-- ---- "which bytes stood for this counter?"
+
+-- the call with this answer for its numbers
+abbrev pub answering : Answer → RawMade → Made
+answering a m = record {
+  piece = m .piece;
+  room = m .room;
+  outcome = record { taken = m .outcome .taken; «reply_len» = m .outcome .«reply_len»; answer = a };
+  session = m .session;
+  store = m .store;
+  final = m .final;
+}
+
+-- the entry at a place of the store that the calls left
+abbrev pub rawLastEntry : Store → List RawMade → ℕ → Entry
+rawLastEntry t calls place = getD (rawLastStore t calls .entries) place noEntry
+
+-- no call answered an update at the place: 267 with this place for its third value
+unfoldable pub RawNoneUpdates : ℕ → List RawMade → Type 0
+RawNoneUpdates place [] = Unit {0}
+RawNoneUpdates place (m ∷ calls) = (m .outcome .number ≡ 267 → getD (rawValues m) 2 0 ≡ place → ⊥) × RawNoneUpdates place calls
+
+-- no call updated the place, and it holds what it held before the first one
+pub record RawNeverUpdated (t : Store) (calls : List RawMade) (place : ℕ) : Type 0 where
+  pub none : RawNoneUpdates place calls
+  pub same : rawLastEntry t calls place ≡ getD (t .entries) place noEntry
+
+-- this call was the last one to update the place, and the message that it ended is the update with the entry that stands there
+pub record RawLastUpdate (s : Session) (t : Store) (calls : List RawMade) (place : ℕ) : Type 0 where
+  pub before : List RawMade
+  pub call : RawMade
+  pub after : List RawMade
+  pub among : calls ≡ before ++ (call ∷ after)
+  pub table : ℕ
+  pub id : ℕ
+  pub how : Commit
+  pub told : ToldUpdate call table id place how
+  pub last : RawNoneUpdates place after
+  -- with the record that this call got, and the table that it left
+  pub message : UpdateMessage (rawLastSession s before) (answering (answer.Update table id place how) call) table id
+      (getD (call .store .tables) table noTable) (rawLastEntry t calls place)
+  -- where it stood: among the bytes unfinished at the start and then all bytes that the calls took, behind these
+  pub earlier : List ℕ
+  pub stood : unfinished s ++ rawTaken calls ≡ earlier ++ (rawMessage (rawLastSession s before) call ++ rawTaken after)
+
+-- every place of the store that a list of calls left, whatever record and store they started with, with no other writer between the calls
+abbrev pub RawBytesOfEveryEntry : Type 0
+RawBytesOfEveryEntry =
+    (s : Session) (t : Store) (calls : List RawMade) (place : ℕ) → RawChain s t calls → RawNeverUpdated t calls place ⊎ RawLastUpdate s t calls place
+
+-- ---- any refused call, on any record and store, sound or not, leaves tables and entries and the room past the reply as they were
+
+-- "A call's 1, 4 and 2 take nothing and change nothing"
+pub record RawNothingChanged (s : Session) (t : Store) (m : RawMade) : Type 0 where
+  pub taken : m .outcome .taken ≡ 0
+  pub count : m .outcome .«reply_len» ≡ 0
+  pub session : m .session ≡ s
+  pub store : m .store ≡ t
+  pub room : m .final ≡ m .room
+
+-- "From 10 up the record is closed with that number and its unfinished bytes are dropped."
+pub record RawOnlyClosed (s : Session) (t : Store) (m : RawMade) : Type 0 where
+  pub session : m .session ≡ holding (closedWith (s .connection) (m .outcome .number)) []
+  pub store : m .store ≡ t
+  pub reply : rawReply m ≡ refusalReply (m .outcome .number)
+  pub room : drop (m .outcome .«reply_len») (m .final) ≡ drop (m .outcome .«reply_len») (m .room)
+
+-- "No refusal is given in any other case.": a number below 256 is 1, 2 or 4, or one that closes
+abbrev pub RawRefusedCall : Session → Store → RawMade → Type 0
+RawRefusedCall s t m =
+    let n = m .outcome .number in
+    (((n ≡ 1) ⊎ ((n ≡ 2) ⊎ (n ≡ 4))) × RawNothingChanged s t m) ⊎ ((closes n ≡ true) × RawOnlyClosed s t m)
+
+-- the numbers below 256 are the refusals
+abbrev pub RawRefusedUntouched : Type 0
+RawRefusedUntouched = (s : Session) (t : Store) (m : RawMade) → RawPromise s t m → m .outcome .number < 256 → RawRefusedCall s t m
+
+pub record RawUntouched (t : Store) (m : RawMade) : Type 0 where
+  pub store : m .store ≡ t
+  pub room : drop (m .outcome .«reply_len») (m .final) ≡ drop (m .outcome .«reply_len») (m .room)
+
+-- the store is the very store that came for every number but 265, a table, and 267, an update
+abbrev pub RawOthersUntouched : Type 0
+RawOthersUntouched =
+    (s : Session) (t : Store) (m : RawMade) → RawPromise s t m → (m .outcome .number ≡ 265 → ⊥) → (m .outcome .number ≡ 267 → ⊥) → RawUntouched t m
+
+-- ---- several records and one store
+
+-- a call on one record leaves every other record sound with the store
+abbrev pub RawOtherRecordsSound : Type 0
+RawOtherRecordsSound =
+    (s : Session) (t : Store) (m : RawMade) (other : Session) → RawPromise s t m → sound other t ≡ true → sound other (m .store) ≡ true
