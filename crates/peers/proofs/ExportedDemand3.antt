@@ -194,23 +194,23 @@ module _ (l : Ledger) (message reply : List ℕ) where
       let k = h n refl in
       rw (ne-eqb n 265 (λ e. omega (arith, k, e)), ne-eqb n 266 (λ e. omega (arith, k, e)), ne-eqb n 267 (λ e. omega (arith, k, e)))
 
-right : (l : Ledger) (reply : List ℕ) (a : Answer) → RefusedByte a → RightReply l reply a → RawRightReply l reply (answerNumber a) (answerValues a)
+right : (l : Ledger) (message reply : List ℕ) (a : Answer) → RefusedByte a → RightReply l message reply a → RawRightReply l message reply (answerNumber a) (answerValues a)
 unfolding RawRightReply answerNumber answerValues
-right l reply answer.More h r = r
-right l reply (answer.Hello process relative) h r = r
-right l reply answer.Status h r = r
-right l reply answer.Request h r = r
-right l reply answer.Finished h r = r
-right l reply answer.Partial h r = r
-right l reply answer.Confirmed h r = r
-right l reply answer.Heartbeat h r = r
-right l reply (answer.Error type) h r = r
-right l reply (answer.Table place) h r = r
-right l reply (answer.Switch place) h r = r
-right l reply (answer.Update table id entry how) h r = r
-right l reply (answer.Acknowledgement id update) h r = r
-right l reply (answer.Skipped type) h r = r
-right l reply (answer.Refused n) h r = let k = h n refl in rw (ne-eqb n 267 (λ e. omega (arith, k, e))) r
+right l message reply answer.More h r = r
+right l message reply (answer.Hello process relative) h r = r
+right l message reply answer.Status h r = r
+right l message reply answer.Request h r = r
+right l message reply answer.Finished h r = r
+right l message reply answer.Partial h r = r
+right l message reply answer.Confirmed h r = r
+right l message reply answer.Heartbeat h r = r
+right l message reply (answer.Error type) h r = r
+right l message reply (answer.Table place) h r = r
+right l message reply (answer.Switch place) h r = r
+right l message reply (answer.Update table id entry how) h r = r
+right l message reply (answer.Acknowledgement id update) h r = r
+right l message reply (answer.Skipped type) h r = r
+right l message reply (answer.Refused n) h r = let k = h n refl in rw (ne-eqb n 267 (λ e. omega (arith, k, e)), ne-eqb n 266 (λ e. omega (arith, k, e))) r
 
 acknowledged-calls : (s : Session) (t : Store) (l : Ledger) (u : List ℕ) (ms : List Made) → Chain s t ms → AcknowledgedCalls l u ms → RawAcknowledgedCalls l u (map rawOf ms)
 unfolding Chain AcknowledgedCalls RawAcknowledgedCalls rawOutcome
@@ -222,9 +222,9 @@ acknowledged-calls s t l u (m ∷ ms) c k =
     let same = posted l (e .message) (e .reply) a b in
     by-test (ends a)
     (λ h.
-    let k′ : RightReply (post l e) (e .reply) a × AcknowledgedCalls (post l e) [] ms = rw h at k in
+    let k′ : RightReply (post l e) (e .message) (e .reply) a × AcknowledgedCalls (post l e) [] ms = rw h at k in
     rw (ends-number a b, h, values-told m, same, same-reply m)
-    (right (post l e) (e .reply) a b (k′ .0), acknowledged-calls (m .session) (m .store) (post l e) [] ms (c .1) (k′ .1)))
+    (right (post l e) (e .message) (e .reply) a b (k′ .0), acknowledged-calls (m .session) (m .store) (post l e) [] ms (c .1) (k′ .1)))
     (λ h.
     let k′ : (replyIn m ≡ []) × AcknowledgedCalls l (e .message) ms = rw h at k in
     rw (ends-number a b, h) (same-reply m ∙ k′ .0, acknowledged-calls (m .session) (m .store) l (e .message) ms (c .1) (k′ .1)))

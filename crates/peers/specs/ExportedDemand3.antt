@@ -19,7 +19,7 @@ use Rattle.streams.specs.Claim.{AsModel}
 use Rattle.streams.specs.Fold.{AllAlong}
 use Rattle.receiver.specs.Model.{State, heldBy, replyRoom, isByte, peers}
 use Rattle.receiver.specs.Promise.{Shaped}
-use Rattle.receiver.specs.Ledger.{Ledger, startLedger, post, at, definedId, updateId, defines, switches, commits, Carried, NoAcknowledgement, Acknowledged}
+use Rattle.receiver.specs.Ledger.{Ledger, startLedger, post, at, tableId, updateId, defines, switches, commits, Carried, Switched, NoAcknowledgement, Acknowledged}
 use Rattle.receiver.specs.Demand3.{modelRan}
 use Rattle.peers.specs.Reading.{RawMade, RawPromise}
 
@@ -158,14 +158,16 @@ pub record RawOffering (s : Session) (t : Store) (cuts : List (List ℕ)) (room 
 -- table's place; 267 an update. No other number changes it
 unfoldable pub rawPost : Ledger → List ℕ → ℕ → List ℕ → Ledger
 rawPost l message number values =
-    cond (eqb number 265) (defines l (getD values 0 0) (definedId message))
+    cond (eqb number 265) (defines l (getD values 0 0) (tableId message))
     (cond (eqb number 266) (switches l (getD values 0 0))
     (cond (eqb number 267) (commits l (l .current) (updateId message (at (l .last) (l .current)))) l))
 
 -- "a committed update gives one acknowledgement"; no other message's reply is one. An update's first value is its table's place, its second
--- its ID
-unfoldable pub RawRightReply : Ledger → List ℕ → ℕ → List ℕ → Type 0
-RawRightReply l reply number values = cond (eqb number 267) (Carried l reply (getD values 0 0) (getD values 1 0)) (NoAcknowledgement reply)
+-- its ID; a switch's value is the place of the table that is bound to the ID in its message
+unfoldable pub RawRightReply : Ledger → List ℕ → List ℕ → ℕ → List ℕ → Type 0
+RawRightReply l message reply number values =
+    cond (eqb number 267) (Carried l reply (getD values 0 0) (getD values 1 0))
+    (cond (eqb number 266) (Switched l message reply (getD values 0 0)) (NoAcknowledgement reply))
 
 -- each reply that is an acknowledgement carries its table's IDs, by the ledger of the messages up to and with this one; a call that ends no
 -- message sends nothing. u are the bytes that earlier calls left unfinished
@@ -175,7 +177,7 @@ RawAcknowledgedCalls l u (m ∷ ms) =
     let message = u ++ take (m .outcome .taken) (m .piece) in
     let after = rawPost l message (m .outcome .number) (rawValues m) in
     cond (endsNumber (m .outcome .number))
-    (RawRightReply after (rawReply m) (m .outcome .number) (rawValues m) × RawAcknowledgedCalls after [] ms)
+    (RawRightReply after message (rawReply m) (m .outcome .number) (rawValues m) × RawAcknowledgedCalls after [] ms)
     ((rawReply m ≡ []) × RawAcknowledgedCalls l message ms)
 
 -- ---- 5: 4 is never answered
