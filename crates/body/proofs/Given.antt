@@ -5,16 +5,44 @@ use Rattle.wire.specs.declared.values.Field.{Field}
 use Rattle.wire.specs.declared.values.Field.the-variants as field
 use Rattle.body.specs.declared.Reading.{Reading}
 use Rattle.body.specs.declared.Reading.the-variants as reading
+use Rattle.body.specs.declared.times.TimesRead.{TimesRead}
+use Rattle.body.specs.declared.update_data.DataRead.{DataRead}
 use Rattle.body.specs.declared.definition.DefinitionBody.{DefinitionBody}
 use Rattle.body.specs.declared.update.UpdateBody.{UpdateBody}
 use Rattle.body.specs.declared.AcknowledgementBody.{AcknowledgementBody}
 use Rattle.body.specs.declared.AcknowledgementBody.the-variants as acked
 use Rattle.body.specs.Fields.{Read, got, short, outside}
-use Rattle.body.specs.Bodies.{Definition, Acknowledged, Update}
-use Rattle.body.specs.Results.{fieldRead, readAs, definitionStruct, definitionBody, switchBody, acknowledgementBody, updateStruct, updateBody}
+use Rattle.body.specs.Bodies.{Times, Definition, Acknowledged, Data, Update}
+use Rattle.body.specs.Results.{fieldRead, readAs, timesStruct, timesResult, dataStruct, dataResult, definitionStruct, definitionBody, switchBody, acknowledgementBody, updateStruct, updateBody}
 use Rattle.body.proofs.FieldLaws.{field-got, field-short, field-out}
 
--- ---- a definition: what a struct says was read
+-- ---- expiry and periods: what a struct says was read
+abbrev pub timesIn : TimesRead → Times
+timesIn r = record { timed = r .timed; expiry = r .expiry; periods = r .periods }
+
+times-as : (x : Read Times) → x ≡ readAs (timesResult x .reading) (timesIn (timesResult x))
+unfolding timesResult timesStruct readAs
+times-as (got t next) = refl
+times-as short = refl
+times-as outside = refl
+
+pub times-given : (x : Read Times) (r : TimesRead) → r ≡ timesResult x → x ≡ readAs (r .reading) (timesIn r)
+times-given x r p = rw p (times-as x)
+
+-- ---- server ID and values
+abbrev pub dataIn : DataRead → Data
+dataIn r = record { server = r .«server_id»; values = r .values }
+
+data-as : (x : Read Data) → x ≡ readAs (dataResult x .reading) (dataIn (dataResult x))
+unfolding dataResult dataStruct readAs
+data-as (got d next) = refl
+data-as short = refl
+data-as outside = refl
+
+pub data-given : (x : Read Data) (r : DataRead) → r ≡ dataResult x → x ≡ readAs (r .reading) (dataIn r)
+data-given x r p = rw p (data-as x)
+
+-- ---- a definition
 abbrev pub definitionIn : DefinitionBody → Definition
 definitionIn r = record {
   id = r .id;

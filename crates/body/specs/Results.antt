@@ -66,17 +66,29 @@ module _ {A : Type 0} where
 abbrev pub periodsRead : PeriodsRead → Read (List ℕ)
 periodsRead p = readAs (p .reading) (p .periods)
 
-abbrev pub timesRead : TimesRead → Read Times
-timesRead t = readAs {A = Times} (t .reading) (record { timed = t .timed; expiry = t .expiry; periods = t .periods })
-
 abbrev pub valuesRead : ValuesRead → Read (List ℕ)
 valuesRead v = readAs (v .reading) (v .values)
 
-abbrev pub dataRead : DataRead → Read Data
-dataRead d = readAs {A = Data} (d .reading) (record { server = d .«server_id»; values = d .values })
+-- ---- of some fields with arrays; where the body broke, all else is zero
+
+unfoldable pub timesStruct : Reading → Times → TimesRead
+timesStruct how t = record { reading = how; timed = t .timed; expiry = t .expiry; periods = t .periods }
+
+unfoldable pub timesResult : Read Times → TimesRead
+timesResult (got t next) = timesStruct (reading.Whole next) t
+timesResult short = timesStruct reading.Short noTimes
+timesResult outside = timesStruct reading.OutOfRange noTimes
+
+unfoldable pub dataStruct : Reading → Data → DataRead
+dataStruct how d = record { reading = how; «server_id» = d .server; values = d .values }
 
 abbrev pub noData : Data
 noData = record { server = pos 0; values = replicate valueCount 0 }
+
+unfoldable pub dataResult : Read Data → DataRead
+dataResult (got d next) = dataStruct (reading.Whole next) d
+dataResult short = dataStruct reading.Short noData
+dataResult outside = dataStruct reading.OutOfRange noData
 
 -- ---- of a body; where it broke, all else is zero
 

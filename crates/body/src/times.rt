@@ -1,7 +1,7 @@
 // Expiry and periods of a definition, read from its body.
 ghost use mathlib.Core.Path.{_≡_};
 ghost use Rattle.body.specs.Bodies.{pairField, periodField, periodFields, noTimes, timesFields};
-ghost use Rattle.body.specs.Results.{wordRead, periodsRead, readAs, timesRead};
+ghost use Rattle.body.specs.Results.{wordRead, periodsRead, timesStruct, timesResult};
 use crate::Reading;
 use crate::Word;
 use crate::read_between;
@@ -81,7 +81,7 @@ fn read_periods(types: u32, body: &[u8], at: usize) -> PeriodsRead
 
 // Expiry and periods at `at`, unless the body ends there.
 pub fn read_times(types: u32, body: &[u8], at: usize) -> TimesRead
-    ensures { λ r. ⌜ timesRead r ≡ timesFields types (now (body .entry)) at ⌝ }
+    ensures { λ r. ⌜ r ≡ timesResult (timesFields types (now (body .entry)) at) ⌝ }
 {
     if at == body.len() {
         return no_times(Reading::Whole(at));
@@ -92,13 +92,17 @@ pub fn read_times(types: u32, body: &[u8], at: usize) -> TimesRead
             next,
         } => {
             let read = read_periods(types, body, next);
-            let reading = read.reading;
+            let how = read.reading;
             let periods = read.periods;
-            TimesRead {
-                reading,
-                timed: 1,
-                expiry,
-                periods,
+            match how {
+                Reading::Whole(end) => TimesRead {
+                    reading: Reading::Whole(end),
+                    timed: 1,
+                    expiry,
+                    periods,
+                },
+                Reading::Short => no_times(Reading::Short),
+                Reading::OutOfRange => no_times(Reading::OutOfRange),
             }
         }
         Word::Short => no_times(Reading::Short),
@@ -108,7 +112,7 @@ pub fn read_times(types: u32, body: &[u8], at: usize) -> TimesRead
 
 // No expiry and no periods.
 fn no_times(reading: Reading) -> TimesRead
-    ensures { λ r. ⌜ timesRead r ≡ readAs reading noTimes ⌝ }
+    ensures { λ r. ⌜ r ≡ timesStruct reading noTimes ⌝ }
 {
     TimesRead {
         reading,

@@ -2,7 +2,7 @@
 ghost use mathlib.Core.Path.{_≡_};
 ghost use Rattle.body.specs.Fields.{serverRead};
 ghost use Rattle.body.specs.Bodies.{serverField, slotField, valueFields, dataFields};
-ghost use Rattle.body.specs.Results.{fieldRead, readAs, valuesRead, dataRead, noData};
+ghost use Rattle.body.specs.Results.{fieldRead, valuesRead, dataStruct, noData, dataResult};
 use crate::Reading;
 use store::VALUES;
 use wire::values::Field;
@@ -80,17 +80,21 @@ fn read_values(types: u32, body: &[u8], at: usize) -> ValuesRead
 
 // Server ID and values at `at`.
 pub fn read_data(types: u32, body: &[u8], at: usize) -> DataRead
-    ensures { λ r. ⌜ dataRead r ≡ dataFields types (now (body .entry)) at ⌝ }
+    ensures { λ r. ⌜ r ≡ dataResult (dataFields types (now (body .entry)) at) ⌝ }
 {
     match read_server(types, body, at) {
         ServerId::Id { id, next } => {
             let read = read_values(types, body, next);
-            let reading = read.reading;
+            let how = read.reading;
             let values = read.values;
-            DataRead {
-                reading,
-                server_id: id,
-                values,
+            match how {
+                Reading::Whole(end) => DataRead {
+                    reading: Reading::Whole(end),
+                    server_id: id,
+                    values,
+                },
+                Reading::Short => no_data(Reading::Short),
+                Reading::OutOfRange => no_data(Reading::OutOfRange),
             }
         }
         ServerId::Short => no_data(Reading::Short),
@@ -100,7 +104,7 @@ pub fn read_data(types: u32, body: &[u8], at: usize) -> DataRead
 
 // Data that could not be read.
 fn no_data(reading: Reading) -> DataRead
-    ensures { λ r. ⌜ dataRead r ≡ readAs reading noData ⌝ }
+    ensures { λ r. ⌜ r ≡ dataStruct reading noData ⌝ }
 {
     DataRead {
         reading,

@@ -16,10 +16,12 @@ use Rattle.body.specs.declared.definition.NamedRead.{NamedRead}
 use Rattle.body.specs.declared.definition.NamedRead.the-variants as named-read
 use Rattle.body.specs.declared.shape.ShapeRead.{ShapeRead}
 use Rattle.body.specs.declared.shape.ShapeRead.the-variants as shape-read
+use Rattle.body.specs.declared.times.TimesRead.{TimesRead}
 use Rattle.body.specs.declared.definition.DefinitionBody.{DefinitionBody}
 use Rattle.body.specs.Fields.{andThen, integer, between, integerOf, bytes}
-use Rattle.body.specs.Bodies.{Named, named, namedFields, shapeFields, Times, timesFields, restFields, definitionFields}
-use Rattle.body.specs.Results.{fieldRead, wordRead, partRead, namedRead, shapeRead, readAs, definitionStruct, noDefinition, definitionBody}
+use Rattle.body.specs.Bodies.{Named, named, namedFields, shapeFields, timesFields, restFields, definitionFields}
+use Rattle.body.specs.Results.{fieldRead, wordRead, partRead, namedRead, shapeRead, readAs, timesResult, definitionStruct, noDefinition, definitionBody}
+use Rattle.body.proofs.Given.{times-given}
 
 -- ---- `read_named`, where w, f and q are what was read of ID, length and name
 module _ (s : List ℕ) (at : ℕ) (w : Word) (p : wordRead w ≡ integerOf 32 s at) where
@@ -68,22 +70,21 @@ module _ (n : Named) (s : List ℕ) (at : ℕ) (q : ShapeRead) (p : shapeRead q 
   shape-out x h e = h ∙ rw (← p, e)
 
   module _ (kind len types at₁ : ℕ) (e : q ≡ shape-read.Fields kind len types at₁)
-      (how : Reading) (t : Times) (p₁ : readAs how t ≡ timesFields types s at₁) where
+      (t : TimesRead) (p₁ : t ≡ timesResult (timesFields types s at₁)) where
     pub times-short : (x : DefinitionBody) → x ≡ definitionStruct reading.Short noDefinition
-        → how ≡ reading.Short → x ≡ definitionBody (restFields n s at)
+        → t .reading ≡ reading.Short → x ≡ definitionBody (restFields n s at)
     unfolding restFields definitionBody andThen shapeRead readAs
-    times-short x h e₁ = h ∙ rw (← p, e, ← p₁, e₁)
+    times-short x h e₁ = h ∙ rw (← p, e, times-given (timesFields types s at₁) t p₁, e₁)
 
     pub times-out : (x : DefinitionBody) → x ≡ definitionStruct reading.OutOfRange noDefinition
-        → how ≡ reading.OutOfRange → x ≡ definitionBody (restFields n s at)
+        → t .reading ≡ reading.OutOfRange → x ≡ definitionBody (restFields n s at)
     unfolding restFields definitionBody andThen shapeRead readAs
-    times-out x h e₁ = h ∙ rw (← p, e, ← p₁, e₁)
+    times-out x h e₁ = h ∙ rw (← p, e, times-given (timesFields types s at₁) t p₁, e₁)
 
 pub times-whole : (id start n : ℕ) (s : List ℕ) (at : ℕ) (q : ShapeRead) → shapeRead q ≡ shapeFields s at
     → (kind len types at₁ : ℕ) → q ≡ shape-read.Fields kind len types at₁
-    → (how : Reading) (timed expiry : ℕ) (ps : List ℕ)
-    → readAs {A = Times} how (record { timed = timed; expiry = expiry; periods = ps }) ≡ timesFields types s at₁
-    → (next : ℕ) → how ≡ reading.Whole next
+    → (t : TimesRead) → t ≡ timesResult (timesFields types s at₁)
+    → (next : ℕ) → t .reading ≡ reading.Whole next
     → _≡_ {A = DefinitionBody}
     (record {
       reading = reading.Whole next;
@@ -93,13 +94,13 @@ pub times-whole : (id start n : ℕ) (s : List ℕ) (at : ℕ) (q : ShapeRead) �
       «key_type» = kind;
       «key_len» = len;
       «data_types» = types;
-      timed = timed;
-      expiry = expiry;
-      periods = ps;
+      timed = t .timed;
+      expiry = t .expiry;
+      periods = t .periods;
     })
     (definitionBody (restFields (named id start n) s at))
 unfolding restFields definitionBody definitionStruct andThen shapeRead readAs
-times-whole id start n s at q p kind len types at₁ e how timed expiry ps p₁ next e₁ = rw (← p, e, ← p₁, e₁)
+times-whole id start n s at q p kind len types at₁ e t p₁ next e₁ = rw (← p, e, times-given (timesFields types s at₁) t p₁, e₁)
 
 pub ruleset rest-laws = (needs, shape-short, shape-out, times-short, times-out, times-whole)
 

@@ -5,7 +5,7 @@ use mathlib.Core.Path.{_≡_, refl, _∙_}
 use mathlib.Core.List.{List}
 use mathlib.Core.Bool.{true, false}
 use lib.Dec.{eqb}
-use lib.ListN.{length}
+use lib.ListN.{length, replicate}
 use borrow.Author.Needs.{needs}
 use borrow.Author.Tests.{lt-leb, le-leb, eq-eqb, ne-eqb}
 use Rattle.lists.proofs.Cases.{lt-or-le, split}
@@ -14,11 +14,12 @@ use Rattle.wire.specs.declared.values.Field.the-variants as field
 use Rattle.store.specs.Limits.{present}
 use Rattle.body.specs.declared.Word.{Word}
 use Rattle.body.specs.declared.Word.the-variants as word
-use Rattle.body.specs.Fields.{Read, got, andThen, integer, between, integerOf}
-use Rattle.body.specs.Bodies.{pairField, periodField, periodFields, Times, noTimes, timesThere, timesFields}
-use Rattle.body.specs.Results.{fieldRead, wordRead, readAs}
+use Rattle.body.specs.Fields.{andThen, integer, between, integerOf}
+use Rattle.body.specs.Bodies.{pairField, periodField, periodFields, noTimes, timesThere, timesFields}
+use Rattle.body.specs.Results.{fieldRead, wordRead, readAs, timesStruct, timesResult}
 use Rattle.body.specs.declared.Reading.{Reading}
 use Rattle.body.specs.declared.Reading.the-variants as reading
+use Rattle.body.specs.declared.times.TimesRead.{TimesRead}
 use Rattle.body.proofs.FieldLaws.{same-integer, so-true, so-false}
 
 -- an exact value
@@ -63,30 +64,44 @@ module _ (t : ℕ) (s : List ℕ) (at : ℕ) (r : Field) (p : fieldRead r ≡ in
 
 pub ruleset pair-laws = (needs, pair-short, pair-out, pair-number)
 
--- ---- `read_times`, where x is what `no_times` says was read and w what was read of the expiry
+-- ---- `read_times`, where w is what was read of the expiry, and how and ps what was read of the periods
 module _ (types : ℕ) (s : List ℕ) (at : ℕ) where
-  pub ended : (x : Read Times) → x ≡ readAs (reading.Whole at) noTimes → at ≡ length s → x ≡ timesFields types s at
-  unfolding timesFields readAs
+  pub ended : (x : TimesRead) → x ≡ timesStruct (reading.Whole at) noTimes → at ≡ length s → x ≡ timesResult (timesFields types s at)
+  unfolding timesFields timesResult
   ended x p h = p ∙ rw (eq-eqb at (length s) h)
 
   module _ (h : at ≡ length s → ⊥) (w : Word) (p : wordRead w ≡ integerOf 32 s at) where
-    pub expiry-short : (x : Read Times) → x ≡ readAs reading.Short noTimes → w ≡ word.Short → x ≡ timesFields types s at
-    unfolding timesFields timesThere readAs andThen wordRead
+    pub expiry-short : (x : TimesRead) → x ≡ timesStruct reading.Short noTimes → w ≡ word.Short → x ≡ timesResult (timesFields types s at)
+    unfolding timesFields timesThere timesResult andThen wordRead
     expiry-short x q e = q ∙ rw (ne-eqb at (length s) h, ← p, e)
 
-    pub expiry-out : (x : Read Times) → x ≡ readAs reading.OutOfRange noTimes → w ≡ word.OutOfRange → x ≡ timesFields types s at
-    unfolding timesFields timesThere readAs andThen wordRead
+    pub expiry-out : (x : TimesRead) → x ≡ timesStruct reading.OutOfRange noTimes → w ≡ word.OutOfRange → x ≡ timesResult (timesFields types s at)
+    unfolding timesFields timesThere timesResult andThen wordRead
     expiry-out x q e = q ∙ rw (ne-eqb at (length s) h, ← p, e)
 
-    pub expiry-value : (expiry at₁ : ℕ) → w ≡ word.Value expiry at₁ → (how : Reading) (ps : List ℕ) → readAs how ps ≡ periodFields types s at₁
-        → readAs {A = Times} how (record { timed = 1; expiry = expiry; periods = ps }) ≡ timesFields types s at
-    unfolding timesFields timesThere andThen wordRead readAs
-    expiry-value expiry at₁ e how ps q = rw (ne-eqb at (length s) h, ← p, e, ← q) (by-reading how)
-      where
-        by-reading : (how : Reading) → readAs {A = Times} how (record { timed = 1; expiry = expiry; periods = ps })
-            ≡ andThen (readAs how ps) λ periods at₂. got (record { timed = 1; expiry = expiry; periods = periods }) at₂
-        by-reading (reading.Whole n) = refl
-        by-reading reading.Short = refl
-        by-reading reading.OutOfRange = refl
+    module _ (expiry at₁ : ℕ) (e : w ≡ word.Value expiry at₁) (how : Reading) (ps : List ℕ) (p₁ : readAs how ps ≡ periodFields types s at₁) where
+      pub periods-short : (x : TimesRead) → x ≡ timesStruct reading.Short noTimes
+          → how ≡ reading.Short → x ≡ timesResult (timesFields types s at)
+      unfolding timesFields timesThere timesResult andThen wordRead readAs
+      periods-short x q e₁ = q ∙ rw (ne-eqb at (length s) h, ← p, e, ← p₁, e₁)
 
-pub ruleset times-laws = (needs, ended, expiry-short, expiry-out, expiry-value)
+      pub periods-out : (x : TimesRead) → x ≡ timesStruct reading.OutOfRange noTimes
+          → how ≡ reading.OutOfRange → x ≡ timesResult (timesFields types s at)
+      unfolding timesFields timesThere timesResult andThen wordRead readAs
+      periods-out x q e₁ = q ∙ rw (ne-eqb at (length s) h, ← p, e, ← p₁, e₁)
+
+      pub periods-whole : (next : ℕ) → how ≡ reading.Whole next
+          → _≡_ {A = TimesRead}
+          (record { reading = reading.Whole next; timed = 1; expiry = expiry; periods = ps })
+          (timesResult (timesFields types s at))
+      unfolding timesFields timesThere timesResult timesStruct andThen wordRead readAs
+      periods-whole next e₁ = rw (ne-eqb at (length s) h, ← p, e, ← p₁, e₁)
+
+pub ruleset times-laws = (needs, ended, expiry-short, expiry-out, periods-short, periods-out, periods-whole)
+
+-- ---- `no_times`
+pub none : (how : Reading) → _≡_ {A = TimesRead} (record { reading = how; timed = 0; expiry = 0; periods = replicate 8 0 }) (timesStruct how noTimes)
+unfolding timesStruct
+none how = refl
+
+pub ruleset blank-laws = (needs, none)

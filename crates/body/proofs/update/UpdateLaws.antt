@@ -4,7 +4,7 @@ use mathlib.Core.Path.{_≡_, refl, _∙_}
 use mathlib.Core.List.{List}
 use mathlib.Core.Bool.{true, false}
 use lib.ListN.{replicate}
-use lib.IntN.{pos, ℤ}
+use lib.IntN.{pos}
 use borrow.Author.Needs.{needs}
 use Rattle.wire.specs.declared.values.ServerId.the-variants as server
 use Rattle.store.specs.declared.types.KeyKind.{KeyKind}
@@ -12,15 +12,17 @@ use Rattle.store.specs.Limits.{keyKind, isString}
 use Rattle.body.specs.declared.PartRead.{PartRead}
 use Rattle.body.specs.declared.PartRead.the-variants as part
 use Rattle.body.specs.Fields.{andThen, bytes, numberRead, number4}
-use Rattle.body.specs.Bodies.{stringField, keyField, Data, dataFields, entryFields, updateFields, incrementalFields}
-use Rattle.body.specs.Results.{partRead, readAs, updateStruct, noUpdate, updateBody}
+use Rattle.body.specs.Bodies.{stringField, keyField, dataFields, entryFields, updateFields, incrementalFields}
+use Rattle.body.specs.Results.{partRead, readAs, dataResult, updateStruct, noUpdate, updateBody}
 use Rattle.wire.specs.declared.fixed.FourBytes.{FourBytes}
 use Rattle.wire.specs.declared.fixed.FourBytes.the-variants as number
 use Rattle.wire.specs.Number.{readNumber}
 use Rattle.store.specs.declared.Table.{Table}
 use Rattle.body.specs.declared.Reading.{Reading}
 use Rattle.body.specs.declared.Reading.the-variants as reading
+use Rattle.body.specs.declared.update_data.DataRead.{DataRead}
 use Rattle.body.specs.declared.update.UpdateBody.{UpdateBody}
+use Rattle.body.proofs.Given.{data-given}
 use Rattle.body.proofs.FieldLaws.{so-true, so-false}
 
 -- ---- `read_key`
@@ -48,25 +50,25 @@ module _ (t : Table) (id : ℕ) (s : List ℕ) (at : ℕ) (q : PartRead) (p : pa
   key-out x h e = h ∙ rw (← p, e)
 
   module _ (start len at₁ : ℕ) (e : q ≡ part.Bytes start len at₁)
-      (how : Reading) (d : Data) (p₁ : readAs how d ≡ dataFields (t .«data_types») s at₁) where
+      (d : DataRead) (p₁ : d ≡ dataResult (dataFields (t .«data_types») s at₁)) where
     pub data-short : (x : UpdateBody) → x ≡ updateStruct reading.Short noUpdate
-        → how ≡ reading.Short → x ≡ updateBody (entryFields t id s at)
+        → d .reading ≡ reading.Short → x ≡ updateBody (entryFields t id s at)
     unfolding entryFields updateBody andThen partRead readAs
-    data-short x h e₁ = h ∙ rw (← p, e, ← p₁, e₁)
+    data-short x h e₁ = h ∙ rw (← p, e, data-given (dataFields (t .«data_types») s at₁) d p₁, e₁)
 
     pub data-out : (x : UpdateBody) → x ≡ updateStruct reading.OutOfRange noUpdate
-        → how ≡ reading.OutOfRange → x ≡ updateBody (entryFields t id s at)
+        → d .reading ≡ reading.OutOfRange → x ≡ updateBody (entryFields t id s at)
     unfolding entryFields updateBody andThen partRead readAs
-    data-out x h e₁ = h ∙ rw (← p, e, ← p₁, e₁)
+    data-out x h e₁ = h ∙ rw (← p, e, data-given (dataFields (t .«data_types») s at₁) d p₁, e₁)
 
-  pub data-whole : (start len at₁ : ℕ) → q ≡ part.Bytes start len at₁ → (how : Reading) (z : ℤ) (vs : List ℕ)
-      → readAs {A = Data} how (record { server = z; values = vs }) ≡ dataFields (t .«data_types») s at₁
-      → (next : ℕ) → how ≡ reading.Whole next
+  pub data-whole : (start len at₁ : ℕ) → q ≡ part.Bytes start len at₁
+      → (d : DataRead) → d ≡ dataResult (dataFields (t .«data_types») s at₁)
+      → (next : ℕ) → d .reading ≡ reading.Whole next
       → _≡_ {A = UpdateBody}
-      (record { reading = reading.Whole next; id = id; «key_at» = start; «key_len» = len; «server_id» = z; values = vs })
+      (record { reading = reading.Whole next; id = id; «key_at» = start; «key_len» = len; «server_id» = d .«server_id»; values = d .values })
       (updateBody (entryFields t id s at))
   unfolding entryFields updateBody updateStruct andThen partRead readAs
-  data-whole start len at₁ e how z vs p₁ next e₁ = rw (← p, e, ← p₁, e₁)
+  data-whole start len at₁ e d p₁ next e₁ = rw (← p, e, data-given (dataFields (t .«data_types») s at₁) d p₁, e₁)
 
 pub ruleset entry-laws = (needs, key-short, key-out, data-short, data-out, data-whole)
 

@@ -4,6 +4,7 @@ use mathlib.Core.Path.{_≡_, refl, _∙_}
 use mathlib.Core.List.{List}
 use mathlib.Core.Bool.{true, false}
 use lib.Dec.{lit≤}
+use lib.ListN.{replicate}
 use lib.IntN.{pos, ℤ}
 use borrow.Author.Needs.{needs}
 use Rattle.wire.specs.declared.values.Field.{Field}
@@ -13,11 +14,12 @@ use Rattle.wire.specs.declared.values.ServerId.the-variants as server
 use Rattle.wire.specs.Value.{readWidth}
 use Rattle.wire.specs.Server.{readServerId}
 use Rattle.store.specs.Limits.{present, isWide, widthOf}
-use Rattle.body.specs.Fields.{Read, got, andThen, serverRead, serverId}
-use Rattle.body.specs.Bodies.{serverField, slotField, valueFields, Data, dataFields}
-use Rattle.body.specs.Results.{fieldRead, readAs, noData}
+use Rattle.body.specs.Fields.{andThen, serverRead, serverId}
+use Rattle.body.specs.Bodies.{serverField, slotField, valueFields, dataFields}
+use Rattle.body.specs.Results.{fieldRead, readAs, dataStruct, noData, dataResult}
 use Rattle.body.specs.declared.Reading.{Reading}
 use Rattle.body.specs.declared.Reading.the-variants as reading
+use Rattle.body.specs.declared.update_data.DataRead.{DataRead}
 use Rattle.body.proofs.FieldLaws.{of-width, so-true, so-false}
 
 -- ---- a field that is there only where its data type is present
@@ -45,25 +47,35 @@ module _ (types : ℕ) (s : List ℕ) (at : ℕ) where
 
 pub ruleset slot-laws = (needs, so-true, so-false, slot-absent, slot-wide, slot-narrow, server-absent, server-there)
 
--- ---- `read_data`, where x is what `no_data` says was read and r what was read of the server ID
+-- ---- `read_data`, where r is what was read of the server ID, and how and vs what was read of the values
 module _ (types : ℕ) (s : List ℕ) (at : ℕ) (r : ServerId) (p : serverRead r ≡ serverField types s at) where
-  pub server-short : (x : Read Data) → x ≡ readAs reading.Short noData → r ≡ server.Short → x ≡ dataFields types s at
-  unfolding dataFields readAs andThen serverRead
+  pub server-short : (x : DataRead) → x ≡ dataStruct reading.Short noData → r ≡ server.Short → x ≡ dataResult (dataFields types s at)
+  unfolding dataFields dataResult andThen serverRead
   server-short x q e = q ∙ rw (← p, e)
 
-  pub server-out : (x : Read Data) → x ≡ readAs reading.OutOfRange noData → r ≡ server.OutOfRange → x ≡ dataFields types s at
-  unfolding dataFields readAs andThen serverRead
+  pub server-out : (x : DataRead) → x ≡ dataStruct reading.OutOfRange noData → r ≡ server.OutOfRange → x ≡ dataResult (dataFields types s at)
+  unfolding dataFields dataResult andThen serverRead
   server-out x q e = q ∙ rw (← p, e)
 
-  pub server-id : (id : ℤ) (at₁ : ℕ) → r ≡ server.Id id at₁ → (how : Reading) (vs : List ℕ) → readAs how vs ≡ valueFields types s at₁
-      → readAs {A = Data} how (record { server = id; values = vs }) ≡ dataFields types s at
-  unfolding dataFields andThen serverRead readAs
-  server-id id at₁ e how vs q = rw (← p, e, ← q) (by-reading how)
-    where
-      by-reading : (how : Reading) → readAs {A = Data} how (record { server = id; values = vs })
-          ≡ andThen (readAs how vs) λ values at₂. got (record { server = id; values = values }) at₂
-      by-reading (reading.Whole n) = refl
-      by-reading reading.Short = refl
-      by-reading reading.OutOfRange = refl
+  module _ (id : ℤ) (at₁ : ℕ) (e : r ≡ server.Id id at₁) (how : Reading) (vs : List ℕ) (p₁ : readAs how vs ≡ valueFields types s at₁) where
+    pub values-short : (x : DataRead) → x ≡ dataStruct reading.Short noData → how ≡ reading.Short → x ≡ dataResult (dataFields types s at)
+    unfolding dataFields dataResult andThen serverRead readAs
+    values-short x q e₁ = q ∙ rw (← p, e, ← p₁, e₁)
 
-pub ruleset data-laws = (needs, server-short, server-out, server-id)
+    pub values-out : (x : DataRead) → x ≡ dataStruct reading.OutOfRange noData → how ≡ reading.OutOfRange → x ≡ dataResult (dataFields types s at)
+    unfolding dataFields dataResult andThen serverRead readAs
+    values-out x q e₁ = q ∙ rw (← p, e, ← p₁, e₁)
+
+    pub values-whole : (next : ℕ) → how ≡ reading.Whole next
+        → _≡_ {A = DataRead} (record { reading = reading.Whole next; «server_id» = id; values = vs }) (dataResult (dataFields types s at))
+    unfolding dataFields dataResult dataStruct andThen serverRead readAs
+    values-whole next e₁ = rw (← p, e, ← p₁, e₁)
+
+pub ruleset data-laws = (needs, server-short, server-out, values-short, values-out, values-whole)
+
+-- ---- `no_data`
+pub none : (how : Reading) → _≡_ {A = DataRead} (record { reading = how; «server_id» = pos 0; values = replicate 34 0 }) (dataStruct how noData)
+unfolding dataStruct
+none how = refl
+
+pub ruleset blank-laws = (needs, none)
