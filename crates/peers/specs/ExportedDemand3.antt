@@ -127,12 +127,12 @@ RawEachCall s t (m ∷ ms) = RawCallAsModel s t m × RawEachCall (m .session) (m
 
 -- ---- 3: a stream that is offered to its end or until the session closes
 
--- "Until the session closes, the host offers untaken bytes again.": each piece is a first part of what is left. With room under 12 a call takes
--- nothing, and all is offered again
+-- "Until the session closes, the host offers untaken bytes again.": until then each piece is a first part of what is left, and after that any
+-- piece. With room under 12 a call takes nothing, and all is offered again
 unfoldable pub RawOffersTo : Session → List ℕ → List RawMade → Type 0
 RawOffersTo s rest [] = (rest ≡ []) ⊎ (isClosed (s .connection) ≡ true)
 RawOffersTo s rest (m ∷ ms) =
-    ((later : List ℕ) × (m .piece ++ later ≡ rest))
+    ((isClosed (s .connection) ≡ true) ⊎ ((later : List ℕ) × (m .piece ++ later ≡ rest)))
     × RawOffersTo (m .session) (drop (m .outcome .taken) rest) ms
 
 -- each piece is all that is left of the current cut: no piece crosses a cut, and none is cut further

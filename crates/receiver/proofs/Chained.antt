@@ -3,15 +3,14 @@ use Prim.Native.Nat.{ℕ, zero, suc, _+_, _^_, _≤_, _<_}
 use native.Mathlib.Omega.{arith}
 use mathlib.Core.Path.{_≡_, refl, sym, ap, subst, _∙_}
 use mathlib.Core.Logic.{_⊎_, inl, inr, ⊎-elim}
-use mathlib.Core.List.{List, [], _∷_, _++_, map}
-use mathlib.Core.Bool.{Bool, true, false, cond, true≢false}
+use mathlib.Core.List.{List, [], _∷_, _++_}
+use mathlib.Core.Bool.{true, false, cond, true≢false}
 use lib.ListN.{length, getD, take, drop, length-append}
 use lib.Seq.{length-take-le}
 use lib.Dec.{eqb, ltb, lit<}
-use borrow.Author.Tests.{eqb-true, eqb-false, eq-eqb, ne-eqb, ltb-true, ltb-false}
-use Rattle.lists.specs.Lists.{every, front}
+use borrow.Author.Tests.{eqb-true, eqb-false, ne-eqb, ltb-true, ltb-false}
+use Rattle.lists.specs.Lists.{every}
 use Rattle.lists.proofs.Cases.{by-test, cond-true, cond-false}
-use Rattle.lists.proofs.Bytes.{front-length}
 use Rattle.store.specs.declared.Store.{Store}
 use Rattle.session.specs.declared.Session.{Session}
 use Rattle.session.specs.declared.Answer.{Answer}
@@ -19,18 +18,18 @@ use Rattle.session.specs.declared.Answer.the-variants as answer
 use Rattle.session.specs.Session.{holding, isClosed, unfinished}
 use Rattle.session.proofs.Holding.{unfinished-held}
 use Rattle.session_soundness.specs.Sound.{sound}
-use Rattle.streams.specs.Model.{Fed, quiet, answered, Item, byte, bytes, Ran, feedAll}
-use Rattle.streams.specs.Calls.{Call, Step, reading, Response, Result, resultOf, stay, respond, scan, readCall, runCalls, takenOf, Offers, ofBytes}
-use Rattle.streams.specs.Claim.{Lawful, AsModel}
+use Rattle.streams.specs.Model.{answered, Item, byte, bytes}
+use Rattle.streams.specs.Calls.{Call, Step, reading, Result, respond, scan, readCall, runCalls, takenOf, Offers, ofBytes}
+use Rattle.streams.specs.Claim.{Lawful}
 use Rattle.streams.proofs.Basics.{by-fed, every-nil, every-cons, every-both}
-use Rattle.streams.proofs.OneCall.{as-model, scan-nil, scan-quiet, scan-answered, call-short, call-closed, call-reads}
+use Rattle.streams.proofs.OneCall.{scan-nil, scan-quiet, scan-answered, call-short, call-closed, call-reads}
 use Rattle.streams.proofs.Theorem.{call-inside, call-good}
 use Rattle.receiver.specs.Model.{State, Event, heldBy, soundState, ends, feed, isByte, peers}
 use Rattle.receiver.specs.Good.{Good}
 use Rattle.receiver.specs.Promise.{Made, Shaped, ReadPromise}
-use Rattle.receiver.specs.Demand3.{Chain, replyIn, takenBy, lastSession, lastStore, responsesOf, repliesOf, cameTo, callMade, OffersTo}
+use Rattle.receiver.specs.Demand3.{Chain, takenBy, lastSession, lastStore, responsesOf, repliesOf, cameTo, callMade, OffersTo}
 use Rattle.receiver.proofs.Held.{sound-held, state-fits}
-use Rattle.receiver.proofs.OneRead.{modelCall, made-taken, made-answer, made-reply, made-state, made-sound, made-good, made-is, kept, room-kept, taken-session}
+use Rattle.receiver.proofs.OneRead.{modelCall, made-taken, made-state, made-sound, made-good, made-is, kept, taken-session}
 
 -- the calls as steps of the model
 unfoldable pub stepsOf : List Made → List (Step Event)
@@ -129,7 +128,10 @@ module _ (law : Lawful peers Good) where
       let g′ = made-good s t m (h .0) f law g in
       let e = made-state s t m (h .0) f law g in
       let r = offers (m .session) (m .store) ms (drop (m .outcome .taken) stream) (h .1) f′ g′ (o .1) in (
-        (bytes (o .0 .0), sym (bytes-append (m .piece) (o .0 .0)) ∙ ap (λ (l : List ℕ). bytes l) (o .0 .1)),
+        ⊎-elim
+            (λ c. inl (closed-held s t ∙ c))
+            (λ r. inr (bytes (r .0), sym (bytes-append (m .piece) (r .0)) ∙ ap (λ (l : List ℕ). bytes l) (r .1)))
+            (o .0),
         subst (λ (k : State). Offers peers k (drop (modelCall s t m .taken) (bytes stream)) (stepsOf ms)) e
             (subst (λ (l : List (Item Event)). Offers peers (heldBy (m .session) (m .store)) l (stepsOf ms))
             (sym (bytes-drop (m .outcome .taken) stream) ∙ ap (λ (n : ℕ). drop n (bytes stream)) (made-taken s t m (h .0) f)) r),

@@ -3,7 +3,7 @@ use Prim.Native.Nat.{ℕ, zero, suc, _+_, _≤_}
 use native.Mathlib.Omega.{arith}
 use mathlib.Core.Path.{_≡_, refl, sym, ap, _∙_, subst}
 use mathlib.Core.Logic.{_⊎_, inl, inr, ⊎-elim}
-use mathlib.Core.Bool.{Bool, true, false, _||_}
+use mathlib.Core.Bool.{true, false, _||_}
 use mathlib.Core.List.{List, [], _∷_, _++_}
 use lib.ListN.{length, take, drop}
 use lib.Dec.{ltb, eqb}
@@ -92,7 +92,7 @@ empty-none : (s : Session) (t : Store) (ms : List Made) → Chain s t ms → Off
 unfolding Chain takenBy OffersTo
 empty-none s t [] c o = refl
 empty-none s t (m ∷ ms) c o =
-    let z = empty-takes s t m (c .0) (first-none (m .piece) (o .0 .0) (o .0 .1)) in
+    let z = ⊎-elim (λ k. closed-takes s t m (c .0) k) (λ r. empty-takes s t m (c .0) (first-none (m .piece) (r .0) (r .1))) (o .0) in
     rw (z, empty-none (m .session) (m .store) ms (c .1) (subst (λ (n : ℕ). OffersTo (m .session) (drop n []) ms) z (o .1)))
 
 -- where a stream was offered and nothing was taken, the stream is empty or the session was closed

@@ -1,23 +1,20 @@
 -- For every cutting of every stream there is a list of calls that offers it.
-use Prim.Native.Nat.{ℕ, zero, suc, _+_, _≤_, _<_}
-use native.Mathlib.Omega.{arith}
+use Prim.Native.Nat.{ℕ, _+_, _≤_}
 use mathlib.Core.Path.{_≡_, refl, sym, ap, subst, _∙_}
 use mathlib.Core.Logic.{_⊎_, inl, inr, ⊎-elim}
 use mathlib.Core.List.{List, [], _∷_, _++_, flatten}
-use mathlib.Core.Bool.{Bool, true, false, cond}
-use lib.ListN.{length, take, drop}
+use mathlib.Core.Bool.{true}
+use lib.ListN.{length, drop}
 use lib.Dec.{eqb}
 use borrow.Author.Tests.{eqb-true}
-use Rattle.lists.specs.Lists.{every, front, padTo}
+use Rattle.lists.specs.Lists.{every, front}
 use Rattle.lists.proofs.Cases.{by-test}
 use Rattle.store.specs.declared.Store.{Store}
 use Rattle.session.specs.declared.Session.{Session}
-use Rattle.session.specs.declared.Answer.{Answer}
-use Rattle.session.specs.Session.{holding, isClosed}
 use Rattle.session_soundness.specs.Sound.{sound}
 use Rattle.session.proofs.Shapes.{holding-shape}
-use Rattle.streams.specs.Model.{Item, byte, bytes, bytesIn}
-use Rattle.streams.specs.Calls.{Call, Step, reading, happening, readCall, Offers, WithinCuts, ofBytes, readsIn, current, without}
+use Rattle.streams.specs.Model.{Item, bytes, bytesIn}
+use Rattle.streams.specs.Calls.{Step, reading, happening, readCall, Offers, WithinCuts, ofBytes, readsIn, without}
 use Rattle.streams.specs.Claim.{Lawful}
 use Rattle.streams.proofs.Basics.{every-cons}
 use Rattle.streams.proofs.Timeline.{bytesIn-bytes}
@@ -28,7 +25,7 @@ use Rattle.receiver.specs.Good.{Good}
 use Rattle.receiver.specs.Promise.{Made, Shaped, ReadPromise, callOf, outcomeOf, sessionOf}
 use Rattle.receiver.specs.Demand3.{Chain, OffersTo, WithinCutsOf, RoomsAre, Offering}
 use Rattle.receiver.proofs.Held.{state-fits}
-use Rattle.receiver.proofs.OneRead.{modelCall, made-taken, made-store, made-state, made-sound, made-good, kept, taken-session}
+use Rattle.receiver.proofs.OneRead.{modelCall, made-taken, made-store, made-state, made-sound, kept, taken-session}
 use Rattle.receiver.proofs.Chained.{good-held, closed-held, bytes-drop}
 
 only-bytes : (xs : List ℕ) → bytesIn (bytes {E = Event} xs) ≡ xs
@@ -117,7 +114,7 @@ module _ (law : Lawful peers Good) where
       (ap (λ (x : ℕ). drop x (bytes rest)) (sym (made-taken s t m p f)) ∙ bytes-drop (m .outcome .taken) rest)
       (subst (λ (x : State). Offers peers x (drop (modelCall s t m .taken) (bytes rest)) steps) (sym (made-state s t m p f law g))
       (subst (λ (x : ℕ). Offers peers (readCall peers (heldBy s t) piece x .state) (drop (readCall peers (heldBy s t) piece x .taken) (bytes rest)) steps) e (o .1))) in (
-        (bytesIn (o .0 .0), front-bytes piece (o .0 .0) rest (o .0 .1)),
+        ⊎-elim (λ c. inl (sym (closed-held s t) ∙ c)) (λ l. inr (bytesIn (l .0), front-bytes piece (l .0) rest (l .1))) (o .0),
         offered (m .session) (m .store) room (drop (m .outcome .taken) rest) steps (next-shaped s t m p f g) (made-sound s t m p f law g) (d .1) (k .1) w,
       )
   offered s t room rest (happening e ∷ steps) sh f q r o = absurd e

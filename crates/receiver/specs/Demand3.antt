@@ -1,9 +1,9 @@
 -- Demand 3: one claim over every list of reading calls, any pieces, any room.
-use Prim.Native.Nat.{ℕ, _≤_, _<_}
+use Prim.Native.Nat.{ℕ, _≤_}
 use mathlib.Core.Path.{_≡_}
 use mathlib.Core.Logic.{_⊎_}
 use mathlib.Core.List.{List, [], _∷_, _++_, flatten}
-use mathlib.Core.Bool.{Bool, true, false, cond, _||_}
+use mathlib.Core.Bool.{true, false, cond, _||_}
 use lib.ListN.{length, take, drop}
 use lib.Dec.{eqb}
 use Rattle.lists.specs.Lists.{every}
@@ -96,12 +96,12 @@ EachCall s t (m ∷ ms) = CallAsModel s t m × EachCall (m .session) (m .store) 
 
 -- ---- 3: a stream that is offered to its end or until the session closes
 
--- "Until the session closes, the host offers untaken bytes again.": each piece is a first part of what is left. With room under 12 a call takes
--- nothing, and all is offered again
+-- "Until the session closes, the host offers untaken bytes again.": until then each piece is a first part of what is left, and after that any
+-- piece. With room under 12 a call takes nothing, and all is offered again
 unfoldable pub OffersTo : Session → List ℕ → List Made → Type 0
 OffersTo s rest [] = (rest ≡ []) ⊎ (isClosed (s .connection) ≡ true)
 OffersTo s rest (m ∷ ms) =
-    ((later : List ℕ) × (m .piece ++ later ≡ rest))
+    ((isClosed (s .connection) ≡ true) ⊎ ((later : List ℕ) × (m .piece ++ later ≡ rest)))
     × OffersTo (m .session) (drop (m .outcome .taken) rest) ms
 
 -- each piece is all that is left of the current cut: no piece crosses a cut, and none is cut further

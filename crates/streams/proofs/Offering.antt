@@ -92,7 +92,7 @@ module _ {S A E : Type 0} (R : Receiver S A E) where
         (every-both (every (R .isByte)) (drop (c .taken) p) cuts (every-drop (R .isByte) (c .taken) p (d .0)) (d .1)) in
         record {
           steps = reading p room ∷ o .steps;
-          offers = ((bytes (flatten cuts), sym (map-append byte p (flatten cuts))), rw (bytes-drop (c .taken) p (flatten cuts) i) at (o .offers));
+          offers = (inr (bytes (flatten cuts), sym (map-append byte p (flatten cuts))), rw (bytes-drop (c .taken) p (flatten cuts) i) at (o .offers));
           within = (refl, o .within);
           calls = every-both (readsIn room) (reading p room) (o .steps) (eq-eqb room room refl) (o .calls);
           on-bytes = every-both (ofBytes R) (reading p room) (o .steps) (d .0) (o .on-bytes);

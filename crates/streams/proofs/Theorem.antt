@@ -86,6 +86,15 @@ module _ {S A E : Type 0} (R : Receiver S A E) where
     called-inside s p c (stays n e) = omega arith
     called-inside s p c reads = scan-inside R s p
 
+    -- A call on a closed session takes nothing
+    closed-takes : (s : S) (p : List ℕ) (room : ℕ) → R .closed s ≡ true → readCall R s p room .taken ≡ 0
+    closed-takes s p room t =
+        by-test (ltb room (R .least))
+        (λ h. rw (call-short R s p room (ltb-true _ _ h)))
+        (λ h.
+        let l = ltb-false room (R .least) h in
+        by-test (R .sound s) (λ f. rw (call-closed R s p room l f t)) (λ f. rw (call-unsound R s p room l f)))
+
     pub call-inside : (s : S) (p : List ℕ) (room : ℕ) → readCall R s p room .taken ≤ length p
     call-inside s p room = called-inside s p (readCall R s p room) (called s p room)
 
@@ -121,7 +130,11 @@ module _ {S A E : Type 0} (R : Receiver S A E) where
         let c = readCall R s p room in
         ap (preceded c) (runs-whole (c .state) u steps (drop (c .taken) stream) (o .1))
         ∙ (called-fed s u p (drop (c .taken) stream) c (called s p room)
-        ∙ ap (λ (l : List (Item E)). resultOf (feedAll R s u l)) (rest-split (c .taken) p (o .0 .0) stream (call-inside s p room) (o .0 .1)))
+        ∙ ap (λ (l : List (Item E)). resultOf (feedAll R s u l))
+        (⊎-elim
+        (λ t. ap (λ (n : ℕ). bytes (take n p) ++ drop n stream) (closed-takes s p room t))
+        (λ r. rest-split (c .taken) p (r .0) stream (call-inside s p room) (r .1))
+        (o .0)))
     runs-whole s u (happening e ∷ steps) stream o = rw (← o .1) (runs-whole (R .act e s) u steps (o .0) (o .2))
 
     each-call : (s : S) (steps : List (Step E)) → Good s → every (ofBytes R) steps ≡ true

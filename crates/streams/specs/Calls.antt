@@ -1,5 +1,5 @@
 -- Reading calls by the byte model, lists of calls, and the offering of a timeline.
-use Prim.Native.Nat.{ℕ, suc, _≤_}
+use Prim.Native.Nat.{ℕ, suc}
 use mathlib.Core.Path.{_≡_}
 use mathlib.Core.Logic.{_⊎_}
 use mathlib.Core.List.{List, [], _∷_, _++_, map, flatten}
@@ -97,12 +97,12 @@ module _ {S A E : Type 0} (R : Receiver S A E) where
       bytes (take (c .taken) piece) ++ takenOf (c .state) steps
   takenOf s (happening e ∷ steps) = event e ∷ takenOf (R .act e s) steps
 
-  -- The steps offer the timeline `rest`. "Until the session closes, the host offers untaken bytes again."
+  -- The steps offer the timeline `rest`. "Until the session closes, the host offers untaken bytes again.": after that a call may have any piece
   unfoldable pub Offers : S → List (Item E) → List (Step E) → Type 0
   Offers s rest [] = (rest ≡ []) ⊎ ((R .closed s ≡ true) × ((last : List ℕ) × (rest ≡ bytes last)))
   Offers s rest (reading piece room ∷ steps) =
       let c = readCall s piece room in
-      ((later : List (Item E)) × (bytes piece ++ later ≡ rest)) × Offers (c .state) (drop (c .taken) rest) steps
+      ((R .closed s ≡ true) ⊎ ((later : List (Item E)) × (bytes piece ++ later ≡ rest))) × Offers (c .state) (drop (c .taken) rest) steps
   Offers s rest (happening e ∷ steps) =
       (later : List (Item E)) × (event e ∷ later ≡ rest) × Offers (R .act e s) later steps
 
