@@ -10,7 +10,6 @@ use borrow.Author.Tests.{leb-true}
 use Rattle.wire.specs.declared.Int.{Int}
 use Rattle.wire.specs.declared.Int.the-variants as int
 use Rattle.wire.specs.Integer.{readInt}
-use Rattle.wire.specs.Value.{Bytes}
 use Rattle.lists.proofs.Cases.{lt-or-le, split}
 use Rattle.wire.proofs.Advance.{advance}
 use Rattle.frame.specs.declared.Header.{Header}

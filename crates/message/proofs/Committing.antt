@@ -26,7 +26,7 @@ use Rattle.body.specs.Results.{readAs}
 use Rattle.message.specs.declared.Change.{Change}
 use Rattle.message.specs.declared.Asked.{Asked}
 use Rattle.message.specs.Changes.{entryChange}
-use Rattle.message.specs.Effects.{Asks, fieldsThen, refusal, acknowledge, commitAt, updatedEntry, withFields}
+use Rattle.message.specs.Effects.{fieldsThen, refusal, acknowledge, commitAt, updatedEntry, withFields}
 use Rattle.message.specs.Structs.{effectStruct, asksCommit, asked, updateRead}
 use Rattle.message.proofs.Settling.{struct}
 

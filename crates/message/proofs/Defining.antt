@@ -4,7 +4,7 @@ use native.Mathlib.Omega.{arith}
 use mathlib.Core.Path.{_≡_, refl, sym, ap, _∙_}
 use mathlib.Core.Bool.{Bool, true, false}
 use mathlib.Core.List.{List, []}
-use lib.ListN.{length, take, drop, getD, List·getD-eq-default}
+use lib.ListN.{length, take, drop, getD}
 use lib.Dec.{eqb}
 use mir.Val.{Fits}
 use mir.Syntax.{w64}
@@ -14,10 +14,8 @@ use Rattle.lists.specs.declared.Found.{Found}
 use Rattle.lists.specs.declared.Found.the-variants as found
 use Rattle.lists.specs.Lists.{firstPlace}
 use Rattle.lists.proofs.Cases.{cond-true, cond-false, and-true, and-false}
-use Rattle.lists.proofs.Every.{getD-any}
 use Rattle.store.specs.declared.Table.{Table}
 use Rattle.store.specs.Store.{tableFree, tableNamed, makeTable, noTable}
-use Rattle.lists.proofs.Maps.{length-mapped}
 use Rattle.session.specs.declared.Connection.{Connection}
 use Rattle.session.specs.declared.Reply.{Reply}
 use Rattle.session.specs.declared.Answer.the-variants as answer

@@ -2,8 +2,8 @@
 -- expiry.
 use Prim.Native.Nat.{ℕ, _-_}
 use mathlib.Core.Path.{_≡_, refl, sym, ap, _∙_}
-use mathlib.Core.List.{List, [], _∷_, _++_}
-use mathlib.Core.Bool.{Bool, true, false, cond, true≢false}
+use mathlib.Core.List.{List, _++_}
+use mathlib.Core.Bool.{Bool, true, false, true≢false}
 use lib.ListN.{getD}
 use lib.Dec.{eqb}
 use borrow.Author.Tests.{eqb-true}
@@ -15,7 +15,7 @@ use Rattle.session.specs.declared.Answer.{Answer}
 use Rattle.session.specs.declared.Answer.the-variants as answer
 use Rattle.session.specs.Session.{bindingAt, isUpdated}
 use Rattle.body.specs.Fields.{Read, got, short, outside, spanIn}
-use Rattle.body.specs.Bodies.{Definition, definitionFields, switchFields, Acknowledged, acknowledgementFields, Update, updateFields, incrementalFields}
+use Rattle.body.specs.Bodies.{Definition, definitionFields, switchFields, acknowledgementFields, Update, updateFields, incrementalFields}
 use Rattle.body.proofs.Behind.{definition-behind, update-behind, incremental-behind, switch-behind, acknowledgement-behind}
 use Rattle.body.proofs.Spans.{span-behind}
 use Rattle.body.proofs.Within.{definition-within, update-within, incremental-within}

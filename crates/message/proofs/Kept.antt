@@ -1,46 +1,45 @@
 -- What a message does keeps record and store sound, and their shape; its reply is short.
-use Prim.Native.Nat.{ℕ, zero, suc, _+_, _-_, _^_, _≤_, _<_}
+use Prim.Native.Nat.{ℕ, _+_, _-_, _^_, _≤_, _<_}
 use native.Mathlib.Omega.{arith}
 use mathlib.Core.Path.{_≡_, refl, sym, ap, subst, _∙_}
 use mathlib.Core.Logic.{_⊎_, inl, inr, ⊎-elim}
-use mathlib.Core.List.{List, [], _∷_, _++_}
-use mathlib.Core.Bool.{Bool, true, false, cond, _&&_, true≢false}
+use mathlib.Core.List.{List}
+use mathlib.Core.Bool.{true, false, cond, _&&_, true≢false}
 use lib.ListN.{length, getD}
 use lib.Seq.{getD-set-same}
 use lib.IntN.{ℤ}
-use lib.Dec.{ltb, leb, eqb, lit<}
+use lib.Dec.{leb, eqb, lit<}
 use borrow.Author.Tests.{eqb-true, eq-eqb, ne-eqb, leb-true}
 use Rattle.lists.specs.declared.Found.{Found}
 use Rattle.lists.specs.declared.Found.the-variants as found
 use Rattle.lists.specs.Lists.{firstPlace}
-use Rattle.lists.proofs.Cases.{by-test, and-first, and-second, and-true, cond-true, cond-false, never, not-passed, eq-or-ne, lt-or-le}
+use Rattle.lists.proofs.Cases.{by-test, and-first, and-second, cond-true, cond-false, lt-or-le}
 use Rattle.store.specs.declared.Definition.{Definition as Rules}
 use Rattle.store.specs.declared.Table.{Table}
 use Rattle.store.specs.declared.Entry.{Entry}
 use Rattle.store.specs.declared.Store.{Store}
-use Rattle.store.specs.Limits.{keyKind, isKnown, isString, keyLengthOk, dataTypesOk, slotTypes}
-use Rattle.store.specs.Store.{tableHeld, entryHeld, tableFree, entryFree, nameOf, keyOf, tableNamed, entryKeyed, findTable, findEntry, freeTable, freeEntry, putTable, putEntry, makeTable, makeEntry, noTable, noEntry}
+use Rattle.store.specs.Limits.{keyKind, isKnown, isString, keyLengthOk, slotTypes}
+use Rattle.store.specs.Store.{tableHeld, tableFree, entryFree, nameOf, keyOf, tableNamed, entryKeyed, findTable, findEntry, freeTable, putTable, putEntry, makeTable, makeEntry, noTable, noEntry}
 use Rattle.store.specs.declared.entries.Place.{Place}
 use Rattle.store.specs.Places.{freeOf, placeOf}
 use Rattle.store.specs.Sound.{entryKeyLengthOk, slotsOk, valuesOk}
-use Rattle.store.specs.Shape.{Cells, TableShape, EntryShape, StoreShape}
+use Rattle.store.specs.Shape.{TableShape, EntryShape, StoreShape}
 use Rattle.store.proofs.Rules.{key-length-most}
 use Rattle.store.proofs.Facts.{TableFacts, EntryFacts, SoundStore}
 use Rattle.store.proofs.Kept.{table-found, table-missing, entry-missing, table-place, free-not-held, only-table, only-entry, put-table-shape, put-entry-shape, made-entry-shape, made-table-shape}
-use Rattle.store.proofs.Ruled.{EntryRules, Agrees, TableRules, put-entry-facts, put-table-facts, made-key, made-rest, made-name}
+use Rattle.store.proofs.Ruled.{Agrees, put-entry-facts, put-table-facts, made-key, made-rest, made-name}
 use Rattle.session.specs.declared.Connection.{Connection}
 use Rattle.session.specs.declared.Commit.{Commit}
 use Rattle.session.specs.declared.Commit.the-variants as commit
 use Rattle.session.specs.declared.Answer.{Answer}
-use Rattle.session.specs.declared.Answer.the-variants as answer
-use Rattle.session.specs.Session.{closedWith, makeCurrent, bind, committed, findBound, bindingAt, isBound, boundTo}
+use Rattle.session.specs.Session.{closedWith, makeCurrent, bind, committed, findBound, bindingAt}
 use Rattle.session_soundness.specs.Sound.{isClosing, refusesOpening}
 use Rattle.session.specs.Shape.{ConnectionShape}
-use Rattle.session_soundness.proofs.Facts.{SoundConnection, heldAt, bound-to-bound}
-use Rattle.session_soundness.proofs.Keeping.{put-keeps, close-keeps, establish-keeps, current-keeps, bind-keeps, commit-keeps}
+use Rattle.session_soundness.proofs.Facts.{SoundConnection, bound-to-bound}
+use Rattle.session_soundness.proofs.Keeping.{put-keeps, close-keeps, current-keeps, bind-keeps, commit-keeps}
 use Rattle.session.proofs.Bindings.{found-bound}
 use Rattle.session.proofs.Shapes.{closed-shape, current-shape, bind-shape, commit-shape}
-use Rattle.body.specs.Fields.{Read, got, short, outside, Span, spanIn}
+use Rattle.body.specs.Fields.{got, short, spanIn}
 use Rattle.body.specs.Bodies.{Definition, definitionFields, Update}
 use Rattle.body.proofs.Spans.{span-length, span-bytes}
 use Rattle.body.proofs.Within.{definition-within, UpdateWithin}

@@ -29,7 +29,7 @@ use Rattle.message.specs.declared.Change.{Change}
 use Rattle.message.specs.declared.Effect.{Effect as EffectStruct}
 use Rattle.message.specs.declared.Asked.{Asked}
 use Rattle.message.specs.Changes.{noChange, tableChange, entryChange}
-use Rattle.message.specs.Effects.{Effect, note, refuse, refusal, fieldsThen, controlAnswer, controlReply, control, peerError, switchTo, switch, acknowledgement, skipped}
+use Rattle.message.specs.Effects.{note, refuse, refusal, fieldsThen, controlAnswer, controlReply, control, peerError, switchTo, switch, acknowledgement, skipped}
 use Rattle.message.specs.Structs.{effectStruct, asksNothing, asksCommit, asked}
 
 abbrev pub struct : Answer → Reply → Connection → Change → EffectStruct

@@ -22,7 +22,7 @@ use Rattle.body.proofs.Within.{update-within, incremental-within}
 use Rattle.body.proofs.Given.{update-given}
 use Rattle.message.specs.declared.Effect.{Effect as EffectStruct}
 use Rattle.message.specs.declared.Asked.{Asked}
-use Rattle.message.specs.Effects.{Asks, does, refusal, definition, switch, acknowledgement, skipped, withFields, followingId, incrementalOf, update, incremental, stickTable}
+use Rattle.message.specs.Effects.{Asks, refusal, definition, switch, acknowledgement, skipped, withFields, followingId, incrementalOf, update, incremental, stickTable}
 use Rattle.message.specs.Structs.{effectStruct, asksNothing, asked, updateRead}
 
 -- ---- the key that was read lies within the body

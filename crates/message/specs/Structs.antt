@@ -1,6 +1,6 @@
 -- What the functions return: structs, with a reply in its array; and what the struct of an update's fields says was read.
 use Prim.Native.Nat.{ℕ}
-use mathlib.Core.List.{List, []}
+use mathlib.Core.List.{[]}
 use mathlib.Core.Bool.{true, false, cond}
 use Rattle.store.specs.declared.Entry.{Entry}
 use Rattle.store.specs.Store.{noEntry}

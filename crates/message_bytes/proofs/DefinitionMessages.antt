@@ -7,35 +7,24 @@ use mathlib.Core.List.{List}
 use lib.ListN.{length, drop, getD}
 use lib.Seq.{getD-set-same}
 use lib.Dec.{eqb}
-use borrow.Author.Tests.{eqb-true}
-use Rattle.lists.specs.declared.Found.{Found}
-use Rattle.lists.specs.declared.Found.the-variants as found
-use Rattle.lists.proofs.Cases.{by-test}
 use Rattle.wire.proofs.Sizes.{drop-bytes}
 use Rattle.store.specs.declared.Table.{Table}
-use Rattle.store.specs.declared.Entry.{Entry}
 use Rattle.store.specs.declared.Store.{Store}
 use Rattle.store.specs.Limits.{present, rateTypes}
 use Rattle.store.specs.Shape.{TableShape}
 use Rattle.store.specs.Sound.{soundTable}
-use Rattle.store.specs.Store.{tableHeld, makeTable, findTable, freeTable, findEntry, freeEntry, putTable, noTable}
+use Rattle.store.specs.Store.{tableHeld, makeTable, putTable, noTable}
 use Rattle.store.proofs.Facts.{table-facts, facts-table}
-use Rattle.store.proofs.Kept.{table-found, table-place}
 use Rattle.store.proofs.Ruled.{made-name}
-use Rattle.frame.specs.declared.Frame.{Frame}
-use Rattle.frame.specs.declared.Frame.the-variants as frame
-use Rattle.frame.specs.Frame.{judgeFrame}
 use Rattle.session.specs.declared.Session.{Session}
 use Rattle.session.specs.declared.Connection.{Connection}
 use Rattle.session.specs.declared.Binding.{Binding}
-use Rattle.session.specs.declared.Commit.{Commit}
-use Rattle.session.specs.declared.Commit.the-variants as commit
 use Rattle.session.specs.declared.Answer.{Answer}
 use Rattle.session.specs.declared.Answer.the-variants as answer
-use Rattle.session.specs.Session.{bindingAt, bind, bindTo, holding, findBound, isBound, isUpdated}
+use Rattle.session.specs.Session.{bindingAt, bind, bindTo, holding, isBound}
 use Rattle.session.proofs.Bindings.{bound-here}
-use Rattle.body.specs.Fields.{Read, got, short, outside, spanIn}
-use Rattle.body.specs.Bodies.{Definition, definitionFields, Update}
+use Rattle.body.specs.Fields.{got, short, spanIn}
+use Rattle.body.specs.Bodies.{Definition, definitionFields}
 use Rattle.body.proofs.Spans.{span-length}
 use Rattle.body.proofs.Within.{definition-within}
 use Rattle.body.proofs.DefinitionEncoding.{TableRead, definition-encoded, definition-ends, definition-none, definition-absent}

@@ -16,7 +16,6 @@ use Rattle.frame.specs.declared.Frame.{Frame}
 use Rattle.frame.specs.declared.Frame.the-variants as frame
 use Rattle.frame.specs.Frame.{judgeFrame}
 use Rattle.session.specs.declared.Connection.{Connection}
-use Rattle.session.specs.declared.Answer.{Answer}
 use Rattle.session.specs.declared.Answer.the-variants as answer
 use Rattle.session.specs.Session.{localName, remoteName, establish, awaitingHello, awaitingStatus}
 use Rattle.message.specs.Effects.{Effect, Asks, does, refuse, refusal, note, control, peerError, stickTable, done}

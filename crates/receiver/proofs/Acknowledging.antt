@@ -1,11 +1,11 @@
 -- When an acknowledgement goes out, the entry is held; any refused call leaves tables and entries as they were.
-use Prim.Native.Nat.{ℕ, zero, suc, _-_, _≤_, _<_, _^_}
+use Prim.Native.Nat.{ℕ, zero, suc, _-_, _<_, _^_}
 use native.Mathlib.Omega.{arith}
 use mathlib.Core.Path.{_≡_, refl, sym, ap, _∙_, subst}
 use mathlib.Core.Logic.{_⊎_, inl, inr}
-use mathlib.Core.Bool.{Bool, true, false, cond, _&&_}
+use mathlib.Core.Bool.{true, false, _&&_}
 use mathlib.Core.List.{List, [], _∷_, _++_}
-use lib.ListN.{length, take, drop, getD, set}
+use lib.ListN.{length, take, drop, getD}
 use lib.Seq.{getD-set-same, getD-set-other}
 use lib.Dec.{ltb, lit<}
 use borrow.Author.Tests.{ltb-true}
@@ -14,18 +14,16 @@ use Rattle.lists.proofs.Cases.{by-test, cond-true, cond-false, never, and-first
 use Rattle.lists.proofs.Every.{every-cons}
 use Rattle.store.specs.declared.Store.{Store}
 use Rattle.store.specs.declared.Entry.{Entry}
-use Rattle.store.specs.Store.{makeEntry, putEntry, noEntry}
+use Rattle.store.specs.Store.{putEntry, noEntry}
 use Rattle.wire.specs.Value.{Bytes}
 use Rattle.handshake.specs.Handshake.{nameOk}
 use Rattle.session.specs.declared.Session.{Session}
-use Rattle.session.specs.declared.Connection.{Connection}
 use Rattle.session.specs.declared.Commit.{Commit}
 use Rattle.session.specs.declared.Answer.{Answer}
 use Rattle.session.specs.declared.Answer.the-variants as answer
-use Rattle.session.specs.Session.{unfinished, holding, bindingAt}
-use Rattle.body.specs.Fields.{spanIn}
+use Rattle.session.specs.Session.{unfinished, holding}
 use Rattle.message.specs.Changes.{noChange, changed}
-use Rattle.message.specs.Effects.{Effect, refuse, acknowledge, updatedEntry}
+use Rattle.message.specs.Effects.{Effect, refuse, updatedEntry}
 use Rattle.opening.specs.Opening.{Role, Opening, refuseOpening, accept, refusedOpening, «open», openRoom}
 use Rattle.message.proofs.Kept.{Held}
 use Rattle.reassembly.specs.Judge.{settled, judge}
@@ -33,10 +31,10 @@ use Rattle.streams.specs.Calls.{Call, stay}
 use Rattle.streams.proofs.Basics.{every-take}
 use Rattle.receiver.specs.Good.{Good}
 use Rattle.receiver.specs.Model.{State, heldBy, isByte}
-use Rattle.receiver.specs.Promise.{Made, Shaped, ReadPromise, callOf}
-use Rattle.receiver.specs.Ledger.{Ledger, startLedger, RightReply, isAcknowledgement, post}
+use Rattle.receiver.specs.Promise.{Made, ReadPromise, callOf}
+use Rattle.receiver.specs.Ledger.{Ledger, startLedger, RightReply, isAcknowledgement}
 use Rattle.receiver.specs.Demand3.{replyIn}
-use Rattle.receiver.specs.Corollaries.{messageOf, fieldsOf, EntryHeld, HeldWhenAcknowledged, NothingChanged, OnlyClosed, RefusedCall, RefusedUntouched, OthersUntouched, RefusedOpening, RefusedOpeningUntouched}
+use Rattle.receiver.specs.Corollaries.{messageOf, EntryHeld, HeldWhenAcknowledged, NothingChanged, OnlyClosed, RefusedCall, RefusedUntouched, OthersUntouched, RefusedOpening, RefusedOpeningUntouched}
 use Rattle.receiver.proofs.Chained.{good-held}
 use Rattle.receiver.proofs.Following.{starts-following}
 use Rattle.receiver.proofs.Laws.{Right, JudgedRight, judge-right}

@@ -1,36 +1,34 @@
 -- Demand 3 for a lawful receiver whose replies are short and whose acknowledgements follow the ledger.
-use Prim.Native.Nat.{ℕ, zero, suc, _+_, _≤_, _<_}
+use Prim.Native.Nat.{ℕ, _≤_}
 use native.Mathlib.Omega.{arith}
 use mathlib.Core.Path.{_≡_, refl, sym, ap, subst, _∙_}
 use mathlib.Core.Logic.{_⊎_, inl, inr, ⊎-elim}
-use mathlib.Core.List.{List, [], _∷_, _++_, flatten}
+use mathlib.Core.List.{List, [], _∷_, flatten}
 use mathlib.Core.Bool.{Bool, true, false, cond, not, true≢false, _||_}
-use lib.ListN.{length, take, drop}
-use lib.Dec.{eqb, ltb}
-use borrow.Author.Tests.{eqb-true, le-ltb}
-use Rattle.lists.specs.Lists.{every, front, padTo}
+use lib.ListN.{length}
+use lib.Dec.{eqb}
+use borrow.Author.Tests.{eqb-true}
+use Rattle.lists.specs.Lists.{every}
 use Rattle.lists.proofs.Cases.{by-test, cond-true}
-use Rattle.lists.proofs.Bytes.{front-length, pad-length}
 use Rattle.store.specs.declared.Store.{Store}
 use Rattle.session.specs.declared.Session.{Session}
 use Rattle.session.specs.declared.Answer.{Answer}
 use Rattle.session.specs.declared.Answer.the-variants as answer
 use Rattle.session.specs.Session.{holding, isClosed, unfinished}
 use Rattle.session_soundness.specs.Sound.{sound}
-use Rattle.streams.specs.Model.{Fed, quiet, answered, Item, bytes, bytesIn, Ended, Ran, feedAll}
-use Rattle.streams.specs.Calls.{Call, Step, reading, Result, resultOf, readCall, runCalls, takenOf, Offers, ofBytes, current, without, WithinCuts}
+use Rattle.streams.specs.Model.{answered, Item, bytes, bytesIn, feedAll}
+use Rattle.streams.specs.Calls.{Result, resultOf, readCall}
 use Rattle.streams.specs.Claim.{Lawful, AsModel, Division}
 use Rattle.streams.specs.Fold.{AllAlong, Folds}
 use Rattle.streams.proofs.OneCall.{as-model}
 use Rattle.streams.proofs.Theorem.{every-division, feedAll-closed}
-use Rattle.streams.proofs.Timeline.{folded, taken-bytes, bytesIn-bytes}
-use Rattle.receiver.specs.Model.{State, Event, heldBy, soundState, ends, feed, isByte, peers, replyRoom}
+use Rattle.streams.proofs.Timeline.{folded, taken-bytes}
+use Rattle.receiver.specs.Model.{State, Event, heldBy, ends, feed, isByte, peers}
 use Rattle.receiver.specs.Good.{Good}
-use Rattle.receiver.specs.Promise.{Made, Shaped, ReadPromise, callOf, outcomeOf, sessionOf}
+use Rattle.receiver.specs.Promise.{Made, ReadPromise}
 use Rattle.receiver.specs.Ledger.{Ledger, startLedger, post, Acknowledged}
-use Rattle.receiver.specs.Demand3.{Chain, replyIn, takenBy, lastSession, lastStore, responsesOf, repliesOf, cameTo, modelRan, callMade, CallAsModel, EachCall, OffersTo, WithinCutsOf, RoomsAre, Offering, AcknowledgedCalls, NeverUnsound, Demand3}
-use Rattle.receiver.proofs.Held.{sound-held}
-use Rattle.receiver.proofs.OneRead.{modelCall, made-taken, made-answer, made-reply, made-state, made-sound, made-good, made-is, made-count, kept, room-kept, final-length}
+use Rattle.receiver.specs.Demand3.{Chain, takenBy, lastSession, lastStore, responsesOf, repliesOf, cameTo, modelRan, CallAsModel, EachCall, OffersTo, AcknowledgedCalls, NeverUnsound, Demand3}
+use Rattle.receiver.proofs.OneRead.{made-answer, made-sound, made-good, made-is, made-count, kept, room-kept, final-length}
 use Rattle.receiver.proofs.NoneTaken.{none-test}
 use Rattle.receiver.proofs.Offered.{every-cutting}
 use Rattle.receiver.proofs.Chained.{stepsOf, good-held, steps-bytes, runs, takes, offers, call-has, not-4, ends-sound, ends-at, closed-held}

@@ -1,13 +1,13 @@
 -- What unfinished bytes can come to, on any record and store: a refusal, a note of the answer, a peer's error, a table defined, an update committed.
 -- Each law over everything that bytes come to goes by these kinds.
-use Prim.Native.Nat.{ℕ, _+_, _-_, _≤_, _<_}
+use Prim.Native.Nat.{ℕ, _-_, _≤_, _<_}
 use native.Mathlib.Omega.{arith}
-use mathlib.Core.Path.{_≡_, refl, sym, ap, _∙_, subst}
+use mathlib.Core.Path.{_≡_, refl, ap, _∙_, subst}
 use mathlib.Core.Logic.{_⊎_, inl, inr}
-use mathlib.Core.Bool.{Bool, true, false, cond, _&&_, _||_}
+use mathlib.Core.Bool.{true, false}
 use mathlib.Core.List.{List, []}
 use lib.ListN.{length, take, drop, getD}
-use lib.Dec.{eqb, leb}
+use lib.Dec.{eqb}
 use borrow.Author.Tests.{eqb-true, le-leb, lt-leb}
 use Rattle.lists.specs.declared.Found.{Found}
 use Rattle.lists.specs.declared.Found.the-variants as found
@@ -33,11 +33,11 @@ use Rattle.session.specs.declared.Commit.{Commit}
 use Rattle.session.specs.declared.Commit.the-variants as commit
 use Rattle.session.specs.declared.Answer.{Answer}
 use Rattle.session.specs.declared.Answer.the-variants as answer
-use Rattle.session.specs.Session.{localName, remoteName, findBound, bindingAt, isUpdated}
+use Rattle.session.specs.Session.{localName, remoteName, bindingAt, isUpdated}
 use Rattle.body.specs.Fields.{Read, got, short, outside, spanIn}
-use Rattle.body.specs.Bodies.{Definition, Update, definitionFields, switchFields, acknowledgementFields, updateFields, incrementalFields}
+use Rattle.body.specs.Bodies.{Definition, Update, definitionFields, updateFields, incrementalFields}
 use Rattle.message.specs.Targets.{keyedAs, goesTo}
-use Rattle.message.specs.Effects.{Effect, Asks, does, refuse, refusal, note, fieldsThen, control, controlAnswer, peerError, definedTable, defineAt, defineNew, defineNamed, agrees, definition, switchTo, switch, acknowledgement, skipped, updatedEntry, commitAt, commitEntry, withFields, followingId, incrementalOf, update, incremental, stickTable, done}
+use Rattle.message.specs.Effects.{Effect, refuse, refusal, note, fieldsThen, control, controlAnswer, peerError, definedTable, defineAt, defineNew, defineNamed, agrees, definition, switchTo, switch, acknowledgement, skipped, updatedEntry, commitAt, commitEntry, withFields, followingId, incrementalOf, update, incremental, stickTable, done}
 use Rattle.reassembly.specs.Judge.{Judged, waiting, settled, helloJudged, statusJudged, frameJudged, asksNone, judgeBytes, doneOf, judge}
 use Rattle.receiver.specs.Corollaries.{closes, fieldsOf}
 

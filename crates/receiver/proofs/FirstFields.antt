@@ -1,13 +1,12 @@
 -- The first field of a body, seen from the whole message.
-use Prim.Native.Nat.{ℕ, zero, suc, _+_, _-_, _^_, _≤_, _<_}
+use Prim.Native.Nat.{ℕ, _+_, _-_, _≤_}
 use native.Mathlib.Omega.{arith}
 use mathlib.Core.Path.{_≡_, refl, sym, ap, subst, _∙_}
-use mathlib.Core.Logic.{⊎-elim}
-use mathlib.Core.List.{List, [], _∷_, _++_}
-use mathlib.Core.Bool.{Bool, true, false, cond, _&&_}
+use mathlib.Core.List.{List, _++_}
+use mathlib.Core.Bool.{Bool}
 use lib.ListN.{length, take, drop, getD, take-append-drop}
 use lib.Seq.{length-take-le}
-use lib.Dec.{eqb, ltb, leb}
+use lib.Dec.{ltb}
 use Rattle.lists.proofs.Cases.{by-test, cond-true, cond-false}
 use Rattle.wire.specs.declared.Int.{Int}
 use Rattle.wire.specs.declared.Int.the-variants as int
@@ -15,7 +14,6 @@ use Rattle.wire.specs.declared.fixed.FourBytes.{FourBytes}
 use Rattle.wire.specs.declared.fixed.FourBytes.the-variants as number
 use Rattle.wire.specs.Integer.{readInt}
 use Rattle.wire.specs.Number.{readNumber}
-use Rattle.wire.specs.Value.{Bytes}
 use Rattle.wire.proofs.Behind.{int-value-behind, movedInt, int-moved, number-value-behind, movedNumber, number-moved}
 use Rattle.store.specs.declared.Table.{Table}
 use Rattle.frame.specs.declared.Header.{Header}
@@ -23,8 +21,8 @@ use Rattle.frame.specs.declared.Header.the-variants as header
 use Rattle.frame.specs.declared.Frame.{Frame}
 use Rattle.frame.specs.declared.Frame.the-variants as frame
 use Rattle.frame.specs.Frame.{headerOf, withLength, withHeader, judgeFrame}
-use Rattle.body.specs.Fields.{Read, got, short, outside, Reader, andThen, tested, integer, integerOf, numberRead, number4}
-use Rattle.body.specs.Bodies.{Named, namedFields, Shape, shapeFields, Times, timesFields, Definition, defined, restFields, definitionFields, switchFields, Update, entryFields, updateFields}
+use Rattle.body.specs.Fields.{Read, got, short, outside, andThen, tested, integer, integerOf, numberRead, number4}
+use Rattle.body.specs.Bodies.{Named, namedFields, shapeFields, timesFields, Definition, restFields, definitionFields, switchFields, Update, updateFields}
 use Rattle.body.proofs.Holds.{held}
 use Rattle.body.proofs.Taken.{Taken}
 use Rattle.body.proofs.Within.{EntryWithin, entry-holds}

@@ -1,20 +1,17 @@
 -- The ledger follows the record: after each message it says of every place what the record says, and the reply carries it.
-use Prim.Native.Nat.{ℕ, zero, suc, _+_, _-_, _≤_, _<_, _^_}
+use Prim.Native.Nat.{ℕ, _+_, _-_, _≤_, _<_, _^_}
 use native.Mathlib.Omega.{arith}
 use mathlib.Core.Path.{_≡_, refl, sym, ap, subst, _∙_}
-use mathlib.Core.Logic.{_⊎_, inl, inr, ⊎-elim}
-use mathlib.Core.List.{List, [], _∷_, _++_}
-use mathlib.Core.Bool.{Bool, true, false, cond, _&&_}
+use mathlib.Core.Logic.{_⊎_, ⊎-elim}
+use mathlib.Core.List.{List, []}
+use mathlib.Core.Bool.{true, false, cond, _&&_}
 use mathlib.Core.Option.{Option, some, none}
 use lib.ListN.{length, getD}
-use lib.Dec.{eqb, ltb, leb}
-use borrow.Author.Tests.{eqb-true, eq-eqb, ne-eqb, eqb-false, lt-ltb}
+use lib.Dec.{eqb, leb}
+use borrow.Author.Tests.{eqb-true, eq-eqb, ne-eqb}
 use Rattle.lists.proofs.Cases.{by-test, cond-true, cond-false, eq-or-ne, and-first, and-second, and-true}
-use Rattle.lists.specs.declared.Found.{Found}
-use Rattle.lists.specs.declared.Found.the-variants as found
 use Rattle.store.specs.declared.Table.{Table}
 use Rattle.store.specs.declared.Entry.{Entry}
-use Rattle.store.specs.declared.Store.{Store}
 use Rattle.handshake.specs.Bytes as hb
 use Rattle.handshake.specs.Handshake.{refusalLine, statusLine, lf}
 use Rattle.session.specs.declared.Binding.{Binding}
@@ -23,10 +20,10 @@ use Rattle.session.specs.declared.Commit.{Commit}
 use Rattle.session.specs.declared.Answer.{Answer}
 use Rattle.session.specs.declared.Answer.the-variants as answer
 use Rattle.session.specs.Answers.{refusalReply, isSizeLimit, isProtocolError}
-use Rattle.session.specs.Session.{bindingAt, noBinding, isBound, isUpdated, boundTo, closedWith, establish, makeCurrent, currentOf, withTables, bind, bindTo, unbind, committed, commitTo}
+use Rattle.session.specs.Session.{bindingAt, noBinding, isBound, isUpdated, boundTo, closedWith, establish, makeCurrent, withTables, bind, bindTo, unbind, committed, commitTo}
 use Rattle.session.proofs.CurrentTable.{current-within}
 use Rattle.session.proofs.Bindings.{bound-here, bound-lost, bound-kept, bind-cases, commit-cases, committed-here, committed-other}
-use Rattle.message.specs.Effects.{Effect, refuse, note, peerError, control, controlAnswer, controlReply, defineAt, switchTo, commitAt, acknowledge}
+use Rattle.message.specs.Effects.{Effect, refuse, note, peerError, control, controlAnswer, controlReply, defineAt, commitAt, acknowledge}
 use Rattle.streams.specs.Model.{Ended}
 use Rattle.receiver.specs.Ledger.{Ledger, startLedger, post, defines, switches, commits, without, at, tableId, updateId, isAcknowledgement, Carried, RightReply, NoAcknowledgement}
 

@@ -2,15 +2,13 @@
 use Prim.Native.Nat.{ℕ, zero, suc, _+_, _^_, _≤_, _<_}
 use native.Mathlib.Omega.{arith}
 use mathlib.Core.Path.{_≡_, refl, sym, ap, subst, _∙_}
-use mathlib.Core.Logic.{⊎-elim}
 use mathlib.Core.List.{List, [], _∷_, _++_}
-use mathlib.Core.Bool.{Bool, true, false, cond, _&&_, _||_}
-use lib.ListN.{length, getD, length-append}
-use lib.Dec.{eqb, ltb, leb, lit<}
+use mathlib.Core.Bool.{true, false}
+use lib.ListN.{length, getD}
+use lib.Dec.{lit<}
 use borrow.Author.Tests.{ltb-true}
 use Rattle.lists.proofs.Cases.{by-test, cond-true}
 use Rattle.wire.specs.Value.{Bytes}
-use Rattle.store.specs.declared.Table.{Table}
 use Rattle.store.specs.declared.Store.{Store}
 use Rattle.store.proofs.Facts.{SoundStore, sound-facts, facts-sound}
 use Rattle.session.specs.declared.Connection.{Connection}
@@ -31,8 +29,8 @@ use Rattle.reassembly.specs.Judge.{Judged, waiting, settled, judge}
 use Rattle.receiver.specs.Model.{State, joined, feed, ends, soundState, heldBy, isByte, peers}
 use Rattle.receiver.specs.Good.{Good}
 use Rattle.receiver.specs.Ledger.{Ledger, startLedger, post, Acknowledged}
-use Rattle.receiver.proofs.Piece.{JudgedAs, judged-as, judged-waiting, judged-settled, feed-open, feed-waits}
-use Rattle.receiver.proofs.Following.{Follows, Follow, starts-following}
+use Rattle.receiver.proofs.Piece.{judged-as, judged-settled, feed-open, feed-waits}
+use Rattle.receiver.proofs.Following.{Follows, starts-following}
 use Rattle.receiver.proofs.SettledLaws.{settled-ends}
 use Rattle.receiver.proofs.Laws.{Right, JudgedRight, judge-right}
 

@@ -3,16 +3,16 @@
 use Prim.Native.Nat.{ℕ, zero, suc, _+_, _-_, _^_, _≤_, _<_}
 use native.Mathlib.Omega.{arith}
 use mathlib.Core.Path.{_≡_, refl, sym, ap, subst, _∙_}
-use mathlib.Core.List.{List, [], _∷_, _++_}
-use mathlib.Core.Bool.{Bool, true, false, cond, not, _&&_, _||_}
+use mathlib.Core.List.{List, [], _∷_}
+use mathlib.Core.Bool.{true, false, _&&_}
 use mathlib.Core.Option.{Option, some, none}
 use lib.ListN.{length, take, drop, getD}
-use lib.Dec.{eqb, ltb, leb, lit<}
+use lib.Dec.{eqb, leb, lit<}
 use borrow.Author.Tests.{eq-eqb, ne-eqb, eqb-true, eqb-false, le-leb, lt-leb}
 use Rattle.lists.specs.declared.Found.{Found}
 use Rattle.lists.specs.declared.Found.the-variants as found
 use Rattle.lists.specs.Lists.{firstPlace}
-use Rattle.lists.proofs.Places.{First, first-at}
+use Rattle.lists.proofs.Places.{first-at}
 use Rattle.wire.specs.Value.{Bytes}
 use Rattle.wire.proofs.Sizes.{drop-bytes}
 use Rattle.store.specs.declared.Table.{Table}
@@ -27,7 +27,7 @@ use Rattle.handshake.specs.declared.Hello.the-variants as hello
 use Rattle.handshake.specs.declared.Status.{Status}
 use Rattle.handshake.specs.declared.Status.the-variants as status
 use Rattle.handshake.specs.Bytes as hb
-use Rattle.handshake.specs.Handshake.{judgeHello, judgeStatus, helloReply, refusalLine, statusLine, lf}
+use Rattle.handshake.specs.Handshake.{judgeHello, judgeStatus, helloReply, statusLine, lf}
 use Rattle.handshake.proofs.HelloLaws.{hello-refusal, status-refusal}
 use Rattle.frame.specs.declared.Frame.{Frame}
 use Rattle.frame.specs.declared.Frame.the-variants as frame
@@ -38,24 +38,22 @@ use Rattle.session.specs.declared.Commit.{Commit}
 use Rattle.session.specs.declared.Commit.the-variants as commit
 use Rattle.session.specs.declared.Answer.{Answer}
 use Rattle.session.specs.declared.Answer.the-variants as answer
-use Rattle.session.specs.Answers.{refusalReply, isSizeLimit, isProtocolError}
-use Rattle.session.specs.Session.{isClosed, localName, remoteName, establish, findBound, bindingAt, isBound, isUpdated}
+use Rattle.session.specs.Session.{localName, remoteName, establish, findBound, bindingAt, isUpdated}
 use Rattle.session_soundness.specs.Sound.{isClosing, refusesOpening}
 use Rattle.session.proofs.Bindings.{found-bound, committed-previous}
 use Rattle.session_soundness.proofs.Keeping.{establish-keeps}
 use Rattle.session.proofs.Shapes.{establish-shape}
 use Rattle.body.specs.Fields.{Read, got, short, outside, spanIn}
-use Rattle.body.specs.Bodies.{Definition, definitionFields, switchFields, acknowledgementFields, Update, updateFields, incrementalFields}
+use Rattle.body.specs.Bodies.{definitionFields, switchFields, acknowledgementFields, Update, updateFields, incrementalFields}
 use Rattle.body.proofs.Within.{UpdateWithin, update-within, update-id, incremental-within}
 use Rattle.message.specs.Targets.{goesTo}
 use Rattle.message.specs.Effects.{Effect, refuse, refusal, note, fieldsThen, control, controlAnswer, controlReply, peerError, defineAt, defineNew, defineNamed, agrees, definition, switchTo, switch, acknowledgement, skipped, commitAt, commitEntry, withFields, followingId, incrementalOf, update, incremental, definedTable, updatedEntry, stickTable, done}
 use Rattle.message.proofs.Acknowledging.{acknowledge-short}
 use Rattle.message.proofs.Kept.{Held, Kept, stays-kept, refuse-kept, error-kept, note-kept, switch-kept, definition-kept, update-kept}
-use Rattle.receiver.specs.Ledger.{Ledger, tableId, updateId, at, kindOf, nextId, explicitId, startLedger}
+use Rattle.receiver.specs.Ledger.{Ledger, tableId, updateId, at, kindOf, nextId, explicitId}
 use Rattle.reassembly.specs.Judge.{Judged, waiting, settled, helloJudged, statusJudged, frameJudged, asksNone, judgeBytes, doneOf, judge}
-use Rattle.receiver.specs.Model.{ends}
 use Rattle.receiver.proofs.Following.{Follows, Follow, refusal-none, current-some, last-some, refuse-follow, hello-follow, status-follow, error-follow, control-follow, skipped-follow, acknowledgement-follow, switch-follow, define-follow, commit-follow}
-use Rattle.receiver.proofs.FirstFields.{body-starts, definition-id, switch-id, update-explicit}
+use Rattle.receiver.proofs.FirstFields.{definition-id, switch-id, update-explicit}
 
 pub record Right (c : Connection) (s : Store) (m : List ℕ) (e : Effect) : Type 0 where
   pub short : length (e .reply) ≤ 12

@@ -1,13 +1,13 @@
 -- One reading call that kept its promise is the model's call on the state that record and store hold.
-use Prim.Native.Nat.{ℕ, zero, suc, _≤_, _<_}
+use Prim.Native.Nat.{ℕ, _≤_}
 use native.Mathlib.Omega.{arith}
-use mathlib.Core.Path.{_≡_, refl, sym, ap, _∙_}
-use mathlib.Core.List.{List, [], _∷_, _++_}
-use mathlib.Core.Bool.{Bool, true, false, cond}
-use lib.ListN.{length, take, drop}
+use mathlib.Core.Path.{_≡_, sym, ap, _∙_}
+use mathlib.Core.List.{List, [], _∷_}
+use mathlib.Core.Bool.{true, false}
+use lib.ListN.{length, drop}
 use lib.Dec.{eqb, ltb}
 use borrow.Author.Tests.{eqb-true, eq-eqb, ltb-true, ltb-false}
-use Rattle.lists.specs.Lists.{every, front}
+use Rattle.lists.specs.Lists.{front}
 use Rattle.lists.proofs.Cases.{by-test, cond-true, cond-false}
 use Rattle.lists.proofs.Bytes.{front-length, front-take, front-drop}
 use Rattle.store.specs.declared.Store.{Store}
@@ -16,15 +16,14 @@ use Rattle.session.specs.declared.Answer.{Answer}
 use Rattle.session.specs.declared.Outcome.{Outcome}
 use Rattle.session.specs.Session.{holding, isClosed}
 use Rattle.session_soundness.specs.Sound.{sound}
-use Rattle.streams.specs.Model.{Fed, quiet, answered}
-use Rattle.streams.specs.Calls.{Call, stay, scan, readCall}
+use Rattle.streams.specs.Calls.{Call, scan, readCall}
 use Rattle.streams.specs.Claim.{Lawful}
 use Rattle.streams.proofs.Basics.{by-fed}
 use Rattle.streams.proofs.OneCall.{scan-nil, scan-quiet, scan-answered, call-short, call-closed, call-reads, call-unsound}
 use Rattle.streams.proofs.Theorem.{call-good}
-use Rattle.receiver.specs.Model.{State, Event, heldBy, soundState, feed, isByte, peers}
+use Rattle.receiver.specs.Model.{State, heldBy, soundState, feed, peers}
 use Rattle.receiver.specs.Good.{Good}
-use Rattle.receiver.specs.Promise.{Made, Shaped, ReadPromise, callOf, outcomeOf, sessionOf}
+use Rattle.receiver.specs.Promise.{Made, ReadPromise, callOf, outcomeOf, sessionOf}
 use Rattle.receiver.specs.Demand3.{replyIn, callMade}
 use Rattle.receiver.proofs.Held.{held-holding, state-fits, sound-held}
 

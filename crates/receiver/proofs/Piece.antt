@@ -1,10 +1,9 @@
 -- Taking a piece in one go is what the byte model does byte by byte.
-use Prim.Native.Nat.{ℕ, zero, suc, _+_, _≤_, _<_}
+use Prim.Native.Nat.{ℕ, suc, _+_}
 use native.Mathlib.Omega.{arith}
-use mathlib.Core.Path.{_≡_, refl, sym, ap, subst, _∙_}
+use mathlib.Core.Path.{_≡_, refl, sym, ap, _∙_}
 use mathlib.Core.List.{List, [], _∷_, _++_}
 use mathlib.Core.Bool.{Bool, true, false, cond}
-use lib.ListN.{length, take, drop}
 use lib.Dec.{eqb}
 use Rattle.lists.proofs.Cases.{by-test, cond-true, cond-false}
 use Rattle.store.specs.declared.Table.{Table}
@@ -20,14 +19,12 @@ use Rattle.frame.specs.declared.Frame.the-variants as frame
 use Rattle.frame.specs.Frame.{judgeFrame}
 use Rattle.session.specs.declared.Connection.{Connection}
 use Rattle.session.specs.declared.Session.{Session}
-use Rattle.session.specs.declared.Answer.{Answer}
-use Rattle.session.specs.declared.Answer.the-variants as answer
 use Rattle.session.specs.Session.{isClosed, localName, remoteName}
 use Rattle.session_soundness.specs.Sound.{waits, helloWaits, statusWaits, frameWaits}
 use Rattle.message.specs.Changes.{changed}
 use Rattle.message.specs.Effects.{Effect}
-use Rattle.streams.specs.Model.{Fed, quiet, answered}
-use Rattle.streams.specs.Calls.{Call, scan, onward}
+use Rattle.streams.specs.Model.{quiet, answered}
+use Rattle.streams.specs.Calls.{scan, onward}
 use Rattle.streams.proofs.OneCall.{scan-nil, scan-quiet, scan-answered}
 use Rattle.reassembly.specs.Judge.{Judged, waiting, settled, judge, judgeBytes, doneOf, asksNone, helloJudged, statusJudged, frameJudged}
 use Rattle.receiver.specs.Model.{State, joined, feed, peers}

@@ -3,16 +3,15 @@ use Prim.Native.Nat.{ℕ, _-_, _<_}
 use native.Mathlib.Omega.{arith}
 use mathlib.Core.Path.{_≡_, refl, sym, ap, _∙_, subst}
 use mathlib.Core.Logic.{⊎-elim}
-use mathlib.Core.Bool.{true, false, cond, _&&_}
+use mathlib.Core.Bool.{true, _&&_}
 use mathlib.Core.List.{List}
-use lib.ListN.{length, set}
+use lib.ListN.{length}
 use lib.Dec.{leb}
 use borrow.Author.Tests.{leb-true}
 use Rattle.lists.proofs.Cases.{by-test, and-first, and-second, and-intro, or-true, or-false}
 use Rattle.store.specs.declared.Table.{Table}
 use Rattle.store.specs.declared.Store.{Store}
 use Rattle.store.proofs.Facts.{facts-sound}
-use Rattle.session.specs.declared.Connection.{Connection}
 use Rattle.session.specs.declared.Session.{Session}
 use Rattle.session.specs.declared.Answer.{Answer}
 use Rattle.session.specs.declared.Answer.the-variants as answer
@@ -21,10 +20,7 @@ use Rattle.session_soundness.specs.Sound.{sound, soundSession, soundConnection,
 use Rattle.session_soundness.proofs.Facts.{heldAt, connection-facts, facts-connection}
 use Rattle.session_soundness.proofs.Keeping.{held-keeps}
 use Rattle.session_soundness.proofs.Records.{sound-session, sound-both}
-use Rattle.body.specs.Fields.{Read}
-use Rattle.message.specs.Effects.{refuse}
 use Rattle.message.specs.Changes.{changed}
-use Rattle.reassembly.specs.Judge.{waiting, settled, judge}
 use Rattle.streams.specs.Calls.{Call, stay}
 use Rattle.receiver.specs.Model.{State, heldBy}
 use Rattle.receiver.specs.Promise.{Made, ReadPromise, callOf}

@@ -1,14 +1,12 @@
 -- How a call that kept its promise ended, on any record and store: it took nothing, its bytes wait, or they came to an answer.
 use Prim.Native.Nat.{ℕ, _≤_}
-use native.Mathlib.Omega.{arith}
 use mathlib.Core.Path.{_≡_, refl, sym, ap, _∙_}
 use mathlib.Core.Logic.{_⊎_, inl, inr}
-use mathlib.Core.Bool.{Bool, true, false, cond}
-use mathlib.Core.List.{List, [], _∷_, _++_}
+use mathlib.Core.Bool.{true, false}
+use mathlib.Core.List.{List, [], _++_}
 use lib.ListN.{length, take, drop}
 use lib.Dec.{ltb, eqb}
 use borrow.Author.Tests.{ltb-true, ltb-false, eq-eqb, ne-eqb}
-use Rattle.lists.specs.Lists.{front}
 use Rattle.lists.proofs.Cases.{by-test, cond-true, cond-false, never}
 use Rattle.lists.proofs.Bytes.{front-take, front-drop}
 use Rattle.store.specs.declared.Store.{Store}
@@ -20,7 +18,7 @@ use Rattle.session.specs.Session.{unfinished, isClosed, holding}
 use Rattle.session_soundness.specs.Sound.{sound, waits}
 use Rattle.message.specs.Changes.{changed}
 use Rattle.message.specs.Effects.{Effect}
-use Rattle.reassembly.specs.Judge.{Judged, settled, judge}
+use Rattle.reassembly.specs.Judge.{settled, judge}
 use Rattle.reassembly.specs.Pieces.{Part, takePiece}
 use Rattle.reassembly.proofs.Taking.{part-bytes, part-none, part-ended}
 use Rattle.streams.specs.Calls.{Call, stay, scan}

@@ -1,30 +1,29 @@
 -- A scan of a store's entries: what its steps say gives what it promises.
-use Prim.Native.Nat.{ℕ, zero, suc, _+_, _%_, _≤_, _<_}
+use Prim.Native.Nat.{ℕ, _%_, _≤_, _<_}
 use native.Mathlib.Omega.{arith}
-use mathlib.Core.Path.{_≡_, refl, sym, ap, _∙_, subst}
+use mathlib.Core.Path.{_≡_, sym, ap, _∙_, subst}
 use mathlib.Core.Bool.{Bool, true, false, not, cond, _&&_}
 use mathlib.Core.Logic.{⊎-elim}
-use mathlib.Core.List.{List, [], _∷_, map}
+use mathlib.Core.List.{List, map}
 use lib.ListN.{length, getD, take, length-map}
 use lib.Dec.{eqb, leb}
 use borrow.Author.Needs.{needs}
 use borrow.Author.Tests.{eq-eqb, eqb-true, le-leb, lt-leb, not-true, not-false}
 use Rattle.lists.specs.declared.Found.{Found}
 use Rattle.lists.specs.declared.Found.the-variants as found
-use Rattle.lists.specs.Lists.{every, distinct, firstFrom, firstPlace, eqBytes, padTo}
-use Rattle.lists.proofs.Cases.{by-test, never, cond-true, cond-false, and-first, and-second, and-true, and-false, lt-or-le, eq-or-ne}
+use Rattle.lists.specs.Lists.{every, distinct, firstPlace, eqBytes}
+use Rattle.lists.proofs.Cases.{by-test, never, cond-true, cond-false, and-first, and-second, and-true, and-false, lt-or-le}
 use Rattle.lists.proofs.Every.{getD-any, every-at}
 use Rattle.lists.proofs.Distinct.{distinct-at}
-use Rattle.lists.proofs.Bytes.{eq-bytes, pad-take}
+use Rattle.lists.proofs.Bytes.{eq-bytes}
 use Rattle.lists.proofs.Places.{first-at, first-nothing, first-is, first-none, first-agree}
-use Rattle.store.specs.declared.Table.{Table}
 use Rattle.store.specs.declared.Entry.{Entry}
 use Rattle.store.specs.declared.Store.{Store}
 use Rattle.store.specs.Store.{entryHeld, entryFree, entryOf, entryKeyed, keyOf, noEntry}
 use Rattle.store.specs.Sound.{soundEntry, sameKey}
 use Rattle.store.specs.Shape.{StoreShape}
 use Rattle.lists.proofs.Prefix.{first-bytes}
-use Rattle.store.proofs.Lookup.{blankEntry, long-key}
+use Rattle.store.proofs.Lookup.{blankEntry}
 use Rattle.lists.proofs.Maps.{mapped-at}
 use Rattle.store_soundness.specs.Hashes.{hashEnd, hashKey, entryHash, sameHash}
 use Rattle.store_soundness.proofs.hashes.Hashing.{key-below, start-small, held-is, same-alike, hashes-tell}

@@ -1,15 +1,15 @@
 -- Every case of the table holds.
 use mathlib.Core.Path.{_≡_, refl}
 use mathlib.Core.Bool.{true}
-use Rattle.lists.specs.Lists.{every, eqBytes, padTo, firstPlace, firstFrom}
+use Rattle.lists.specs.Lists.{every, eqBytes, padTo}
 use Rattle.wire.specs.Integer.{encodeInt, encodeRest, readInt, readFirst, withLater, laterBytes, before, weighted, fitting}
 use Rattle.wire.specs.Server.{serverWord, serverIdOf, readServerId, serverOf, serverBefore}
-use Rattle.store.specs.Store.{emptyStore, noTable, noEntry}
+use Rattle.store.specs.Store.{emptyStore}
 use Rattle.handshake.specs.Bytes as hb
 use Rattle.handshake.specs.Handshake as hs
 use Rattle.frame.specs.Frame.{judgeFrame, withHeader, withLength, headerOf}
 use Rattle.session.specs.Answers.{answerNumber, refusalReply, isSizeLimit, isProtocolError}
-use Rattle.session.specs.Session.{unfinished, isClosed, localName, remoteName, establish, holding, closedWith, noBinding}
+use Rattle.session.specs.Session.{unfinished, isClosed, localName, remoteName, establish, holding, closedWith}
 use Rattle.opening.specs.Opening.{opened, newConnection}
 use Rattle.message.specs.Changes.{noChange, changed}
 use Rattle.message.specs.Effects.{refuse, refusal, note, skipped, stickTable, update, done}

@@ -11,7 +11,6 @@ use Rattle.handshake.specs.Handshake as hs
 use Rattle.frame.specs.Frame.{judgeFrame, withHeader, withLength, headerOf}
 use Rattle.session.specs.Session as se
 use Rattle.opening.specs.Opening.{answerer, opened, newConnection}
-use Rattle.session.specs.Answers.{refusalReply}
 use Rattle.body.specs.Fields as fi
 use Rattle.body.specs.Bodies as bo
 use Rattle.store.specs.Places.{freeOf, placeOf}

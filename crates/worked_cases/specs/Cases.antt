@@ -1,12 +1,11 @@
 -- "Cases on each side", those marked P: one table, one claim.
 use Prim.Native.Nat.{ℕ, _^_, _-_}
-use mathlib.Core.Path.{_≡_, refl}
 use mathlib.Core.List.{List, [], _∷_, _++_, map}
 use mathlib.Core.Bool.{Bool, true, false, _&&_}
 use lib.ListN.{length, replicate}
 use lib.Dec.{eqb}
 use lib.IntN.{ℤ, pos, negsuc}
-use Rattle.lists.specs.Lists.{every, eqBytes}
+use Rattle.lists.specs.Lists.{eqBytes}
 use Rattle.wire.specs.declared.Int.{Int}
 use Rattle.wire.specs.declared.Int.the-variants as int
 use Rattle.wire.specs.declared.values.ServerId.{ServerId}
@@ -17,7 +16,7 @@ use Rattle.store.specs.Store.{emptyStore}
 use Rattle.session.specs.declared.Answer.{Answer}
 use Rattle.session.specs.Answers.{answerNumber}
 use Rattle.opening.specs.Opening.{answerer, opened}
-use Rattle.streams.specs.Model.{Ended, Ran}
+use Rattle.streams.specs.Model.{Ended}
 use Rattle.receiver.specs.Demand3.{modelRan}
 
 -- a case: a value's encoding; bytes that overflow; a server ID's encoding; a stream after the hello, with the numbers of its answers and its
