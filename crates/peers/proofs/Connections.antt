@@ -1,0 +1,224 @@
+-- Several connections and one store, by induction on the steps: one call's laws are those of a list of one call.
+use Prim.Native.Nat.{ℕ}
+use native.Mathlib.Omega.{arith}
+use mathlib.Core.Path.{_≡_, refl, sym, ap, subst, _∙_}
+use mathlib.Core.Logic.{_⊎_, inl, inr, ⊎-elim}
+use mathlib.Core.Bool.{true, false, cond}
+use mathlib.Core.List.{List, [], _∷_, _++_, append-assoc}
+use lib.ListN.{length, take, getD}
+use lib.Dec.{eqb}
+use borrow.Author.Tests.{eqb-true, eq-eqb}
+use Rattle.lists.proofs.Cases.{by-test}
+use Rattle.store.specs.declared.Store.{Store}
+use Rattle.store.specs.Store.{noEntry, noTable}
+use Rattle.session.specs.declared.Session.{Session}
+use Rattle.session.specs.declared.Commit.{Commit}
+use Rattle.session.specs.declared.Answer.the-variants as answer
+use Rattle.session.specs.Session.{unfinished}
+use Rattle.session_soundness.specs.Sound.{sound}
+use Rattle.message_bytes.specs.MessageBytes.{UpdateMessage}
+use Rattle.message_bytes.proofs.LastUpdates.{carries}
+use Rattle.peers.specs.Numbers.{rawOutcome}
+use Rattle.peers.specs.Reading.{RawMade, RawPromise}
+use Rattle.peers.specs.ExportedDemand3.{RawChain, rawValues, rawTaken, rawLastSession, rawLastStore, RawEachCall, RawNeverUnsound, ExportedDemand3}
+use Rattle.peers.specs.ExportedCorollaries.{rawMessage, ToldUpdate, answering, RawNoneUpdates, RawNeverUpdated, RawLastUpdate}
+use Rattle.peers.specs.Connections.{Records, HostStep, reads, recordsAfter, storeAfter, KeptStep, Interleaved, lastRecords, sharedStore, ownCall, callsOf, SoundCall, OwnStep, ownAfter, EachOwnCall, AmongOthers, EveryConnection, sharedEntry, UpdatesNot, NoStepUpdates, NeverTouched, LastStep, BytesOfSharedEntries}
+use Rattle.peers.proofs.AsMade.{rawOf, madeBy, made-promised, made-same}
+use Rattle.peers.proofs.ExportedDemand3.{exported-demand-3}
+use Rattle.peers.proofs.ExportedCorollaries.{raw-other-records-sound, raw-bytes-of-every-entry}
+
+-- ---- one call
+
+module _ (s : Session) (t : Store) (m : RawMade) (p : RawPromise s t m) where
+  alone : RawChain s t (m ∷ [])
+  unfolding RawChain
+  alone = (p, tt)
+
+  demanded : sound s t ≡ true → ExportedDemand3 s t (m ∷ [])
+  demanded f = exported-demand-3 s t (m ∷ []) f alone
+
+  sound-call : sound s t ≡ true → SoundCall s t m
+  unfolding RawEachCall RawNeverUnsound
+  sound-call f = record { sound = f; model = demanded f .each .0; never-4 = demanded f .never-4 .0 }
+
+  sound-after : sound s t ≡ true → sound (m .session) (m .store) ≡ true
+  unfolding rawLastSession rawLastStore
+  sound-after f = demanded f .sound
+
+  -- of the unfinished bytes and those taken, some are done with and the others are unfinished afterwards
+  carries-on : (done : List ℕ) × (rawMessage s m ≡ done ++ unfinished (m .session))
+  unfolding rawOutcome
+  carries-on =
+      subst (λ (x : RawMade). (done : List ℕ) × (rawMessage s x ≡ done ++ unfinished (x .session))) (sym (made-same s t m p))
+      (carries s t (madeBy s t m) (made-promised s t m p))
+
+-- ---- one connection among the others
+
+-- the connection's record after a step is what the step left of it
+own-after : (records : Records) (i : ℕ) (p : HostStep) → recordsAfter records p i ≡ ownAfter i (records i) p
+unfolding recordsAfter ownAfter
+own-after records i (reads k m) = refl
+
+own-sound : (records : Records) (t : Store) (i : ℕ) (p : HostStep) → KeptStep records t p → sound (records i) t ≡ true
+    → sound (recordsAfter records p i) (storeAfter t p) ≡ true
+unfolding KeptStep recordsAfter storeAfter
+own-sound records t i (reads k m) p f =
+    by-test (eqb k i)
+    (λ h. rw h (sound-after (records k) t m p (subst (λ (j : ℕ). sound (records j) t ≡ true) (sym (eqb-true k i h)) f)))
+    (λ h. rw h (raw-other-records-sound (records k) t m (records i) p f))
+
+own-step : (records : Records) (t : Store) (i : ℕ) (p : HostStep) → KeptStep records t p → sound (records i) t ≡ true → OwnStep i (records i) t p
+unfolding KeptStep OwnStep
+own-step records t i (reads k m) p f =
+    by-test (eqb k i)
+    (λ h. rw h (sound-call (records i) t m (subst (λ (j : ℕ). RawPromise (records j) t m) (eqb-true k i h) p) f))
+    (λ h. rw h tt)
+
+own-last : (s : Session) (i : ℕ) (p : HostStep) (calls : List RawMade) → rawLastSession (ownAfter i s p) calls ≡ rawLastSession s (ownCall i p calls)
+unfolding ownAfter ownCall rawLastSession
+own-last s i (reads k m) calls = by-test (eqb k i) (λ h. rw h) (λ h. rw h)
+
+pub every-connection : EveryConnection
+unfolding Interleaved lastRecords sharedStore callsOf EachOwnCall rawLastSession
+every-connection records t [] i c f = record { each = tt; own = refl; sound = f }
+every-connection records t (p ∷ steps) i c f =
+    let rest = every-connection (recordsAfter records p) (storeAfter t p) steps i (c .1) (own-sound records t i p (c .0) f) in
+    record {
+      each = (
+        own-step records t i p (c .0) f,
+        subst (λ (x : Session). EachOwnCall i x (storeAfter t p) steps) (own-after records i p) (rest .each),
+      );
+      own = rest .own ∙ (ap (λ (x : Session). rawLastSession x (callsOf i steps)) (own-after records i p) ∙ own-last (records i) i p (callsOf i steps));
+      sound = rest .sound;
+    }
+
+-- ---- the bytes of every entry of the one store
+
+-- one call that updated a place: what it told and the message that it ended
+record Updated (s : Session) (t : Store) (m : RawMade) (place : ℕ) : Type 0 where
+  pub table : ℕ
+  pub id : ℕ
+  pub how : Commit
+  pub told : ToldUpdate m table id place how
+  pub message : UpdateMessage s (answering (answer.Update table id place how) m) table id (getD (m .store .tables) table noTable)
+      (getD (m .store .entries) place noEntry)
+
+-- one call that didn't
+record NotUpdated (t : Store) (m : RawMade) (place : ℕ) : Type 0 where
+  pub none : m .outcome .number ≡ 267 → getD (rawValues m) 2 0 ≡ place → ⊥
+  pub same : getD (m .store .entries) place noEntry ≡ getD (t .entries) place noEntry
+
+the-one : (m call : RawMade) (before after : List RawMade) → m ∷ [] ≡ before ++ (call ∷ after) → (before ≡ []) × (m ≡ call)
+the-one m call [] after e = (refl, cc)
+the-one m call (b ∷ []) after e = absurd (let l = ap length e in omega (arith, l))
+the-one m call (b ∷ (d ∷ before)) after e = absurd (let l = ap length e in omega (arith, l))
+
+module _ (s : Session) (t : Store) (m : RawMade) (p : RawPromise s t m) (place : ℕ) where
+  updated : RawLastUpdate s t (m ∷ []) place → Updated s t m place
+  unfolding rawLastSession rawLastStore
+  updated u =
+      let o = the-one m (u .call) (u .before) (u .after) (u .among) in
+      record {
+        table = u .table;
+        id = u .id;
+        how = u .how;
+        told = subst (λ (x : RawMade). ToldUpdate x (u .table) (u .id) place (u .how)) (sym (o .1)) (u .told);
+        message =
+            subst
+            (λ (x : RawMade).
+            UpdateMessage s (answering (answer.Update (u .table) (u .id) place (u .how)) x) (u .table) (u .id)
+            (getD (x .store .tables) (u .table) noTable) (getD (m .store .entries) place noEntry))
+            (sym (o .1))
+            (subst
+            (λ (before : List RawMade).
+            UpdateMessage (rawLastSession s before) (answering (answer.Update (u .table) (u .id) place (u .how)) (u .call)) (u .table) (u .id)
+            (getD (u .call .store .tables) (u .table) noTable) (getD (m .store .entries) place noEntry))
+            (o .0) (u .message));
+      }
+
+  not-updated : RawNeverUpdated t (m ∷ []) place → NotUpdated t m place
+  unfolding RawNoneUpdates rawLastStore
+  not-updated n = record { none = n .none .0; same = n .same }
+
+  one-call : NotUpdated t m place ⊎ Updated s t m place
+  one-call = ⊎-elim (λ n. inl (not-updated n)) (λ u. inr (updated u)) (raw-bytes-of-every-entry s t (m ∷ []) place (alone s t m p))
+
+-- where a message stood among a connection's bytes, with one step more before them
+stood-later : (records : Records) (t : Store) (p : HostStep) (i : ℕ) (calls : List RawMade) (earlier rest : List ℕ) → KeptStep records t p
+    → unfinished (recordsAfter records p i) ++ rawTaken calls ≡ earlier ++ rest
+    → (before : List ℕ) × (unfinished (records i) ++ rawTaken (ownCall i p calls) ≡ before ++ rest)
+unfolding KeptStep recordsAfter ownCall rawTaken
+stood-later records t (reads k m) i calls earlier rest p e =
+    by-test (eqb k i)
+    (λ h.
+    let c = carries-on (records i) t m (subst (λ (j : ℕ). RawPromise (records j) t m) (eqb-true k i h) p) in
+    let e′ : unfinished (m .session) ++ rawTaken calls ≡ earlier ++ rest = rw h at e in
+    rw h (
+      c .0 ++ earlier,
+      sym (append-assoc (unfinished (records i)) (take (m .outcome .taken) (m .piece)) (rawTaken calls))
+          ∙ (ap (λ (l : List ℕ). l ++ rawTaken calls) (c .1)
+          ∙ (append-assoc (c .0) (unfinished (m .session)) (rawTaken calls)
+          ∙ (ap (λ (l : List ℕ). c .0 ++ l) e′ ∙ sym (append-assoc (c .0) earlier rest)))),
+    ))
+    (λ h. let e′ : unfinished (records i) ++ rawTaken calls ≡ earlier ++ rest = rw h at e in rw h (earlier, e′))
+
+later : (records : Records) (t : Store) (p : HostStep) (steps : List HostStep) (place : ℕ) → KeptStep records t p
+    → LastStep (recordsAfter records p) (storeAfter t p) steps place → LastStep records t (p ∷ steps) place
+unfolding lastRecords sharedStore callsOf
+later records t p steps place k u =
+    let at = stood-later records t p (u .connection) (callsOf (u .connection) steps) (u .earlier) _ k (u .stood) in
+    record {
+      before = p ∷ u .before;
+      connection = u .connection;
+      call = u .call;
+      after = u .after;
+      among = ap (λ (ps : List HostStep). p ∷ ps) (u .among);
+      table = u .table;
+      id = u .id;
+      how = u .how;
+      told = u .told;
+      last = u .last;
+      message = u .message;
+      earlier = at .0;
+      stood = at .1;
+    }
+
+own-bytes : (s : Session) (i : ℕ) (m : RawMade) (calls : List RawMade)
+    → unfinished s ++ rawTaken (ownCall i (reads i m) calls) ≡ [] ++ (rawMessage s m ++ rawTaken calls)
+unfolding ownCall rawTaken
+own-bytes s i m calls = rw (eq-eqb i i refl) (sym (append-assoc (unfinished s) (take (m .outcome .taken) (m .piece)) (rawTaken calls)))
+
+first : (records : Records) (t : Store) (p : HostStep) (steps : List HostStep) (place : ℕ) → KeptStep records t p
+    → NeverTouched (storeAfter t p) steps place → NeverTouched t (p ∷ steps) place ⊎ LastStep records t (p ∷ steps) place
+unfolding KeptStep storeAfter lastRecords sharedStore callsOf NoStepUpdates UpdatesNot
+first records t (reads k m) steps place p n =
+    ⊎-elim
+    (λ o. inl (record { none = (o .none, n .none); same = n .same ∙ o .same }))
+    (λ u.
+    inr
+    (record {
+      before = [];
+      connection = k;
+      call = m;
+      after = steps;
+      among = refl;
+      table = u .table;
+      id = u .id;
+      how = u .how;
+      told = u .told;
+      last = n .none;
+      message =
+          subst
+          (UpdateMessage (records k) (answering (answer.Update (u .table) (u .id) place (u .how)) m) (u .table) (u .id) (getD (m .store .tables) (u .table) noTable))
+          (sym (n .same)) (u .message);
+      earlier = [];
+      stood = own-bytes (records k) k m (callsOf k steps);
+    }))
+    (one-call (records k) t m p place)
+
+pub bytes-of-shared-entries : BytesOfSharedEntries
+unfolding Interleaved sharedStore NoStepUpdates
+bytes-of-shared-entries records t [] place c = inl (record { none = tt; same = refl })
+bytes-of-shared-entries records t (p ∷ steps) place c =
+    ⊎-elim (λ n. first records t p steps place (c .0) n) (λ u. inr (later records t p steps place (c .0) u))
+    (bytes-of-shared-entries (recordsAfter records p) (storeAfter t p) steps place (c .1))
