@@ -14,17 +14,25 @@ use Rattle.store.specs.Store.{noEntry, noTable}
 use Rattle.session.specs.declared.Session.{Session}
 use Rattle.session.specs.declared.Commit.{Commit}
 use Rattle.session.specs.declared.Answer.the-variants as answer
-use Rattle.session.specs.Session.{unfinished}
+use Rattle.session.specs.Session.{unfinished, isClosed}
 use Rattle.session_soundness.specs.Sound.{sound}
+use Rattle.receiver.specs.Promise.{Made}
+use Rattle.receiver.specs.Ledger.{Ledger, startLedger}
+use Rattle.receiver.specs.Demand3.{AcknowledgedCalls}
+use Rattle.receiver.proofs.Chained.{good-held}
+use Rattle.receiver.proofs.Following.{Follows, starts-following}
+use Rattle.receiver.proofs.Ways.{ways}
+use Rattle.receiver.proofs.LedgerAlong.{acknowledged-next}
+use Rattle.receiver.proofs.Sharing.{refused-byte}
 use Rattle.message_bytes.specs.MessageBytes.{UpdateMessage}
 use Rattle.message_bytes.proofs.LastUpdates.{carries}
 use Rattle.peers.specs.Numbers.{rawOutcome}
 use Rattle.peers.specs.Reading.{RawMade, RawPromise}
-use Rattle.peers.specs.ExportedDemand3.{RawChain, rawValues, rawTaken, rawLastSession, rawLastStore, RawEachCall, RawNeverUnsound, ExportedDemand3}
+use Rattle.peers.specs.ExportedDemand3.{RawChain, rawValues, rawTaken, rawLastSession, rawLastStore, RawEachCall, RawAcknowledgedCalls, RawNeverUnsound, ExportedDemand3}
 use Rattle.peers.specs.ExportedCorollaries.{rawMessage, ToldUpdate, answering, RawNoneUpdates, RawNeverUpdated, RawLastUpdate}
 use Rattle.peers.specs.Connections.{Records, HostStep, reads, recordsAfter, storeAfter, KeptStep, Interleaved, lastRecords, sharedStore, ownCall, callsOf, SoundCall, OwnStep, ownAfter, EachOwnCall, AmongOthers, EveryConnection, sharedEntry, UpdatesNot, NoStepUpdates, NeverTouched, LastStep, BytesOfSharedEntries}
 use Rattle.peers.proofs.AsMade.{rawOf, madeBy, made-promised, made-same}
-use Rattle.peers.proofs.ExportedDemand3.{exported-demand-3}
+use Rattle.peers.proofs.ExportedDemand3.{acknowledged-call, exported-demand-3}
 use Rattle.peers.proofs.ExportedCorollaries.{raw-other-records-sound, raw-bytes-of-every-entry}
 
 -- ---- one call
@@ -78,19 +86,111 @@ own-last : (s : Session) (i : ℕ) (p : HostStep) (calls : List RawMade) → raw
 unfolding ownAfter ownCall rawLastSession
 own-last s i (reads k m) calls = by-test (eqb k i) (λ h. rw h) (λ h. rw h)
 
+-- ---- the acknowledgements of one connection
+
+-- the connection's calls, with the answer enum
+ownMade : ℕ → Records → Store → HostStep → List Made → List Made
+ownMade i records t (reads k m) calls = cond (eqb k i) (madeBy (records i) t m ∷ calls) calls
+
+ownMades : ℕ → Records → Store → List HostStep → List Made
+ownMades i records t [] = []
+ownMades i records t (p ∷ steps) = ownMade i records t p (ownMades i (recordsAfter records p) (storeAfter t p) steps)
+
+-- with each ledger that says what the record says, the replies to these calls are right
+abbrev RightAlong : Session → List Made → Type 0
+RightAlong s calls =
+    (l : Ledger) → Follows (s .connection) l → (u : List ℕ) → (isClosed (s .connection) ≡ false → u ≡ unfinished s) → AcknowledgedCalls l u calls
+
+right-call : (s : Session) (t : Store) (m : RawMade) (calls : List Made) → RawPromise s t m → sound s t ≡ true → RightAlong (m .session) calls
+    → RightAlong s (madeBy s t m ∷ calls)
+right-call s t m calls p f next l k u o =
+    let made = madeBy s t m in
+    let q = made-promised s t m p in
+    acknowledged-next s t made q f (good-held s t (p .shaped) f) l k u o calls next (ways s t made q)
+
+right-step : (records : Records) (t : Store) (i : ℕ) (p : HostStep) (calls : List Made) → KeptStep records t p → sound (records i) t ≡ true
+    → RightAlong (recordsAfter records p i) calls → RightAlong (records i) (ownMade i records t p calls)
+unfolding KeptStep recordsAfter ownMade
+right-step records t i (reads k m) calls p f next =
+    by-test (eqb k i)
+    (λ h.
+    let next′ : RightAlong (m .session) calls = rw h at next in
+    rw h (right-call (records i) t m calls (subst (λ (j : ℕ). RawPromise (records j) t m) (eqb-true k i h) p) f next′))
+    (λ h. let next′ : RightAlong (records i) calls = rw h at next in rw h next′)
+
+right-along : (records : Records) (t : Store) (i : ℕ) (steps : List HostStep) → Interleaved records t steps → sound (records i) t ≡ true
+    → RightAlong (records i) (ownMades i records t steps)
+unfolding Interleaved ownMades AcknowledgedCalls
+right-along records t i [] c f = λ l k u o. tt
+right-along records t i (p ∷ steps) c f =
+    right-step records t i p (ownMades i (recordsAfter records p) (storeAfter t p) steps) (c .0) f
+    (right-along (recordsAfter records p) (storeAfter t p) i steps (c .1) (own-sound records t i p (c .0) f))
+
+-- in numbers
+abbrev InNumbers : List Made → List RawMade → Type 0
+InNumbers calls others = (l : Ledger) (u : List ℕ) → AcknowledgedCalls l u calls → RawAcknowledgedCalls l u others
+
+numbers-call : (s : Session) (t : Store) (m : RawMade) (calls : List Made) (others : List RawMade) → RawPromise s t m → InNumbers calls others
+    → InNumbers (madeBy s t m ∷ calls) (m ∷ others)
+numbers-call s t m calls others p next l u k =
+    subst (λ (x : RawMade). RawAcknowledgedCalls l u (x ∷ others)) (sym (made-same s t m p))
+    (acknowledged-call l u (madeBy s t m) calls others (refused-byte s t (madeBy s t m) (made-promised s t m p)) next k)
+
+numbers-step : (records : Records) (t : Store) (i : ℕ) (p : HostStep) (calls : List Made) (others : List RawMade) → KeptStep records t p
+    → InNumbers calls others → InNumbers (ownMade i records t p calls) (ownCall i p others)
+unfolding KeptStep ownMade ownCall
+numbers-step records t i (reads k m) calls others p next =
+    by-test (eqb k i)
+    (λ h. rw h (numbers-call (records i) t m calls others (subst (λ (j : ℕ). RawPromise (records j) t m) (eqb-true k i h) p) next))
+    (λ h. rw h next)
+
+numbers-along : (records : Records) (t : Store) (i : ℕ) (steps : List HostStep) → Interleaved records t steps
+    → InNumbers (ownMades i records t steps) (callsOf i steps)
+unfolding Interleaved ownMades callsOf RawAcknowledgedCalls
+numbers-along records t i [] c = λ l u k. tt
+numbers-along records t i (p ∷ steps) c =
+    numbers-step records t i p (ownMades i (recordsAfter records p) (storeAfter t p) steps) (callsOf i steps) (c .0)
+    (numbers-along (recordsAfter records p) (storeAfter t p) i steps (c .1))
+
+acknowledged-along : (records : Records) (t : Store) (i : ℕ) (steps : List HostStep) → Interleaved records t steps → sound (records i) t ≡ true
+    → RawAcknowledgedCalls (startLedger (records i .connection)) (unfinished (records i)) (callsOf i steps)
+acknowledged-along records t i steps c f =
+    let l = startLedger (records i .connection) in
+    numbers-along records t i steps c l (unfinished (records i))
+    (right-along records t i steps c f l (starts-following (records i .connection)) (unfinished (records i)) (λ o. refl))
+
+-- ---- the claim of one connection
+
+own-calls : (records : Records) (t : Store) (i : ℕ) (steps : List HostStep) → Interleaved records t steps → sound (records i) t ≡ true
+    → EachOwnCall i (records i) t steps
+unfolding Interleaved EachOwnCall
+own-calls records t i [] c f = tt
+own-calls records t i (p ∷ steps) c f = (
+  own-step records t i p (c .0) f,
+  subst (λ (x : Session). EachOwnCall i x (storeAfter t p) steps) (own-after records i p)
+      (own-calls (recordsAfter records p) (storeAfter t p) i steps (c .1) (own-sound records t i p (c .0) f)),
+)
+
+own-record : (records : Records) (i : ℕ) (steps : List HostStep) → lastRecords records steps i ≡ rawLastSession (records i) (callsOf i steps)
+unfolding lastRecords callsOf rawLastSession
+own-record records i [] = refl
+own-record records i (p ∷ steps) =
+    own-record (recordsAfter records p) i steps
+    ∙ (ap (λ (x : Session). rawLastSession x (callsOf i steps)) (own-after records i p) ∙ own-last (records i) i p (callsOf i steps))
+
+sound-last : (records : Records) (t : Store) (i : ℕ) (steps : List HostStep) → Interleaved records t steps → sound (records i) t ≡ true
+    → sound (lastRecords records steps i) (sharedStore t steps) ≡ true
+unfolding Interleaved lastRecords sharedStore
+sound-last records t i [] c f = f
+sound-last records t i (p ∷ steps) c f = sound-last (recordsAfter records p) (storeAfter t p) i steps (c .1) (own-sound records t i p (c .0) f)
+
 pub every-connection : EveryConnection
-unfolding Interleaved lastRecords sharedStore callsOf EachOwnCall rawLastSession
-every-connection records t [] i c f = record { each = tt; own = refl; sound = f }
-every-connection records t (p ∷ steps) i c f =
-    let rest = every-connection (recordsAfter records p) (storeAfter t p) steps i (c .1) (own-sound records t i p (c .0) f) in
-    record {
-      each = (
-        own-step records t i p (c .0) f,
-        subst (λ (x : Session). EachOwnCall i x (storeAfter t p) steps) (own-after records i p) (rest .each),
-      );
-      own = rest .own ∙ (ap (λ (x : Session). rawLastSession x (callsOf i steps)) (own-after records i p) ∙ own-last (records i) i p (callsOf i steps));
-      sound = rest .sound;
-    }
+every-connection records t steps i c f = record {
+  each = own-calls records t i steps c f;
+  own = own-record records i steps;
+  acknowledged = acknowledged-along records t i steps c f;
+  sound = sound-last records t i steps c f;
+}
 
 -- ---- the bytes of every entry of the one store
 

@@ -15,9 +15,10 @@ use Rattle.session.specs.declared.Commit.{Commit}
 use Rattle.session.specs.declared.Answer.the-variants as answer
 use Rattle.session.specs.Session.{unfinished}
 use Rattle.session_soundness.specs.Sound.{sound}
+use Rattle.receiver.specs.Ledger.{startLedger}
 use Rattle.message_bytes.specs.MessageBytes.{UpdateMessage}
 use Rattle.peers.specs.Reading.{RawMade, RawPromise}
-use Rattle.peers.specs.ExportedDemand3.{rawValues, rawTaken, rawLastSession, RawCallAsModel}
+use Rattle.peers.specs.ExportedDemand3.{rawValues, rawTaken, rawLastSession, RawCallAsModel, RawAcknowledgedCalls}
 use Rattle.peers.specs.ExportedCorollaries.{rawMessage, ToldUpdate, answering}
 
 -- ---- the steps
@@ -91,7 +92,9 @@ pub record AmongOthers (records : Records) (t : Store) (steps : List HostStep) (
   pub each : EachOwnCall i (records i) t steps
   -- its record at the end is the one that its own last call left
   pub own : lastRecords records steps i ≡ rawLastSession (records i) (callsOf i steps)
-  -- and is sound with the store at the end
+  -- each acknowledgement carries its table's bound ID and its last committed update ID, by the ledger of this connection's messages alone
+  pub acknowledged : RawAcknowledgedCalls (startLedger (records i .connection)) (unfinished (records i)) (callsOf i steps)
+  -- its record is sound with the store at the end
   pub sound : sound (lastRecords records steps i) (sharedStore t steps) ≡ true
 
 -- every connection whose record is sound with the store at the start, whether the others' are or not
