@@ -3,34 +3,42 @@ use Prim.Native.Nat.{ℕ}
 use native.Mathlib.Omega.{arith}
 use mathlib.Core.Path.{_≡_, refl, sym, ap, subst, _∙_}
 use mathlib.Core.Logic.{_⊎_, inl, inr, ⊎-elim}
-use mathlib.Core.Bool.{true, false, cond}
+use mathlib.Core.Bool.{Bool, true, false, cond}
 use mathlib.Core.List.{List, [], _∷_, _++_, append-assoc}
 use lib.ListN.{length, take, getD}
 use lib.Dec.{eqb}
 use borrow.Author.Tests.{eqb-true, eq-eqb}
-use Rattle.lists.proofs.Cases.{by-test}
+use Rattle.lists.specs.Lists.{front, every}
+use Rattle.lists.proofs.Cases.{by-test, and-first, and-second}
 use Rattle.store.specs.declared.Store.{Store}
-use Rattle.store.specs.Store.{noEntry, noTable}
+use Rattle.store.specs.Store.{noEntry, noTable, emptyStore}
+use Rattle.store.proofs.Ruled.{empty-sound}
 use Rattle.session.specs.declared.Session.{Session}
 use Rattle.session.specs.declared.Commit.{Commit}
 use Rattle.session.specs.declared.Answer.the-variants as answer
 use Rattle.session.specs.Session.{unfinished, isClosed}
 use Rattle.session_soundness.specs.Sound.{sound}
-use Rattle.receiver.specs.Promise.{Made}
+use Rattle.opening.specs.Opening.{Role, «open», openedOf}
+use Rattle.opening.proofs.SoundOpening.{open-sound}
+use Rattle.receiver.specs.Model.{isByte}
+use Rattle.receiver.specs.Promise.{Made, Shaped, callOf, outcomeOf, sessionOf}
 use Rattle.receiver.specs.Ledger.{Ledger, startLedger}
 use Rattle.receiver.specs.Demand3.{AcknowledgedCalls}
 use Rattle.receiver.proofs.Chained.{good-held}
 use Rattle.receiver.proofs.Following.{Follows, starts-following}
+use Rattle.receiver.proofs.Lawfully.{lawful}
+use Rattle.receiver.proofs.Offered.{next-shaped}
 use Rattle.receiver.proofs.Ways.{ways}
 use Rattle.receiver.proofs.LedgerAlong.{acknowledged-next}
 use Rattle.receiver.proofs.Sharing.{refused-byte}
 use Rattle.message_bytes.specs.MessageBytes.{UpdateMessage}
 use Rattle.message_bytes.proofs.LastUpdates.{carries}
-use Rattle.peers.specs.Numbers.{rawOutcome}
+use Rattle.peers.specs.declared.numbers.RawOpened.{RawOpened}
+use Rattle.peers.specs.Numbers.{rawOutcome, rawOpened}
 use Rattle.peers.specs.Reading.{RawMade, RawPromise}
 use Rattle.peers.specs.ExportedDemand3.{RawChain, rawValues, rawTaken, rawLastSession, rawLastStore, RawEachCall, RawAcknowledgedCalls, RawNeverUnsound, ExportedDemand3}
 use Rattle.peers.specs.ExportedCorollaries.{rawMessage, ToldUpdate, answering, RawNoneUpdates, RawNeverUpdated, RawLastUpdate}
-use Rattle.peers.specs.Connections.{Records, HostStep, reads, recordsAfter, storeAfter, KeptStep, Interleaved, lastRecords, sharedStore, ownCall, callsOf, SoundCall, OwnStep, ownAfter, EachOwnCall, AmongOthers, EveryConnection, sharedEntry, UpdatesNot, NoStepUpdates, NeverTouched, LastStep, BytesOfSharedEntries}
+use Rattle.peers.specs.Connections.{Records, HostStep, reads, recordsAfter, storeAfter, KeptStep, Interleaved, lastRecords, sharedStore, ownCall, callsOf, SoundCall, OwnStep, ownAfter, EachOwnCall, AmongOthers, EveryConnection, EveryOpenedConnection, Asked, askedBy, InOrder, InAnyOrder, sharedEntry, UpdatesNot, NoStepUpdates, NeverTouched, LastStep, BytesOfSharedEntries}
 use Rattle.peers.proofs.AsMade.{rawOf, madeBy, made-promised, made-same}
 use Rattle.peers.proofs.ExportedDemand3.{acknowledged-call, exported-demand-3}
 use Rattle.peers.proofs.ExportedCorollaries.{raw-other-records-sound, raw-bytes-of-every-entry}
@@ -191,6 +199,70 @@ every-connection records t steps i c f = record {
   acknowledged = acknowledged-along records t i steps c f;
   sound = sound-last records t i steps c f;
 }
+
+opened-sound : (role : Role) (local remote room : List ℕ) (o : RawOpened) → o ≡ rawOpened (openedOf («open» role local remote (length room)))
+    → sound (o .session) emptyStore ≡ true
+unfolding rawOpened openedOf
+opened-sound role local remote room o e =
+    subst (λ (x : RawOpened). sound (x .session) emptyStore ≡ true) (sym e) (open-sound role local remote (length room) emptyStore empty-sound)
+
+pub every-opened-connection : EveryOpenedConnection
+every-opened-connection records steps i role local remote room o e q c =
+    every-connection records emptyStore steps i c
+    (subst (λ (x : Session). sound x emptyStore ≡ true) (sym q) (opened-sound role local remote room o e))
+
+-- ---- in any order
+
+-- a call that keeps its promise: what the promise says of it is what it is
+abbrev made : Session → Store → List ℕ → List ℕ → RawMade
+made s t piece room =
+    let c = callOf s t piece (length room) in
+    record {
+      piece = piece;
+      room = room;
+      outcome = rawOutcome (outcomeOf c);
+      session = sessionOf s c;
+      store = c .state .store;
+      final = front (c .reply) room;
+    }
+
+promised : (s : Session) (t : Store) (piece room : List ℕ) → Shaped s t → every isByte piece ≡ true → RawPromise s t (made s t piece room)
+promised s t piece room sh q = record { outcome = refl; session = refl; store = refl; final = refl; shaped = sh; bytes = q }
+
+shaped-after : (s : Session) (t : Store) (m : RawMade) → RawPromise s t m → sound s t ≡ true → Shaped (m .session) (m .store)
+shaped-after s t m p f = next-shaped lawful s t (madeBy s t m) (made-promised s t m p) f (good-held s t (p .shaped) f)
+
+all-shaped : (records : Records) (t : Store) (p : HostStep) → KeptStep records t p → ((i : ℕ) → Shaped (records i) t)
+    → ((i : ℕ) → sound (records i) t ≡ true) → (i : ℕ) → Shaped (recordsAfter records p i) (storeAfter t p)
+unfolding KeptStep recordsAfter storeAfter
+all-shaped records t (reads k m) p sh f i =
+    let n = shaped-after (records k) t m p (f k) in
+    by-test (eqb k i)
+    (λ h. rw h n)
+    (λ h. rw h (record { session = sh i .session; store = n .store }))
+
+abbrev bytesAsked : Asked → Bool
+bytesAsked a = every isByte (a .piece)
+
+in-order : (records : Records) (t : Store) (a : Asked) (asked : List Asked) (p : HostStep) → KeptStep records t p → askedBy p ≡ a
+    → InOrder (recordsAfter records p) (storeAfter t p) asked → InOrder records t (a ∷ asked)
+unfolding Interleaved
+in-order records t a asked p k e rest = record {
+  steps = p ∷ rest .steps;
+  kept = (k, rest .kept);
+  order = λ i. e i ∷ rest .order i;
+}
+
+pub in-any-order : InAnyOrder
+unfolding Interleaved KeptStep askedBy every
+in-any-order records t [] sh f q = record { steps = []; kept = tt; order = refl }
+in-any-order records t (a ∷ asked) sh f q =
+    let k = a .connection in
+    let m = made (records k) t (a .piece) (a .room) in
+    let p = promised (records k) t (a .piece) (a .room) (sh k) (and-first (bytesAsked a) (every bytesAsked asked) q) in
+    in-order records t a asked (reads k m) p refl
+    (in-any-order (recordsAfter records (reads k m)) (storeAfter t (reads k m)) asked (all-shaped records t (reads k m) p sh f)
+    (λ i. own-sound records t i (reads k m) p (f i)) (and-second (bytesAsked a) (every bytesAsked asked) q))
 
 -- ---- the bytes of every entry of the one store
 

@@ -3,20 +3,26 @@
 use Prim.Native.Nat.{ℕ}
 use mathlib.Core.Path.{_≡_}
 use mathlib.Core.Logic.{_⊎_}
-use mathlib.Core.List.{List, [], _∷_, _++_}
+use mathlib.Core.List.{List, [], _∷_, _++_, map}
 use mathlib.Core.Bool.{true, cond}
-use lib.ListN.{getD}
+use lib.ListN.{length, getD}
 use lib.Dec.{eqb}
+use Rattle.lists.specs.Lists.{every}
 use Rattle.store.specs.declared.Entry.{Entry}
 use Rattle.store.specs.declared.Store.{Store}
-use Rattle.store.specs.Store.{noEntry, noTable}
+use Rattle.store.specs.Store.{noEntry, noTable, emptyStore}
 use Rattle.session.specs.declared.Session.{Session}
 use Rattle.session.specs.declared.Commit.{Commit}
 use Rattle.session.specs.declared.Answer.the-variants as answer
 use Rattle.session.specs.Session.{unfinished}
 use Rattle.session_soundness.specs.Sound.{sound}
+use Rattle.opening.specs.Opening.{Role, «open», openedOf}
+use Rattle.receiver.specs.Model.{isByte}
+use Rattle.receiver.specs.Promise.{Shaped}
 use Rattle.receiver.specs.Ledger.{startLedger}
 use Rattle.message_bytes.specs.MessageBytes.{UpdateMessage}
+use Rattle.peers.specs.declared.numbers.RawOpened.{RawOpened}
+use Rattle.peers.specs.Numbers.{rawOpened}
 use Rattle.peers.specs.Reading.{RawMade, RawPromise}
 use Rattle.peers.specs.ExportedDemand3.{rawValues, rawTaken, rawLastSession, RawCallAsModel, RawAcknowledgedCalls}
 use Rattle.peers.specs.ExportedCorollaries.{rawMessage, ToldUpdate, answering}
@@ -101,6 +107,36 @@ pub record AmongOthers (records : Records) (t : Store) (steps : List HostStep) (
 abbrev pub EveryConnection : Type 0
 EveryConnection =
     (records : Records) (t : Store) (steps : List HostStep) (i : ℕ) → Interleaved records t steps → sound (records i) t ≡ true → AmongOthers records t steps i
+
+-- from where a host starts: a record that `peers_open_answerer` or `peers_open_caller` gave, and the store of `peers_empty_store`
+abbrev pub EveryOpenedConnection : Type 0
+EveryOpenedConnection =
+    (records : Records) (steps : List HostStep) (i : ℕ) (role : Role) (local remote room : List ℕ) (o : RawOpened)
+    → o ≡ rawOpened (openedOf («open» role local remote (length room))) → records i ≡ o .session → Interleaved records emptyStore steps
+    → AmongOthers records emptyStore steps i
+
+-- ---- in any order
+
+-- what a host asks for: a call of this connection, with this piece and this reply room
+pub record Asked : Type 0 where
+  pub connection : ℕ
+  pub piece : List ℕ
+  pub room : List ℕ
+
+unfoldable pub askedBy : HostStep → Asked
+askedBy (reads k m) = record { connection = k; piece = m .piece; room = m .room }
+
+-- steps that do what was asked, in that order
+pub record InOrder (records : Records) (t : Store) (asked : List Asked) : Type 0 where
+  pub steps : List HostStep
+  pub kept : Interleaved records t steps
+  pub order : map askedBy steps ≡ asked
+
+-- such steps exist for every order of the connections, any pieces, any rooms
+abbrev pub InAnyOrder : Type 0
+InAnyOrder =
+    (records : Records) (t : Store) (asked : List Asked) → ((i : ℕ) → Shaped (records i) t) → ((i : ℕ) → sound (records i) t ≡ true)
+    → every (λ a. every isByte (a .piece)) asked ≡ true → InOrder records t asked
 
 -- ---- "which bytes stood for this counter?", of the one store
 
