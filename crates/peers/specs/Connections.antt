@@ -96,7 +96,7 @@ EachOwnCall i s t (p ∷ steps) = OwnStep i s t p × EachOwnCall i (ownAfter i s
 -- what holds of the connection with number i, whatever calls the others make
 pub record AmongOthers (records : Records) (t : Store) (steps : List HostStep) (i : ℕ) : Type 0 where
   pub each : EachOwnCall i (records i) t steps
-  -- its record at the end is the one that its own last call left
+  -- its record at the end is the one that its own last call left, and without a call the one that it had
   pub own : lastRecords records steps i ≡ rawLastSession (records i) (callsOf i steps)
   -- each acknowledgement carries its table's bound ID and its last committed update ID, by the ledger of this connection's messages alone
   pub acknowledged : RawAcknowledgedCalls (startLedger (records i .connection)) (unfinished (records i)) (callsOf i steps)
@@ -132,7 +132,7 @@ pub record InOrder (records : Records) (t : Store) (asked : List Asked) : Type 0
   pub kept : Interleaved records t steps
   pub order : map askedBy steps ≡ asked
 
--- such steps exist for every order of the connections, any pieces, any rooms
+-- such steps exist for every order of the connections, any pieces, any rooms. A number without a connection may have any sound record, as a refused opening's
 abbrev pub InAnyOrder : Type 0
 InAnyOrder =
     (records : Records) (t : Store) (asked : List Asked) → ((i : ℕ) → Shaped (records i) t) → ((i : ℕ) → sound (records i) t ≡ true)
