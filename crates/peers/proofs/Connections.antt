@@ -38,8 +38,8 @@ use Rattle.peers.specs.Numbers.{rawOutcome, rawOpened}
 use Rattle.peers.specs.Reading.{RawMade, RawPromise}
 use Rattle.peers.specs.ExportedDemand3.{RawChain, rawValues, rawTaken, rawLastSession, rawLastStore, RawEachCall, RawAcknowledgedCalls, RawNeverUnsound, ExportedDemand3}
 use Rattle.peers.specs.ExportedCorollaries.{rawMessage, ToldUpdate, answering, RawNoneUpdates, RawNeverUpdated, RawLastUpdate}
-use Rattle.peers.specs.Connections.{Records, HostStep, reads, recordsAfter, storeAfter, KeptStep, Interleaved, lastRecords, sharedStore, ownCall, callsOf, SoundCall, OwnStep, ownAfter, EachOwnCall, AmongOthers, EveryConnection, EveryOpenedConnection, Asked, askedBy, InOrder, InAnyOrder, sharedEntry, UpdatesNot, NoStepUpdates, NeverTouched, LastStep, BytesOfSharedEntries}
-use Rattle.peers.proofs.AsMade.{rawOf, madeBy, made-promised, made-same}
+use Rattle.peers.specs.Connections.{Records, HostStep, reads, recordsAfter, storeAfter, KeptStep, Interleaved, lastRecords, sharedStore, ownCall, callsOf, SoundCall, OwnStep, ownAfter, EachOwnCall, EveryConnection, EveryOpenedConnection, Asked, askedBy, InOrder, InAnyOrder, UpdatesNot, NoStepUpdates, NeverTouched, LastStep, BytesOfSharedEntries}
+use Rattle.peers.proofs.AsMade.{madeBy, made-promised, made-same}
 use Rattle.peers.proofs.ExportedDemand3.{acknowledged-call, exported-demand-3}
 use Rattle.peers.proofs.ExportedCorollaries.{raw-other-records-sound, raw-bytes-of-every-entry}
 
