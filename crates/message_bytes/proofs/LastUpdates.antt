@@ -107,7 +107,7 @@ module _ (s : Session) (t : Store) (m : Made) (p : ReadPromise s t m) where
   abbrev call : Call State Answer
   call = callOf s t (m .piece) (length (m .room))
 
-  abbrev Carried : Type 0
+  abbrev pub Carried : Type 0
   Carried = (done : List ℕ) × (messageOf s m ≡ done ++ unfinished (m .session))
 
   unfinished-is : sound s t ≡ true → unfinished (m .session) ≡ call .state .unfinished
@@ -133,7 +133,7 @@ module _ (s : Session) (t : Store) (m : Made) (p : ReadPromise s t m) where
     sym (append-nil (messageOf s m)) ∙ ap (λ (u : List ℕ). messageOf s m ++ u) (sym (unfinished-is (j .sound) ∙ ap (λ (k : State). k .unfinished) (j .state))),
   )
 
-  carries : Carried
+  pub carries : Carried
   carries = carried (ways s t m p)
 
 -- ---- all calls

@@ -26,6 +26,7 @@ use Rattle.receiver.specs.Demand3.{Chain, replyIn, takenBy, lastSession, lastSt
 use Rattle.receiver.proofs.Demand3.{demand-3}
 use Rattle.receiver.proofs.Sharing.{refused-byte}
 use Rattle.peers.specs.Numbers.{rawOutcome}
+use Rattle.peers.specs.Reading.{RawMade}
 use Rattle.peers.specs.ExportedDemand3.{rawReply, rawTaken, rawLastSession, rawLastStore, endsNumber, rawResponses, rawReplies, rawCameTo, responseInNumbers, inNumbers, RawCallAsModel, RawEachCall, RawOffersTo, RawWithinCuts, RawRooms, RawOffering, rawPost, RawRightReply, RawAcknowledgedCalls, RawNeverUnsound, ExportedDemand3, EveryListOfCalls}
 use Rattle.peers.proofs.AsMade.{rawOf, madesBy, mades-chain, mades-same, raw-chain, values-most, values-told, refused-is}
 
@@ -212,22 +213,28 @@ right l message reply (answer.Acknowledgement id update) h r = r
 right l message reply (answer.Skipped type) h r = r
 right l message reply (answer.Refused n) h r = let k = h n refl in rw (ne-eqb n 267 (λ e. omega (arith, k, e)), ne-eqb n 266 (λ e. omega (arith, k, e))) r
 
-acknowledged-calls : (s : Session) (t : Store) (l : Ledger) (u : List ℕ) (ms : List Made) → Chain s t ms → AcknowledgedCalls l u ms → RawAcknowledgedCalls l u (map rawOf ms)
-unfolding Chain AcknowledgedCalls RawAcknowledgedCalls rawOutcome
-acknowledged-calls s t l u [] c k = tt
-acknowledged-calls s t l u (m ∷ ms) c k =
+-- one call, before others of which it holds
+pub acknowledged-call : (l : Ledger) (u : List ℕ) (m : Made) (ms : List Made) (others : List RawMade) → RefusedByte (m .outcome .answer)
+    → ((l′ : Ledger) (u′ : List ℕ) → AcknowledgedCalls l′ u′ ms → RawAcknowledgedCalls l′ u′ others) → AcknowledgedCalls l u (m ∷ ms)
+    → RawAcknowledgedCalls l u (rawOf m ∷ others)
+unfolding AcknowledgedCalls RawAcknowledgedCalls rawOutcome
+acknowledged-call l u m ms others b next k =
     let a = m .outcome .answer in
-    let b = refused-byte s t m (c .0) in
     let e = endedBy u m in
     let same = posted l (e .message) (e .reply) a b in
     by-test (ends a)
     (λ h.
     let k′ : RightReply (post l e) (e .message) (e .reply) a × AcknowledgedCalls (post l e) [] ms = rw h at k in
-    rw (ends-number a b, h, values-told m, same, same-reply m)
-    (right (post l e) (e .message) (e .reply) a b (k′ .0), acknowledged-calls (m .session) (m .store) (post l e) [] ms (c .1) (k′ .1)))
+    rw (ends-number a b, h, values-told m, same, same-reply m) (right (post l e) (e .message) (e .reply) a b (k′ .0), next (post l e) [] (k′ .1)))
     (λ h.
     let k′ : (replyIn m ≡ []) × AcknowledgedCalls l (e .message) ms = rw h at k in
-    rw (ends-number a b, h) (same-reply m ∙ k′ .0, acknowledged-calls (m .session) (m .store) l (e .message) ms (c .1) (k′ .1)))
+    rw (ends-number a b, h) (same-reply m ∙ k′ .0, next l (e .message) (k′ .1)))
+
+acknowledged-calls : (s : Session) (t : Store) (l : Ledger) (u : List ℕ) (ms : List Made) → Chain s t ms → AcknowledgedCalls l u ms → RawAcknowledgedCalls l u (map rawOf ms)
+unfolding Chain
+acknowledged-calls s t l u [] c k = unfold RawAcknowledgedCalls in tt
+acknowledged-calls s t l u (m ∷ ms) c k =
+    acknowledged-call l u m ms (map rawOf ms) (refused-byte s t m (c .0)) (λ l′ u′ k′. acknowledged-calls (m .session) (m .store) l′ u′ ms (c .1) k′) k
 
 -- ---- never 4
 

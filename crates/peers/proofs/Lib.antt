@@ -3,3 +3,4 @@ pub mod AsMade
 pub mod ExportedDemand3
 pub mod ExportedCorollaries
 pub mod FromTheStart
+pub mod Connections

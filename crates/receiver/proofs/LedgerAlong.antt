@@ -104,21 +104,22 @@ module _ (s : Session) (t : Store) (m : Made) (p : ReadPromise s t m) (f : sound
           rw ends-now
           (right-now, next (post l (endedBy u m)) follows-now [] (λ c. sym (unfinished-is ∙ ap (λ (x : State). x .unfinished) (j .state))))
 
-    one-call : Way s t (m .piece) call → AcknowledgedCalls l u (m ∷ ms)
-    one-call (staying n h q) =
+    -- one call, before others of which it holds
+    pub acknowledged-next : Way s t (m .piece) call → AcknowledgedCalls l u (m ∷ ms)
+    acknowledged-next (staying n h q) =
         let z = ap (λ (x : Call State Answer). x .taken) q in
         quiet-on (ap ends (answer-is s t m p ∙ ap (λ (x : Call State Answer). x .answer) q) ∙ early-ends n h)
         (reply-is s t m p ∙ ap (λ (x : Call State Answer). x .reply) q)
         (stays-on (record-stays s t m p z) (taken-is s t m p ∙ z))
-    one-call (waiting-on w) = quiet-on (ap ends (answer-is s t m p ∙ w .answer) ∙ more-ends) (reply-is s t m p ∙ w .reply) (waits-on w)
-    one-call (judging e j) = answers-on e j
+    acknowledged-next (waiting-on w) = quiet-on (ap ends (answer-is s t m p ∙ w .answer) ∙ more-ends) (reply-is s t m p ∙ w .reply) (waits-on w)
+    acknowledged-next (judging e j) = answers-on e j
 
 pub ledger-along : (s : Session) (t : Store) (ms : List Made) → Chain s t ms → sound s t ≡ true → Good (heldBy s t) → (l : Ledger) → Follows (s .connection) l
     → (u : List ℕ) → (isClosed (s .connection) ≡ false → u ≡ unfinished s) → AcknowledgedCalls l u ms
 unfolding Chain
 ledger-along s t [] c f g l k u o = unfold AcknowledgedCalls in tt
 ledger-along s t (m ∷ ms) c f g l k u o =
-    one-call s t m (c .0) f g l k u o ms
+    acknowledged-next s t m (c .0) f g l k u o ms
     (λ l′ k′ u′ o′.
     ledger-along (m .session) (m .store) ms (c .1) (made-sound s t m (c .0) f lawful g) (made-good s t m (c .0) f lawful g) l′ k′ u′ o′)
     (ways s t m (c .0))

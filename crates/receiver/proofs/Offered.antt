@@ -71,7 +71,7 @@ rooms s t room (happening e ∷ steps) = tt
 
 module _ (law : Lawful peers Good) where
   -- the shape is kept
-  next-shaped : (s : Session) (t : Store) (m : Made) → ReadPromise s t m → sound s t ≡ true → Good (heldBy s t) → Shaped (m .session) (m .store)
+  pub next-shaped : (s : Session) (t : Store) (m : Made) → ReadPromise s t m → sound s t ≡ true → Good (heldBy s t) → Shaped (m .session) (m .store)
   next-shaped s t m p f g =
       let k = modelCall s t m .state in
       let n = call-good peers law (heldBy s t) (m .piece) (length (m .room)) g (p .bytes) in

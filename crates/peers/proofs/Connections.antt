@@ -1,0 +1,396 @@
+-- Several connections and one store, by induction on the steps: one call's laws are those of a list of one call.
+use Prim.Native.Nat.{ℕ}
+use native.Mathlib.Omega.{arith}
+use mathlib.Core.Path.{_≡_, refl, sym, ap, subst, _∙_}
+use mathlib.Core.Logic.{_⊎_, inl, inr, ⊎-elim}
+use mathlib.Core.Bool.{Bool, true, false, cond}
+use mathlib.Core.List.{List, [], _∷_, _++_, append-assoc}
+use lib.ListN.{length, take, getD}
+use lib.Dec.{eqb}
+use borrow.Author.Tests.{eqb-true, eq-eqb}
+use Rattle.lists.specs.Lists.{front, every}
+use Rattle.lists.proofs.Cases.{by-test, and-first, and-second}
+use Rattle.store.specs.declared.Store.{Store}
+use Rattle.store.specs.Store.{noEntry, noTable, emptyStore}
+use Rattle.store.proofs.Ruled.{empty-sound}
+use Rattle.session.specs.declared.Session.{Session}
+use Rattle.session.specs.declared.Commit.{Commit}
+use Rattle.session.specs.declared.Answer.the-variants as answer
+use Rattle.session.specs.Session.{unfinished, isClosed}
+use Rattle.session_soundness.specs.Sound.{sound}
+use Rattle.opening.specs.Opening.{Role, «open», openedOf}
+use Rattle.opening.proofs.SoundOpening.{open-sound}
+use Rattle.receiver.specs.Model.{isByte}
+use Rattle.receiver.specs.Promise.{Made, Shaped, callOf, outcomeOf, sessionOf}
+use Rattle.receiver.specs.Ledger.{Ledger, startLedger}
+use Rattle.receiver.specs.Demand3.{AcknowledgedCalls}
+use Rattle.receiver.proofs.Chained.{good-held}
+use Rattle.receiver.proofs.Following.{Follows, starts-following}
+use Rattle.receiver.proofs.Lawfully.{lawful}
+use Rattle.receiver.proofs.Offered.{next-shaped}
+use Rattle.receiver.proofs.Ways.{ways}
+use Rattle.receiver.proofs.LedgerAlong.{acknowledged-next}
+use Rattle.receiver.proofs.Sharing.{refused-byte}
+use Rattle.message_bytes.specs.MessageBytes.{UpdateMessage}
+use Rattle.message_bytes.proofs.LastUpdates.{carries}
+use Rattle.peers.specs.declared.numbers.RawOpened.{RawOpened}
+use Rattle.peers.specs.Numbers.{rawOutcome, rawOpened}
+use Rattle.peers.specs.Reading.{RawMade, RawPromise}
+use Rattle.peers.specs.ExportedDemand3.{RawChain, rawValues, rawTaken, rawLastSession, rawLastStore, RawEachCall, RawAcknowledgedCalls, RawNeverUnsound, ExportedDemand3}
+use Rattle.peers.specs.ExportedCorollaries.{rawMessage, ToldUpdate, answering, RawNoneUpdates, RawNeverUpdated, RawLastUpdate}
+use Rattle.peers.specs.Connections.{Records, HostStep, reads, recordsAfter, storeAfter, KeptStep, Interleaved, lastRecords, sharedStore, ownCall, callsOf, SoundCall, OwnStep, ownAfter, EachOwnCall, EveryConnection, EveryOpenedConnection, Asked, askedBy, InOrder, InAnyOrder, UpdatesNot, NoStepUpdates, NeverTouched, LastStep, BytesOfSharedEntries}
+use Rattle.peers.proofs.AsMade.{madeBy, made-promised, made-same}
+use Rattle.peers.proofs.ExportedDemand3.{acknowledged-call, exported-demand-3}
+use Rattle.peers.proofs.ExportedCorollaries.{raw-other-records-sound, raw-bytes-of-every-entry}
+
+-- ---- one call
+
+module _ (s : Session) (t : Store) (m : RawMade) (p : RawPromise s t m) where
+  alone : RawChain s t (m ∷ [])
+  unfolding RawChain
+  alone = (p, tt)
+
+  demanded : sound s t ≡ true → ExportedDemand3 s t (m ∷ [])
+  demanded f = exported-demand-3 s t (m ∷ []) f alone
+
+  sound-call : sound s t ≡ true → SoundCall s t m
+  unfolding RawEachCall RawNeverUnsound
+  sound-call f = record { sound = f; model = demanded f .each .0; never-4 = demanded f .never-4 .0 }
+
+  sound-after : sound s t ≡ true → sound (m .session) (m .store) ≡ true
+  unfolding rawLastSession rawLastStore
+  sound-after f = demanded f .sound
+
+  -- of the unfinished bytes and those taken, some are done with and the others are unfinished afterwards
+  carries-on : (done : List ℕ) × (rawMessage s m ≡ done ++ unfinished (m .session))
+  unfolding rawOutcome
+  carries-on =
+      subst (λ (x : RawMade). (done : List ℕ) × (rawMessage s x ≡ done ++ unfinished (x .session))) (sym (made-same s t m p))
+      (carries s t (madeBy s t m) (made-promised s t m p))
+
+-- ---- one connection among the others
+
+-- the connection's record after a step is what the step left of it
+own-after : (records : Records) (i : ℕ) (p : HostStep) → recordsAfter records p i ≡ ownAfter i (records i) p
+unfolding recordsAfter ownAfter
+own-after records i (reads k m) = refl
+
+own-sound : (records : Records) (t : Store) (i : ℕ) (p : HostStep) → KeptStep records t p → sound (records i) t ≡ true
+    → sound (recordsAfter records p i) (storeAfter t p) ≡ true
+unfolding KeptStep recordsAfter storeAfter
+own-sound records t i (reads k m) p f =
+    by-test (eqb k i)
+    (λ h. rw h (sound-after (records k) t m p (subst (λ (j : ℕ). sound (records j) t ≡ true) (sym (eqb-true k i h)) f)))
+    (λ h. rw h (raw-other-records-sound (records k) t m (records i) p f))
+
+own-step : (records : Records) (t : Store) (i : ℕ) (p : HostStep) → KeptStep records t p → sound (records i) t ≡ true → OwnStep i (records i) t p
+unfolding KeptStep OwnStep
+own-step records t i (reads k m) p f =
+    by-test (eqb k i)
+    (λ h. rw h (sound-call (records i) t m (subst (λ (j : ℕ). RawPromise (records j) t m) (eqb-true k i h) p) f))
+    (λ h. rw h tt)
+
+own-last : (s : Session) (i : ℕ) (p : HostStep) (calls : List RawMade) → rawLastSession (ownAfter i s p) calls ≡ rawLastSession s (ownCall i p calls)
+unfolding ownAfter ownCall rawLastSession
+own-last s i (reads k m) calls = by-test (eqb k i) (λ h. rw h) (λ h. rw h)
+
+-- ---- the acknowledgements of one connection
+
+-- the connection's calls, with the answer enum
+ownMade : ℕ → Records → Store → HostStep → List Made → List Made
+ownMade i records t (reads k m) calls = cond (eqb k i) (madeBy (records i) t m ∷ calls) calls
+
+ownMades : ℕ → Records → Store → List HostStep → List Made
+ownMades i records t [] = []
+ownMades i records t (p ∷ steps) = ownMade i records t p (ownMades i (recordsAfter records p) (storeAfter t p) steps)
+
+-- with each ledger that says what the record says, the replies to these calls are right
+abbrev RightAlong : Session → List Made → Type 0
+RightAlong s calls =
+    (l : Ledger) → Follows (s .connection) l → (u : List ℕ) → (isClosed (s .connection) ≡ false → u ≡ unfinished s) → AcknowledgedCalls l u calls
+
+right-call : (s : Session) (t : Store) (m : RawMade) (calls : List Made) → RawPromise s t m → sound s t ≡ true → RightAlong (m .session) calls
+    → RightAlong s (madeBy s t m ∷ calls)
+right-call s t m calls p f next l k u o =
+    let made = madeBy s t m in
+    let q = made-promised s t m p in
+    acknowledged-next s t made q f (good-held s t (p .shaped) f) l k u o calls next (ways s t made q)
+
+right-step : (records : Records) (t : Store) (i : ℕ) (p : HostStep) (calls : List Made) → KeptStep records t p → sound (records i) t ≡ true
+    → RightAlong (recordsAfter records p i) calls → RightAlong (records i) (ownMade i records t p calls)
+unfolding KeptStep recordsAfter ownMade
+right-step records t i (reads k m) calls p f next =
+    by-test (eqb k i)
+    (λ h.
+    let next′ : RightAlong (m .session) calls = rw h at next in
+    rw h (right-call (records i) t m calls (subst (λ (j : ℕ). RawPromise (records j) t m) (eqb-true k i h) p) f next′))
+    (λ h. let next′ : RightAlong (records i) calls = rw h at next in rw h next′)
+
+right-along : (records : Records) (t : Store) (i : ℕ) (steps : List HostStep) → Interleaved records t steps → sound (records i) t ≡ true
+    → RightAlong (records i) (ownMades i records t steps)
+unfolding Interleaved ownMades AcknowledgedCalls
+right-along records t i [] c f = λ l k u o. tt
+right-along records t i (p ∷ steps) c f =
+    right-step records t i p (ownMades i (recordsAfter records p) (storeAfter t p) steps) (c .0) f
+    (right-along (recordsAfter records p) (storeAfter t p) i steps (c .1) (own-sound records t i p (c .0) f))
+
+-- in numbers
+abbrev InNumbers : List Made → List RawMade → Type 0
+InNumbers calls others = (l : Ledger) (u : List ℕ) → AcknowledgedCalls l u calls → RawAcknowledgedCalls l u others
+
+numbers-call : (s : Session) (t : Store) (m : RawMade) (calls : List Made) (others : List RawMade) → RawPromise s t m → InNumbers calls others
+    → InNumbers (madeBy s t m ∷ calls) (m ∷ others)
+numbers-call s t m calls others p next l u k =
+    subst (λ (x : RawMade). RawAcknowledgedCalls l u (x ∷ others)) (sym (made-same s t m p))
+    (acknowledged-call l u (madeBy s t m) calls others (refused-byte s t (madeBy s t m) (made-promised s t m p)) next k)
+
+numbers-step : (records : Records) (t : Store) (i : ℕ) (p : HostStep) (calls : List Made) (others : List RawMade) → KeptStep records t p
+    → InNumbers calls others → InNumbers (ownMade i records t p calls) (ownCall i p others)
+unfolding KeptStep ownMade ownCall
+numbers-step records t i (reads k m) calls others p next =
+    by-test (eqb k i)
+    (λ h. rw h (numbers-call (records i) t m calls others (subst (λ (j : ℕ). RawPromise (records j) t m) (eqb-true k i h) p) next))
+    (λ h. rw h next)
+
+numbers-along : (records : Records) (t : Store) (i : ℕ) (steps : List HostStep) → Interleaved records t steps
+    → InNumbers (ownMades i records t steps) (callsOf i steps)
+unfolding Interleaved ownMades callsOf RawAcknowledgedCalls
+numbers-along records t i [] c = λ l u k. tt
+numbers-along records t i (p ∷ steps) c =
+    numbers-step records t i p (ownMades i (recordsAfter records p) (storeAfter t p) steps) (callsOf i steps) (c .0)
+    (numbers-along (recordsAfter records p) (storeAfter t p) i steps (c .1))
+
+acknowledged-along : (records : Records) (t : Store) (i : ℕ) (steps : List HostStep) → Interleaved records t steps → sound (records i) t ≡ true
+    → RawAcknowledgedCalls (startLedger (records i .connection)) (unfinished (records i)) (callsOf i steps)
+acknowledged-along records t i steps c f =
+    let l = startLedger (records i .connection) in
+    numbers-along records t i steps c l (unfinished (records i))
+    (right-along records t i steps c f l (starts-following (records i .connection)) (unfinished (records i)) (λ o. refl))
+
+-- ---- the claim of one connection
+
+own-calls : (records : Records) (t : Store) (i : ℕ) (steps : List HostStep) → Interleaved records t steps → sound (records i) t ≡ true
+    → EachOwnCall i (records i) t steps
+unfolding Interleaved EachOwnCall
+own-calls records t i [] c f = tt
+own-calls records t i (p ∷ steps) c f = (
+  own-step records t i p (c .0) f,
+  subst (λ (x : Session). EachOwnCall i x (storeAfter t p) steps) (own-after records i p)
+      (own-calls (recordsAfter records p) (storeAfter t p) i steps (c .1) (own-sound records t i p (c .0) f)),
+)
+
+own-record : (records : Records) (i : ℕ) (steps : List HostStep) → lastRecords records steps i ≡ rawLastSession (records i) (callsOf i steps)
+unfolding lastRecords callsOf rawLastSession
+own-record records i [] = refl
+own-record records i (p ∷ steps) =
+    own-record (recordsAfter records p) i steps
+    ∙ (ap (λ (x : Session). rawLastSession x (callsOf i steps)) (own-after records i p) ∙ own-last (records i) i p (callsOf i steps))
+
+sound-last : (records : Records) (t : Store) (i : ℕ) (steps : List HostStep) → Interleaved records t steps → sound (records i) t ≡ true
+    → sound (lastRecords records steps i) (sharedStore t steps) ≡ true
+unfolding Interleaved lastRecords sharedStore
+sound-last records t i [] c f = f
+sound-last records t i (p ∷ steps) c f = sound-last (recordsAfter records p) (storeAfter t p) i steps (c .1) (own-sound records t i p (c .0) f)
+
+pub every-connection : EveryConnection
+every-connection records t steps i c f = record {
+  each = own-calls records t i steps c f;
+  own = own-record records i steps;
+  acknowledged = acknowledged-along records t i steps c f;
+  sound = sound-last records t i steps c f;
+}
+
+opened-sound : (role : Role) (local remote room : List ℕ) (o : RawOpened) → o ≡ rawOpened (openedOf («open» role local remote (length room)))
+    → sound (o .session) emptyStore ≡ true
+unfolding rawOpened openedOf
+opened-sound role local remote room o e =
+    subst (λ (x : RawOpened). sound (x .session) emptyStore ≡ true) (sym e) (open-sound role local remote (length room) emptyStore empty-sound)
+
+pub every-opened-connection : EveryOpenedConnection
+every-opened-connection records steps i role local remote room o e q c =
+    every-connection records emptyStore steps i c
+    (subst (λ (x : Session). sound x emptyStore ≡ true) (sym q) (opened-sound role local remote room o e))
+
+-- ---- in any order
+
+-- a call that keeps its promise: what the promise says of it is what it is
+abbrev made : Session → Store → List ℕ → List ℕ → RawMade
+made s t piece room =
+    let c = callOf s t piece (length room) in
+    record {
+      piece = piece;
+      room = room;
+      outcome = rawOutcome (outcomeOf c);
+      session = sessionOf s c;
+      store = c .state .store;
+      final = front (c .reply) room;
+    }
+
+promised : (s : Session) (t : Store) (piece room : List ℕ) → Shaped s t → every isByte piece ≡ true → RawPromise s t (made s t piece room)
+promised s t piece room sh q = record { outcome = refl; session = refl; store = refl; final = refl; shaped = sh; bytes = q }
+
+shaped-after : (s : Session) (t : Store) (m : RawMade) → RawPromise s t m → sound s t ≡ true → Shaped (m .session) (m .store)
+shaped-after s t m p f = next-shaped lawful s t (madeBy s t m) (made-promised s t m p) f (good-held s t (p .shaped) f)
+
+all-shaped : (records : Records) (t : Store) (p : HostStep) → KeptStep records t p → ((i : ℕ) → Shaped (records i) t)
+    → ((i : ℕ) → sound (records i) t ≡ true) → (i : ℕ) → Shaped (recordsAfter records p i) (storeAfter t p)
+unfolding KeptStep recordsAfter storeAfter
+all-shaped records t (reads k m) p sh f i =
+    let n = shaped-after (records k) t m p (f k) in
+    by-test (eqb k i)
+    (λ h. rw h n)
+    (λ h. rw h (record { session = sh i .session; store = n .store }))
+
+abbrev bytesAsked : Asked → Bool
+bytesAsked a = every isByte (a .piece)
+
+in-order : (records : Records) (t : Store) (a : Asked) (asked : List Asked) (p : HostStep) → KeptStep records t p → askedBy p ≡ a
+    → InOrder (recordsAfter records p) (storeAfter t p) asked → InOrder records t (a ∷ asked)
+unfolding Interleaved
+in-order records t a asked p k e rest = record {
+  steps = p ∷ rest .steps;
+  kept = (k, rest .kept);
+  order = λ i. e i ∷ rest .order i;
+}
+
+pub in-any-order : InAnyOrder
+unfolding Interleaved KeptStep askedBy every
+in-any-order records t [] sh f q = record { steps = []; kept = tt; order = refl }
+in-any-order records t (a ∷ asked) sh f q =
+    let k = a .connection in
+    let m = made (records k) t (a .piece) (a .room) in
+    let p = promised (records k) t (a .piece) (a .room) (sh k) (and-first (bytesAsked a) (every bytesAsked asked) q) in
+    in-order records t a asked (reads k m) p refl
+    (in-any-order (recordsAfter records (reads k m)) (storeAfter t (reads k m)) asked (all-shaped records t (reads k m) p sh f)
+    (λ i. own-sound records t i (reads k m) p (f i)) (and-second (bytesAsked a) (every bytesAsked asked) q))
+
+-- ---- the bytes of every entry of the one store
+
+-- one call that updated a place: what it told and the message that it ended
+record Updated (s : Session) (t : Store) (m : RawMade) (place : ℕ) : Type 0 where
+  pub table : ℕ
+  pub id : ℕ
+  pub how : Commit
+  pub told : ToldUpdate m table id place how
+  pub message : UpdateMessage s (answering (answer.Update table id place how) m) table id (getD (m .store .tables) table noTable)
+      (getD (m .store .entries) place noEntry)
+
+-- one call that didn't
+record NotUpdated (t : Store) (m : RawMade) (place : ℕ) : Type 0 where
+  pub none : m .outcome .number ≡ 267 → getD (rawValues m) 2 0 ≡ place → ⊥
+  pub same : getD (m .store .entries) place noEntry ≡ getD (t .entries) place noEntry
+
+the-one : (m call : RawMade) (before after : List RawMade) → m ∷ [] ≡ before ++ (call ∷ after) → (before ≡ []) × (m ≡ call)
+the-one m call [] after e = (refl, cc)
+the-one m call (b ∷ []) after e = absurd (let l = ap length e in omega (arith, l))
+the-one m call (b ∷ (d ∷ before)) after e = absurd (let l = ap length e in omega (arith, l))
+
+module _ (s : Session) (t : Store) (m : RawMade) (p : RawPromise s t m) (place : ℕ) where
+  updated : RawLastUpdate s t (m ∷ []) place → Updated s t m place
+  unfolding rawLastSession rawLastStore
+  updated u =
+      let o = the-one m (u .call) (u .before) (u .after) (u .among) in
+      record {
+        table = u .table;
+        id = u .id;
+        how = u .how;
+        told = subst (λ (x : RawMade). ToldUpdate x (u .table) (u .id) place (u .how)) (sym (o .1)) (u .told);
+        message =
+            subst
+            (λ (x : RawMade).
+            UpdateMessage s (answering (answer.Update (u .table) (u .id) place (u .how)) x) (u .table) (u .id)
+            (getD (x .store .tables) (u .table) noTable) (getD (m .store .entries) place noEntry))
+            (sym (o .1))
+            (subst
+            (λ (before : List RawMade).
+            UpdateMessage (rawLastSession s before) (answering (answer.Update (u .table) (u .id) place (u .how)) (u .call)) (u .table) (u .id)
+            (getD (u .call .store .tables) (u .table) noTable) (getD (m .store .entries) place noEntry))
+            (o .0) (u .message));
+      }
+
+  not-updated : RawNeverUpdated t (m ∷ []) place → NotUpdated t m place
+  unfolding RawNoneUpdates rawLastStore
+  not-updated n = record { none = n .none .0; same = n .same }
+
+  one-call : NotUpdated t m place ⊎ Updated s t m place
+  one-call = ⊎-elim (λ n. inl (not-updated n)) (λ u. inr (updated u)) (raw-bytes-of-every-entry s t (m ∷ []) place (alone s t m p))
+
+-- where a message stood among a connection's bytes, with one step more before them
+stood-later : (records : Records) (t : Store) (p : HostStep) (i : ℕ) (calls : List RawMade) (earlier rest : List ℕ) → KeptStep records t p
+    → unfinished (recordsAfter records p i) ++ rawTaken calls ≡ earlier ++ rest
+    → (before : List ℕ) × (unfinished (records i) ++ rawTaken (ownCall i p calls) ≡ before ++ rest)
+unfolding KeptStep recordsAfter ownCall rawTaken
+stood-later records t (reads k m) i calls earlier rest p e =
+    by-test (eqb k i)
+    (λ h.
+    let c = carries-on (records i) t m (subst (λ (j : ℕ). RawPromise (records j) t m) (eqb-true k i h) p) in
+    let e′ : unfinished (m .session) ++ rawTaken calls ≡ earlier ++ rest = rw h at e in
+    rw h (
+      c .0 ++ earlier,
+      sym (append-assoc (unfinished (records i)) (take (m .outcome .taken) (m .piece)) (rawTaken calls))
+          ∙ (ap (λ (l : List ℕ). l ++ rawTaken calls) (c .1)
+          ∙ (append-assoc (c .0) (unfinished (m .session)) (rawTaken calls)
+          ∙ (ap (λ (l : List ℕ). c .0 ++ l) e′ ∙ sym (append-assoc (c .0) earlier rest)))),
+    ))
+    (λ h. let e′ : unfinished (records i) ++ rawTaken calls ≡ earlier ++ rest = rw h at e in rw h (earlier, e′))
+
+later : (records : Records) (t : Store) (p : HostStep) (steps : List HostStep) (place : ℕ) → KeptStep records t p
+    → LastStep (recordsAfter records p) (storeAfter t p) steps place → LastStep records t (p ∷ steps) place
+unfolding lastRecords sharedStore callsOf
+later records t p steps place k u =
+    let at = stood-later records t p (u .connection) (callsOf (u .connection) steps) (u .earlier) _ k (u .stood) in
+    record {
+      before = p ∷ u .before;
+      connection = u .connection;
+      call = u .call;
+      after = u .after;
+      among = ap (λ (ps : List HostStep). p ∷ ps) (u .among);
+      table = u .table;
+      id = u .id;
+      how = u .how;
+      told = u .told;
+      last = u .last;
+      message = u .message;
+      earlier = at .0;
+      stood = at .1;
+    }
+
+own-bytes : (s : Session) (i : ℕ) (m : RawMade) (calls : List RawMade)
+    → unfinished s ++ rawTaken (ownCall i (reads i m) calls) ≡ [] ++ (rawMessage s m ++ rawTaken calls)
+unfolding ownCall rawTaken
+own-bytes s i m calls = rw (eq-eqb i i refl) (sym (append-assoc (unfinished s) (take (m .outcome .taken) (m .piece)) (rawTaken calls)))
+
+first : (records : Records) (t : Store) (p : HostStep) (steps : List HostStep) (place : ℕ) → KeptStep records t p
+    → NeverTouched (storeAfter t p) steps place → NeverTouched t (p ∷ steps) place ⊎ LastStep records t (p ∷ steps) place
+unfolding KeptStep storeAfter lastRecords sharedStore callsOf NoStepUpdates UpdatesNot
+first records t (reads k m) steps place p n =
+    ⊎-elim
+    (λ o. inl (record { none = (o .none, n .none); same = n .same ∙ o .same }))
+    (λ u.
+    inr
+    (record {
+      before = [];
+      connection = k;
+      call = m;
+      after = steps;
+      among = refl;
+      table = u .table;
+      id = u .id;
+      how = u .how;
+      told = u .told;
+      last = n .none;
+      message =
+          subst
+          (UpdateMessage (records k) (answering (answer.Update (u .table) (u .id) place (u .how)) m) (u .table) (u .id) (getD (m .store .tables) (u .table) noTable))
+          (sym (n .same)) (u .message);
+      earlier = [];
+      stood = own-bytes (records k) k m (callsOf k steps);
+    }))
+    (one-call (records k) t m p place)
+
+pub bytes-of-shared-entries : BytesOfSharedEntries
+unfolding Interleaved sharedStore NoStepUpdates
+bytes-of-shared-entries records t [] place c = inl (record { none = tt; same = refl })
+bytes-of-shared-entries records t (p ∷ steps) place c =
+    ⊎-elim (λ n. first records t p steps place (c .0) n) (λ u. inr (later records t p steps place (c .0) u))
+    (bytes-of-shared-entries (recordsAfter records p) (storeAfter t p) steps place (c .1))
