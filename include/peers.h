@@ -19,6 +19,17 @@
 extern "C" {
 #endif
 
+/* ---- version */
+
+#define PEERS_VERSION 1 /* of the calls: their names, parameters, numbers and meaning */
+#define PEERS_LAYOUT 1  /* of the structs: their fields, order and sizes */
+
+/* The archive's version times 65,536 plus its layout. */
+uint32_t peers_version(void);
+
+/* Whether the archive is of this header. Ask it once, before the first call: with another archive no other call is defined. */
+static inline int peers_matches(void) { return peers_version() == PEERS_VERSION * UINT32_C(65536) + PEERS_LAYOUT; }
+
 /* ---- limits */
 
 #define PEERS_TABLES 8           /* places for tables */
@@ -31,7 +42,14 @@ extern "C" {
 #define PEERS_OPENING_ROOM 101   /* room that opening asks for */
 #define PEERS_READING_ROOM 12    /* room that a reading call asks for */
 
-/* ---- the store: fields are read directly; a store of zeros is empty */
+/*
+ * ---- the store: fields are read directly; a store of zeros is empty
+ *
+ * Between two calls the host may free an entry: `held` becomes 0. A table may be freed in the same way only where none of its entries
+ * is held and no record in use has it bound or updated. Such a record would be refused with 4 while the place is free, and once another
+ * table takes the place its next update would be committed there, to the wrong table, and acknowledged. So free the table's entries first,
+ * and give each connection that has it bound or updated a new record before the next call.
+ */
 
 enum peers_key_type {
     PEERS_KEY_INTEGER = 0,
@@ -238,11 +256,63 @@ struct peers_opened peers_open_caller(const uint8_t *local, size_t local_len, co
 
 /*
  * Takes bytes up to the end of one message, or up to the byte that shows a refusal, or all of them, and leaves the new state in session
- * and store. The reply goes to the front of `reply`, PEERS_READING_ROOM bytes or more; the rest of it stays as it is.
+ * and store. The reply goes to the front of the room, PEERS_READING_ROOM bytes or more; the rest of it stays as it is.
  * The host offers untaken bytes again until all are taken or the session is closed.
  */
 struct peers_outcome peers_read(struct peers_session *session, struct peers_store *store, const uint8_t *piece, size_t piece_len,
-                                uint8_t *reply, size_t reply_len);
+                                uint8_t *room, size_t room_len);
+
+/* ---- text for numbers */
+
+/* What a refusal's number means, and the 0 that a session is closed with after the peer's error message. */
+static inline const char *peers_refusal_text(uint32_t number) {
+    switch (number) {
+    case 0: return "closed by the peer's error message";
+    case PEERS_REFUSED_ROOM: return "too little room for a reply";
+    case PEERS_REFUSED_CLOSED: return "the session is closed";
+    case PEERS_REFUSED_NAME: return "a name outside the rule";
+    case PEERS_REFUSED_UNSOUND: return "record or store hold what the rules don't allow";
+    case PEERS_REFUSED_HELLO: return "the hello is malformed";
+    case PEERS_REFUSED_VERSION: return "the hello's version is unknown";
+    case PEERS_REFUSED_ADDRESSED: return "the hello is for another peer";
+    case PEERS_REFUSED_SENDER: return "the hello is from another peer";
+    case PEERS_REFUSED_STATUS: return "the peer refused us";
+    case PEERS_REFUSED_STATUS_FORM: return "the status is malformed";
+    case PEERS_REFUSED_HEADER: return "unknown class or type";
+    case PEERS_REFUSED_LENGTH: return "the body's length overflows";
+    case PEERS_REFUSED_SIZE: return "the body is over 1,024 bytes";
+    case PEERS_REFUSED_CUT: return "the body ends before a field is whole";
+    case PEERS_REFUSED_RANGE: return "a field overflows or is out of range";
+    case PEERS_REFUSED_DISAGREES: return "the held table of this name is another";
+    case PEERS_REFUSED_TABLES: return "a new name, and all table places are held";
+    case PEERS_REFUSED_UNBOUND: return "no current table, or a switch to an unbound ID";
+    case PEERS_REFUSED_PREVIOUS: return "an incremental update without a previous ID";
+    case PEERS_REFUSED_ENTRIES: return "a new key, and all entry places are held";
+    default: return "no refusal has this number";
+    }
+}
+
+/* What an answer's number means, a refusal's too. */
+static inline const char *peers_answer_text(uint32_t number) {
+    switch (number) {
+    case 0: return "no answer has this number";
+    case PEERS_MORE: return "more bytes are wanted";
+    case PEERS_HELLO: return "hello";
+    case PEERS_STATUS: return "status";
+    case PEERS_REQUEST: return "resynchronisation requested";
+    case PEERS_FINISHED: return "resynchronisation finished";
+    case PEERS_PARTIAL: return "resynchronisation finished in part";
+    case PEERS_CONFIRMED: return "resynchronisation confirmed";
+    case PEERS_HEARTBEAT: return "heartbeat";
+    case PEERS_ERROR: return "error message: the session is closed";
+    case PEERS_TABLE: return "table defined";
+    case PEERS_SWITCH: return "table switched";
+    case PEERS_UPDATE: return "entry committed";
+    case PEERS_ACKNOWLEDGEMENT: return "acknowledgement";
+    case PEERS_SKIPPED: return "message skipped";
+    default: return number < PEERS_MORE ? peers_refusal_text(number) : "no answer has this number";
+    }
+}
 
 #ifdef __cplusplus
 }

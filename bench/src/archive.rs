@@ -1,14 +1,8 @@
 //! Which static library is measured.
 
-use std::path::Path;
+use std::path::{Path, PathBuf};
 use std::time::{Duration, SystemTime, UNIX_EPOCH};
 use std::{env, fs};
-
-/// The folder that the build took the library from.
-fn folder() -> &'static Path {
-    let built = concat!(env!("CARGO_MANIFEST_DIR"), "/../target/staticlib");
-    Path::new(option_env!("PEERS_LIB_DIR").unwrap_or(built))
-}
 
 fn modified(path: &Path) -> std::io::Result<SystemTime> {
     fs::metadata(path)?.modified()
@@ -16,7 +10,7 @@ fn modified(path: &Path) -> std::io::Result<SystemTime> {
 
 /// The archive's path, and when it was changed.
 pub fn text() -> String {
-    let path = folder().join("libpeers.a");
+    let path = PathBuf::from(peers::ARCHIVE);
     let path = path.canonicalize().unwrap_or(path);
     let Ok(changed) = modified(&path) else {
         return format!("{}, which is gone", path.display());

@@ -3,6 +3,7 @@
 #![forbid(unsafe_code)]
 
 pub mod archive;
+pub mod machine;
 pub mod measure;
 pub mod plain;
 pub mod receivers;

@@ -4,15 +4,16 @@
 
 use bench::measure::{calls, clock, in_turns, times, Load, MESSAGES};
 use bench::receivers::{Library, Plain, Second, ROOM};
-use bench::rows::{heading, heading_of_bytes, row, row_of_bytes, row_of_ratios};
+use bench::rows::{document, heading, heading_of_bytes, row, row_of_bytes, row_of_ratios};
 use bench::streams::{filling, long_filling, long_updates, message, update, updates};
-use bench::{archive, shares};
+use bench::{archive, machine, shares};
 
 /// Rounds of each measurement, of which the best counts.
 const ROUNDS: usize = 100;
 
-/// Heartbeats, and updates of held keys.
-fn store_levels() {
+/// Heartbeats, and updates of held keys: what the document has of them, for 1 entry and for 128.
+fn store_levels() -> Vec<[f64; 3]> {
+    let mut told = Vec::new();
     heading("By entries held");
     let heartbeats = |entries| Load::new(filling(entries), vec![vec![0, 4]; MESSAGES]);
     row("0 entries, heartbeat", times(&heartbeats(0), ROUNDS));
@@ -22,14 +23,17 @@ fn store_levels() {
             messages: MESSAGES,
             ..Load::new(filling(entries), vec![single.pieces.concat()])
         };
-        for (what, load) in [
-            ("heartbeat", &heartbeats(entries)),
-            ("update, one to a piece", &single),
-            ("update, 40 to a piece", &joined),
+        for (what, load, is_told) in [
+            ("heartbeat", &heartbeats(entries), entries != 64),
+            ("update, one to a piece", &single, entries != 64),
+            ("update, 40 to a piece", &joined, false),
         ] {
-            row(&format!("{level}, {what}"), times(load, ROUNDS));
+            let times = times(load, ROUNDS);
+            row(&format!("{level}, {what}"), times);
+            told.extend(is_told.then_some(times));
         }
     }
+    told
 }
 
 /// Updates of keys that aren't held.
@@ -106,27 +110,30 @@ fn message_counts() {
     }
 }
 
-/// Keys with one mark have to be compared themselves.
-fn one_mark() {
+/// Keys with one hash have to be compared themselves: an update with none, and with two.
+fn one_hash() -> [[f64; 3]; 2] {
     heading("An update of 128 held keys of 64 bytes");
     let [apart, same] = [false, true].map(|twins| {
         let load = Load::new(long_filling(twins), long_updates(MESSAGES as u32, twins));
         times(&load, ROUNDS)
     });
     row("128 entries", apart);
-    row("128 entries, two keys with one mark", same);
-    row_of_ratios("two keys with one mark to none", same, apart);
+    row("128 entries, two keys with one hash", same);
+    row_of_ratios("two keys with one hash to none", same, apart);
+    [apart, same]
 }
 
 fn main() {
+    println!("Machine: {}", machine::text());
     println!("Library: {}", archive::text());
     println!("Best of {ROUNDS} rounds where no other number is told, receivers in turns.");
-    store_levels();
+    let levels = store_levels();
     new_keys();
     lengths();
     reassembly();
     fronts();
     message_counts();
-    one_mark();
+    let long = one_hash();
     shares::print(ROUNDS);
+    document(&machine::name(), &levels, long);
 }

@@ -160,6 +160,83 @@ pub struct Second {
     store: Box<second::store::Store>,
 }
 
+impl Second {
+    /// Its record and store. The role is told only while the handshake lasts, as the library tells it.
+    pub fn held(&self) -> (Record, second::store::Store) {
+        let record = Record {
+            role: match self.record.phase {
+                second::record::Phase::Handshake => self.record.role,
+                _ => Role::default(),
+            },
+            ..self.record.clone()
+        };
+        (record, (*self.store).clone())
+    }
+}
+
+impl Library {
+    /// Its record and store in the second program's terms.
+    pub fn as_second(&self) -> (Record, second::store::Store) {
+        let store = second::store::Store {
+            tables: std::array::from_fn(|place| self.store.table(place).map(second_table)),
+            entries: std::array::from_fn(|place| self.store.entry(place).map(second_entry)),
+        };
+        (second_record(&self.session), store)
+    }
+}
+
+/// A record in the second program's terms. The library has no role: its phase says during the handshake what is awaited.
+fn second_record(session: &peers::Session) -> Record {
+    use second::record::Phase;
+    let connection = &session.layout().connection;
+    let name = |bytes: &[u8], len: usize| bytes[..len].to_vec();
+    Record {
+        phase: match (session.closed_with(), session.is_established()) {
+            (Some(number), _) => Phase::Closed(number),
+            (None, true) => Phase::Open,
+            (None, false) => Phase::Handshake,
+        },
+        role: match (session.closed_with(), connection.phase) {
+            (None, 1) => Role::Caller,
+            _ => Role::Answerer,
+        },
+        our_name: name(&connection.local, connection.local_len),
+        peer_name: name(&connection.remote, connection.remote_len),
+        unfinished: session.unfinished().to_vec(),
+        bound: std::array::from_fn(|place| session.bound_id(place).map(u64::from)),
+        previous: std::array::from_fn(|place| session.last_update(place).map(u64::from)),
+        current: session.current(),
+    }
+}
+
+fn second_table(table: peers::Table) -> second::store::Table {
+    second::store::Table {
+        name: table.name().to_vec(),
+        key_type: table.key_type().map_or(u64::MAX, |t| t as u64),
+        key_length: table.key_len() as u64,
+        data_types: table.data_types().map(|t| 1 << t.number()).sum(),
+        times: table.expiry().map(|expiry| second::store::Times {
+            expiry: expiry.into(),
+            periods: table.periods().map(|(_, period)| period.into()).collect(),
+        }),
+    }
+}
+
+fn second_entry(entry: peers::Entry) -> second::store::Entry {
+    use peers::Value;
+    let values = entry.values().flat_map(|(_, value)| match value {
+        // the second program has values as they are encoded: a negative server ID plus 2 to the 64
+        Value::Server(id) => vec![i64::from(id) as u64],
+        Value::Number(number) => vec![number],
+        Value::Rate {
+            elapsed,
+            current,
+            previous,
+        } => vec![elapsed, current, previous],
+    });
+    second::store::Entry::new(entry.table().place(), entry.key(), values.collect())
+}
+
 /// The number and values of the second program's answer.
 fn second_numbers(answer: second::answer::Answer) -> (u32, Vec<u64>) {
     use second::answer::{Answer, Commit};

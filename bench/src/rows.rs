@@ -72,3 +72,16 @@ pub fn row_of_ratios(name: &str, times: [f64; 3], others: [f64; 3]) {
     let ratios = [0, 1, 2].map(|n| times[n] / others[n]);
     println!("{name:<38}{}", three(ratios, 9, 2));
 }
+
+/// The line of docs/DECISIONS.md, "Speed by machine": for each load the ratio of library to plain and the library's microseconds, then how
+/// many times as long an update takes where two keys have one hash.
+pub fn document(machine: &str, levels: &[[f64; 3]], [apart, same]: [[f64; 3]; 2]) {
+    let cell = |[library, plain, _]: [f64; 3]| {
+        format!("{:.2} ({:.1} µs)", library / plain, library / 1000.0)
+    };
+    let mut cells: Vec<_> = levels.iter().copied().map(cell).collect();
+    cells.push(cell(apart));
+    cells.push(format!("{:.1}", same[0] / apart[0]));
+    println!("\nThe line for \"Speed by machine\" of docs/DECISIONS.md, after a run with nothing beside it");
+    println!("| {machine} | {} |", cells.join(" | "));
+}

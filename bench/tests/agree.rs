@@ -1,4 +1,4 @@
-//! The three receivers tell the same on the same calls, and the library and the plain one leave the same record and store.
+//! The three receivers tell the same on the same calls, and leave the same record and store.
 
 use bench::plain::mark;
 use bench::receivers::{Library, Plain, Receiver, Role, Second};
@@ -56,6 +56,7 @@ impl All {
     fn states_agree(&self) {
         assert!(*self.library.session.layout() == self.plain.session);
         assert!(self.library.store.layout() == &*self.plain.store);
+        assert_eq!(self.library.as_second(), self.second.held());
     }
 }
 

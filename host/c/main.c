@@ -1,14 +1,16 @@
-/* Runs all tests, with lent memory at either edge. The argument is the file of sizes and offsets. */
+/* Runs all tests, with lent memory at either edge. The arguments are the files of sizes and offsets, and of texts. */
 #include "test.h"
 
 int main(int argc, char **argv) {
-    CHECK(argc == 2);
+    CHECK(argc == 3);
     test_layout(argv[1]);
+    test_texts(argv[2]);
     for (edge = EDGE_AFTER; edge <= EDGE_BEFORE; edge++) {
         test_opening();
         test_listing();
         test_unsound();
         test_random();
+        test_freeing();
     }
     puts("C tests passed");
     return 0;

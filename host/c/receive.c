@@ -13,6 +13,10 @@ static void print_entry(const struct peers_entry *entry) {
 }
 
 int main(void) {
+    if (!peers_matches()) {
+        fprintf(stderr, "libpeers.a is of another version than peers.h\n");
+        return 1;
+    }
     uint8_t piece[4096], room[PEERS_OPENING_ROOM];
     struct peers_opened opened = peers_open_answerer((const uint8_t *)"east", 4, (const uint8_t *)"west", 4, room, sizeof room);
     struct peers_session session = opened.session;
@@ -22,7 +26,7 @@ int main(void) {
             struct peers_outcome outcome = peers_read(&session, &store, piece + at, len - at, room, sizeof room);
             at += outcome.taken;
             /* a host sends the first outcome.reply_len bytes of the room to the peer here */
-            if (outcome.number < PEERS_MORE) printf("refused with %u\n", (unsigned)outcome.number);
+            if (outcome.number < PEERS_MORE) printf("refused with %u: %s\n", (unsigned)outcome.number, peers_refusal_text(outcome.number));
             if (outcome.taken == 0) return 1; /* offered again, the bytes would be refused again */
         }
     }

@@ -98,6 +98,11 @@ void open_answerer(struct state state) {
     take_opened(state, peers_open_answerer((const uint8_t *)"east", 4, (const uint8_t *)"west", 4, room, sizeof room));
 }
 
+void open_answerer_on(struct state state) {
+    uint8_t room[PEERS_OPENING_ROOM];
+    *state.session = peers_open_answerer((const uint8_t *)"east", 4, (const uint8_t *)"west", 4, room, sizeof room).session;
+}
+
 void open_caller(struct state state) {
     uint8_t room[PEERS_OPENING_ROOM];
     take_opened(state, peers_open_caller((const uint8_t *)"east", 4, (const uint8_t *)"west", 4, 7, 0, room, sizeof room));

@@ -41,6 +41,7 @@ void copy_store(struct peers_store *to, const struct peers_store *from);
 
 /* States to start from, in the memory of `state`. */
 void open_answerer(struct state state);
+void open_answerer_on(struct state state); /* the store stays */
 void open_caller(struct state state);
 void establish(struct state state);
 
@@ -58,9 +59,11 @@ void update(struct state state, uint32_t id, const void *key, size_t key_len, co
 
 /* Groups of tests. */
 void test_layout(const char *file);
+void test_texts(const char *file);
 void test_opening(void);
 void test_listing(void);
 void test_unsound(void);
 void test_random(void);
+void test_freeing(void);
 
 #endif

@@ -160,15 +160,87 @@ impl Refusal {
     pub fn of(number: u8) -> Option<Refusal> {
         Refusal::ALL.into_iter().find(|r| r.number() == number)
     }
+
+    /// What it means, in the words of `peers_refusal_text`.
+    pub fn text(self) -> &'static str {
+        match self {
+            Refusal::Room => "too little room for a reply",
+            Refusal::Closed => "the session is closed",
+            Refusal::Name => "a name outside the rule",
+            Refusal::Unsound => "record or store hold what the rules don't allow",
+            Refusal::Hello => "the hello is malformed",
+            Refusal::Version => "the hello's version is unknown",
+            Refusal::Addressed => "the hello is for another peer",
+            Refusal::Sender => "the hello is from another peer",
+            Refusal::Status => "the peer refused us",
+            Refusal::StatusForm => "the status is malformed",
+            Refusal::Header => "unknown class or type",
+            Refusal::Length => "the body's length overflows",
+            Refusal::Size => "the body is over 1,024 bytes",
+            Refusal::Cut => "the body ends before a field is whole",
+            Refusal::Range => "a field overflows or is out of range",
+            Refusal::Disagrees => "the held table of this name is another",
+            Refusal::Tables => "a new name, and all table places are held",
+            Refusal::Unbound => "no current table, or a switch to an unbound ID",
+            Refusal::Previous => "an incremental update without a previous ID",
+            Refusal::Entries => "a new key, and all entry places are held",
+        }
+    }
 }
 
 impl fmt::Display for Refusal {
     fn fmt(&self, f: &mut fmt::Formatter<'_>) -> fmt::Result {
-        write!(f, "refused with {}: {:?}", self.number(), self)
+        write!(f, "refused with {}: {}", self.number(), self.text())
     }
 }
 
 impl std::error::Error for Refusal {}
+
+/// What it means, in the words of `peers_answer_text`, and its values.
+impl fmt::Display for Answer {
+    fn fmt(&self, f: &mut fmt::Formatter<'_>) -> fmt::Result {
+        match self {
+            Answer::More => f.write_str("more bytes are wanted"),
+            Answer::Hello { process, relative } => {
+                write!(f, "hello (process {process}, relative {relative})")
+            }
+            Answer::Status => f.write_str("status"),
+            Answer::Request => f.write_str("resynchronisation requested"),
+            Answer::Finished => f.write_str("resynchronisation finished"),
+            Answer::Partial => f.write_str("resynchronisation finished in part"),
+            Answer::Confirmed => f.write_str("resynchronisation confirmed"),
+            Answer::Heartbeat => f.write_str("heartbeat"),
+            Answer::Error { kind } => {
+                write!(f, "error message: the session is closed (type {kind})")
+            }
+            Answer::Table { place } => write!(f, "table defined (place {place})"),
+            Answer::Switch { place } => write!(f, "table switched (place {place})"),
+            Answer::Update {
+                table,
+                id,
+                entry,
+                commit,
+            } => write!(
+                f,
+                "entry committed (table {table}, update {id}, entry {entry}, {commit})"
+            ),
+            Answer::Acknowledgement { id, update } => {
+                write!(f, "acknowledgement (table ID {id}, update {update})")
+            }
+            Answer::Skipped { kind } => write!(f, "message skipped (type {kind})"),
+            Answer::Refused(refusal) => refusal.fmt(f),
+        }
+    }
+}
+
+impl fmt::Display for Commit {
+    fn fmt(&self, f: &mut fmt::Formatter<'_>) -> fmt::Result {
+        f.write_str(match self {
+            Commit::New => "new",
+            Commit::Replaced => "replaced",
+        })
+    }
+}
 
 impl Answer {
     /// The answer of a number and its values. The library gives no other numbers, and values that fit.

@@ -1,9 +1,11 @@
 //! The calls of the static library: all unsafe code of this crate.
 //!
 //! The library is defined on every content of what is lent, reads and writes nothing else, and keeps nothing. So a call is
-//! sound where its pointers come from references, and a slice's length goes with its pointer.
+//! sound where its pointers come from references, and a slice's length goes with its pointer. That the archive has these structs is
+//! asked of it before the first call.
 
 use crate::layout::{Opened, Outcome, Session, Store};
+use std::sync::Once;
 
 extern "C" {
     fn peers_empty_store() -> Store;
@@ -30,17 +32,43 @@ extern "C" {
         store: *mut Store,
         piece: *const u8,
         piece_len: usize,
-        reply: *mut u8,
-        reply_len: usize,
+        room: *mut u8,
+        room_len: usize,
     ) -> Outcome;
+    fn peers_version() -> u32;
+}
+
+/// The version of the calls and that of the structs' layout, as in `include/peers.h`.
+pub const VERSION: u32 = 1;
+pub const LAYOUT: u32 = 1;
+
+/// The archive's version and layout.
+pub fn archive() -> (u32, u32) {
+    // SAFETY: it takes nothing.
+    let both = unsafe { peers_version() };
+    (both >> 16, both & 0xFFFF)
+}
+
+/// Panics where the archive is of another version than this wrapper. Asked at the first call; with another archive no other call is sound.
+fn check() {
+    static CHECKED: Once = Once::new();
+    CHECKED.call_once(|| {
+        let (version, layout) = archive();
+        assert!(
+            (version, layout) == (VERSION, LAYOUT),
+            "libpeers.a has version {version} and layout {layout}, this wrapper {VERSION} and {LAYOUT}: build the archive of this wrapper",
+        );
+    });
 }
 
 pub fn empty_store() -> Store {
+    check();
     // SAFETY: it takes nothing.
     unsafe { peers_empty_store() }
 }
 
 pub fn open_answerer(local: &[u8], remote: &[u8], room: &mut [u8]) -> Opened {
+    check();
     // SAFETY: each pointer and length is a slice's.
     unsafe {
         peers_open_answerer(
@@ -61,6 +89,7 @@ pub fn open_caller(
     relative: u32,
     room: &mut [u8],
 ) -> Opened {
+    check();
     // SAFETY: each pointer and length is a slice's.
     unsafe {
         peers_open_caller(
@@ -76,7 +105,8 @@ pub fn open_caller(
     }
 }
 
-pub fn read(session: &mut Session, store: &mut Store, piece: &[u8], reply: &mut [u8]) -> Outcome {
+pub fn read(session: &mut Session, store: &mut Store, piece: &[u8], room: &mut [u8]) -> Outcome {
+    check();
     // SAFETY: each pointer is a reference's, each pointer and length a slice's; `&mut` ones overlap nothing.
     unsafe {
         peers_read(
@@ -84,8 +114,8 @@ pub fn read(session: &mut Session, store: &mut Store, piece: &[u8], reply: &mut 
             store,
             piece.as_ptr(),
             piece.len(),
-            reply.as_mut_ptr(),
-            reply.len(),
+            room.as_mut_ptr(),
+            room.len(),
         )
     }
 }

@@ -17,6 +17,7 @@
 //!
 //! The work is done by the static library `libpeers.a`, each of whose functions is proved to meet its contract.
 //! Nothing is global: calls on different sessions and stores can run at the same time.
+//! The first call asks the archive for its version, and panics where it isn't this wrapper's.
 
 #![deny(missing_docs)]
 #![deny(unsafe_code)]
@@ -33,3 +34,14 @@ pub use answer::{Answer, Commit, Refusal};
 pub use data::{DataType, KeyType};
 pub use session::{Session, Step, OPENING_ROOM, READING_ROOM};
 pub use store::{Entry, Store, Table, Value};
+
+/// The archive that was linked.
+pub const ARCHIVE: &str = env!("PEERS_ARCHIVE");
+
+/// The version of the calls and that of the structs' layout which this wrapper is written for, as in `include/peers.h`.
+pub const VERSION: (u32, u32) = (ffi::VERSION, ffi::LAYOUT);
+
+/// The version and the layout of the archive that was linked. Where they aren't [`VERSION`], the first call panics.
+pub fn archive_version() -> (u32, u32) {
+    ffi::archive()
+}

@@ -96,6 +96,12 @@ impl Session {
         (binding.updated == 1).then_some(binding.previous)
     }
 
+    /// Whether the table at a place is bound or was updated in this session. A closed session uses none.
+    pub fn uses(&self, place: usize) -> bool {
+        let used = self.bound_id(place).is_some() || self.last_update(place).is_some();
+        used && self.closed_with().is_none()
+    }
+
     /// The bytes of a message that isn't whole.
     pub fn unfinished(&self) -> &[u8] {
         let buffer = &self.record.buffer;

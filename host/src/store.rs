@@ -3,6 +3,7 @@
 use crate::data::{DataType, KeyType};
 use crate::ffi;
 use crate::layout;
+use std::fmt;
 
 /// The tables and entries that sessions fill. It takes 46 KB: keep it in a box or in a place of its own.
 #[derive(Clone, PartialEq, Eq)]
@@ -11,14 +12,14 @@ pub struct Store {
 }
 
 /// A held table.
-#[derive(Clone, Copy, Debug)]
+#[derive(Clone, Copy)]
 pub struct Table<'a> {
     place: usize,
     table: &'a layout::Table,
 }
 
 /// A held entry, with its table.
-#[derive(Clone, Copy, Debug)]
+#[derive(Clone, Copy)]
 pub struct Entry<'a> {
     place: usize,
     entry: &'a layout::Entry,
@@ -88,6 +89,32 @@ impl Store {
         })
     }
 
+    /// Frees the entry at a place, and says whether one was held there. Nothing expires by itself.
+    pub fn free_entry(&mut self, place: usize) -> bool {
+        let held = self.entry(place).is_some();
+        if held {
+            self.store.entries[place].held = 0;
+        }
+        held
+    }
+
+    /// Frees the table at a place with its entries, and says whether one was held there.
+    ///
+    /// No session that goes on may use it ([`Session::uses`](crate::Session::uses)): such a session would be refused with
+    /// [`Refusal::Unsound`](crate::Refusal::Unsound) while the place is free, and once another table takes the place its next update would
+    /// be committed there, to the wrong table, and acknowledged. Give each such connection a new session first.
+    pub fn free_table(&mut self, place: usize) -> bool {
+        if self.table(place).is_none() {
+            return false;
+        }
+        let entries = self.store.entries.iter_mut();
+        for entry in entries.filter(|entry| entry.table == place) {
+            entry.held = 0;
+        }
+        self.store.tables[place].held = 0;
+        true
+    }
+
     /// The store as the library has it.
     pub fn layout(&self) -> &layout::Store {
         &self.store
@@ -111,12 +138,57 @@ impl From<layout::Store> for Store {
     }
 }
 
-impl std::fmt::Debug for Store {
-    fn fmt(&self, f: &mut std::fmt::Formatter<'_>) -> std::fmt::Result {
+impl fmt::Debug for Store {
+    fn fmt(&self, f: &mut fmt::Formatter<'_>) -> fmt::Result {
         f.debug_struct("Store")
             .field("tables", &self.tables().collect::<Vec<_>>())
             .field("entries", &self.entries().count())
             .finish()
+    }
+}
+
+/// Its place, name, key type, data types and times.
+impl fmt::Debug for Table<'_> {
+    fn fmt(&self, f: &mut fmt::Formatter<'_>) -> fmt::Result {
+        let types: Vec<_> = self.data_types().map(DataType::name).collect();
+        f.debug_struct("Table")
+            .field("place", &self.place)
+            .field("name", &format_args!("{}", self.name().escape_ascii()))
+            .field("key_type", &self.key_type())
+            .field("key_len", &self.key_len())
+            .field("data_types", &types)
+            .field("expiry", &self.expiry())
+            .field("periods", &Present(self.periods()))
+            .finish()
+    }
+}
+
+/// Its place, its table's name, its key's bytes and its present values.
+impl fmt::Debug for Entry<'_> {
+    fn fmt(&self, f: &mut fmt::Formatter<'_>) -> fmt::Result {
+        f.debug_struct("Entry")
+            .field("place", &self.place)
+            .field(
+                "table",
+                &format_args!("{}", self.table.name().escape_ascii()),
+            )
+            .field("key", &format_args!("{:02X?}", self.key()))
+            .field("values", &Present(self.values()))
+            .finish()
+    }
+}
+
+/// Data types by name, each with what it has.
+struct Present<I>(I);
+
+impl<I: Iterator<Item = (DataType, V)> + Clone, V: fmt::Debug> fmt::Debug for Present<I> {
+    fn fmt(&self, f: &mut fmt::Formatter<'_>) -> fmt::Result {
+        let named = self.0.clone().map(|(t, value)| (t.name(), value));
+        let mut map = f.debug_map();
+        for (name, value) in named {
+            map.key(&format_args!("{name}")).value(&value);
+        }
+        map.finish()
     }
 }
 
@@ -147,7 +219,7 @@ impl<'a> Table<'a> {
     }
 
     /// The data types of its entries, ascending.
-    pub fn data_types(self) -> impl Iterator<Item = DataType> + 'a {
+    pub fn data_types(self) -> impl Iterator<Item = DataType> + Clone + 'a {
         DataType::ALL.into_iter().filter(move |t| self.has(*t))
     }
 
@@ -161,6 +233,12 @@ impl<'a> Table<'a> {
         let place = data_type.period_place()?;
         let known = self.table.timed == 1 && self.has(data_type);
         known.then_some(self.table.periods[place])
+    }
+
+    /// Its rates with their periods in milliseconds, ascending; none where its last definition had no times.
+    pub fn periods(self) -> impl Iterator<Item = (DataType, u32)> + Clone + 'a {
+        let types = self.data_types();
+        types.filter_map(move |t| Some((t, self.period(t)?)))
     }
 }
 
@@ -186,7 +264,7 @@ impl<'a> Entry<'a> {
     }
 
     /// Its data types with their values, ascending.
-    pub fn values(self) -> impl Iterator<Item = (DataType, Value)> + 'a {
+    pub fn values(self) -> impl Iterator<Item = (DataType, Value)> + Clone + 'a {
         self.table.data_types().map(move |t| (t, self.held(t)))
     }
 

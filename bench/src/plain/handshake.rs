@@ -53,7 +53,7 @@ pub fn hello(connection: &mut Connection, bytes: &[u8]) -> Judged {
             settled: match judge_lines(connection, hello.lines) {
                 Ok((process, relative)) => {
                     connection.phase = 2;
-                    Settled::new(101, &[process.into(), relative.into()], b"200\n")
+                    Settled::new(257, &[process.into(), relative.into()], b"200\n")
                 }
                 Err(number) => Settled::refused(connection, number),
             },
@@ -101,7 +101,7 @@ pub fn status(connection: &mut Connection, bytes: &[u8]) -> Judged {
     let settled = match line {
         b"200\n" => {
             connection.phase = 2;
-            Settled::new(102, &[], &[])
+            Settled::new(258, &[], &[])
         }
         b"300\n" | b"501\n" | b"502\n" | b"503\n" | b"504\n" => Settled::refused(connection, 14),
         _ => Settled::refused(connection, 15),

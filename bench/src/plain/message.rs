@@ -52,13 +52,13 @@ fn control(kind: u8) -> Settled {
         1 | 2 => &[0, 3],
         _ => &[],
     };
-    Settled::new(103 + u32::from(kind), &[], reply)
+    Settled::new(259 + u32::from(kind), &[], reply)
 }
 
 fn peer_error(connection: &mut Connection, kind: u8) -> Settled {
     connection.closed = 1;
     connection.number = 0;
-    Settled::new(108, &[kind.into()], &[])
+    Settled::new(264, &[kind.into()], &[])
 }
 
 /// A stick table message, or its refusal.
@@ -74,7 +74,7 @@ fn stick_table(
         130 => definition(connection, store, body),
         131 => switch(connection, body),
         133 => acknowledgement(body).map_err(Fault::number),
-        _ => Ok(Settled::new(113, &[kind.into()], &[])),
+        _ => Ok(Settled::new(269, &[kind.into()], &[])),
     }
 }
 
@@ -133,7 +133,7 @@ fn definition(connection: &mut Connection, store: &mut Store, body: &[u8]) -> Re
     store.tables[place] = defined.table;
     bind(&mut connection.bindings, place, defined.id);
     connection.current = place + 1;
-    Ok(Settled::new(109, &[place as u64], &[]))
+    Ok(Settled::new(265, &[place as u64], &[]))
 }
 
 /// The place of the table of this name, or the lowest free one.
@@ -170,14 +170,14 @@ fn switch(connection: &mut Connection, body: &[u8]) -> Result<Settled, u8> {
     let bound = |b: &Binding| b.bound == 1 && b.id == id;
     let place = connection.bindings.iter().position(bound).ok_or(27)?;
     connection.current = place + 1;
-    Ok(Settled::new(110, &[place as u64], &[]))
+    Ok(Settled::new(266, &[place as u64], &[]))
 }
 
 fn acknowledgement(body: &[u8]) -> Result<Settled, Fault> {
     let mut reader = Reader::new(body);
     let id = reader.word()?;
     let update = reader.number()?;
-    Ok(Settled::new(112, &[id.into(), update.into()], &[]))
+    Ok(Settled::new(268, &[id.into(), update.into()], &[]))
 }
 
 // ---- updates
@@ -238,7 +238,7 @@ fn update(
     let mut reply = [0; 12];
     let len = acknowledge(&mut reply, binding.id, id);
     let values = [place as u64, id.into(), entry as u64, replaced.into()];
-    Ok(Settled::new(111, &values, &reply[..len]))
+    Ok(Settled::new(267, &values, &reply[..len]))
 }
 
 /// The place of a key's entry and whether it is held already.

@@ -88,7 +88,7 @@ pub fn receive(
     reply: &mut [u8],
 ) -> Outcome {
     if piece.is_empty() {
-        return outcome(0, &Settled::new(100, &[], &[]));
+        return outcome(0, &Settled::new(256, &[], &[]));
     }
     let held = session.len;
     if held == 0 {
@@ -116,7 +116,7 @@ fn take(
             session.len = bytes.len();
             session.buffer[..bytes.len()].copy_from_slice(bytes);
             session.buffer[bytes.len()..].fill(0);
-            outcome(added, &Settled::new(100, &[], &[]))
+            outcome(added, &Settled::new(256, &[], &[]))
         }
         Judged::Settled { used, settled } => {
             session.len = 0;

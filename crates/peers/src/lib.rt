@@ -15,6 +15,20 @@ ghost use Rattle.store.specs.Store.{emptyStore};
 ghost use Rattle.opening.specs.Opening.{answerer, caller, «open», openRoom, openedOf};
 ghost use Rattle.peers.specs.Numbers.{rawOpened};
 ghost use Rattle.peers.specs.Reading.{RawPromise};
+ghost use Rattle.peers.specs.Version.{archiveVersion};
+
+// The version of the calls, and that of the structs' layout.
+const VERSION: u32 = 1;
+
+const LAYOUT: u32 = 1;
+
+// What this archive was built as, so that a header or a wrapper of another version is noticed.
+#[no_mangle]
+pub extern "C" fn peers_version() -> u32
+    ensures { λ r. ⌜ r ≡ archiveVersion ⌝ }
+{
+    VERSION * 65536 + LAYOUT
+}
 
 // A store without tables and entries.
 #[no_mangle]

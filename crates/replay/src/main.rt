@@ -4,11 +4,11 @@
 //   C ROOM LENGTH PIECE    a reading call on a piece of LENGTH bytes (two, big-endian), with so much room for the reply, filled with AA:
 //                          `took N`, the answer's line (`more` for more wanted), the reply, `spoiled` if a byte past the reply changed
 //   D                      a dump of record and store
-// Anything else ends the script, and so do N, C and D before the first O and the end of the input: `end`.
+// Anything else ends the script, and so do N, C and D before the first O and the end of the input: `end`. That line is left out where a
+// read or a write failed.
 use dump::lines::put_entry;
 use dump::lines::put_table;
 use dump::record_lines::put_record;
-use libc::STDIN_FILENO;
 use listing::answer::put_answer;
 use listing::reply::put_reply;
 use opening::OPENING_ROOM;
@@ -17,48 +17,57 @@ use opening::open_answerer;
 use opening::open_caller;
 use reading::Step;
 use reading::read;
+use session::Outcome;
 use session::Session;
 use store::ENTRIES;
+use store::Entry;
 use store::Store;
 use store::TABLES;
 use store::Table;
+use text::arguments::none_given;
+use text::input::Filled;
+use text::output::Page;
+use text::output::flush;
 use text::output::room_at;
-use text::output::write;
 use text::put;
 use text::spaced::put_decimal_word;
 
 // More than the lines of one command, or of one entry, need.
 const MARGIN: usize = 4096;
 
-// Between two commands: whether a session was opened and the script goes on, record, store, and the position behind the output that
-// isn't written yet.
+// Between two commands: whether a session was opened, the script goes on and a read failed, record, store, and the output that isn't
+// written yet.
 struct Run {
     opened: bool,
     goes_on: bool,
+    failed: bool,
     session: Session,
     store: Store,
-    next: usize,
+    page: Page,
 }
 
-// The next byte of the script, if it hasn't ended.
-enum Byte {
-    Is(u8),
-    End,
-}
-
-fn next_byte() -> Byte {
-    let mut one = [0u8; 1];
-    let n = io::read_full(STDIN_FILENO, &mut one);
-    if n < 1 {
-        return Byte::End;
-    }
-    Byte::Is(one[0])
+// A run that ends: the script does, or reading it failed.
+fn stopped(run: Run, read: Filled) -> Run {
+    let mut r = run;
+    r.goes_on = false;
+    r.failed = match read {
+        Filled::Whole => false,
+        Filled::End => false,
+        Filled::Failed => true,
+    };
+    r
 }
 
 fn ended(run: Run) -> Run {
-    let mut r = run;
-    r.goes_on = false;
-    r
+    stopped(run, Filled::End)
+}
+
+// The page with text put behind the one before.
+fn turned(page: Page, next: usize) -> Page {
+    Page {
+        next,
+        written: page.written,
+    }
 }
 
 // ---- opening
@@ -71,9 +80,12 @@ fn open(role: u8, room: &mut [u8]) -> Opened {
 }
 
 fn open_session(run: Run, store: Store, out: &mut [u8]) -> Run {
-    let Byte::Is(role) = next_byte() else {
-        return ended(run);
+    let mut one = [0u8; 1];
+    let read = text::input::fill(&mut one);
+    let Filled::Whole = read else {
+        return stopped(run, read);
     };
+    let role = one[0];
     if 1 < role {
         return ended(run);
     }
@@ -81,15 +93,16 @@ fn open_session(run: Run, store: Store, out: &mut [u8]) -> Run {
     let opened = open(role, &mut room);
     let session = opened.session;
     let outcome = opened.outcome;
-    let a = room_at(out, run.next, MARGIN);
-    let b = put(out, a, b"open\n");
+    let page = room_at(out, run.page, MARGIN);
+    let b = put(out, page.next, b"open\n");
     let next = put_reply(out, b, &room, outcome.reply_len);
     Run {
         opened: true,
         goes_on: true,
+        failed: false,
         session,
         store,
-        next,
+        page: turned(page, next),
     }
 }
 
@@ -115,84 +128,101 @@ fn read_with(run: Run, piece: &[u8], reply: &mut [u8], n: usize) -> Step {
     read(run.session, run.store, piece, &mut reply[..n])
 }
 
-fn call(run: Run, room: u8, piece: &[u8], out: &mut [u8]) -> Run {
-    let mut reply = [0xaau8; 256];
-    let step = read_with(run, piece, &mut reply, room as usize);
-    let outcome = step.outcome;
-    let session = step.session;
-    let store = step.store;
+// The lines of a call.
+fn put_call(out: &mut [u8], at: usize, run: Run, outcome: Outcome, reply: &[u8]) -> usize {
+    let session = run.session;
+    let store = run.store;
     let connection = session.connection;
     let tables = store.tables;
-    let a = room_at(out, run.next, MARGIN);
     let answer = outcome.answer;
-    let b = put(out, a, b"took");
+    let b = put(out, at, b"took");
     let c = put_decimal_word(out, b, outcome.taken as u64);
     let d = put(out, c, b"\n");
     let e = put_answer(out, d, connection, tables, answer);
-    let f = put_reply(out, e, &reply, outcome.reply_len);
-    let next = if untouched(&reply, outcome.reply_len) {
-        f
-    } else {
-        put(out, f, b"spoiled\n")
-    };
-    Run {
-        opened: true,
-        goes_on: true,
-        session,
-        store,
-        next,
+    let f = put_reply(out, e, reply, outcome.reply_len);
+    if untouched(reply, outcome.reply_len) {
+        return f;
     }
+    put(out, f, b"spoiled\n")
 }
 
-// Reads the next n bytes of the script, and answers whether they are there.
-fn fill(buffer: &mut [u8], n: usize) -> bool {
+// A run with the lines of a call.
+fn told(run: Run, outcome: Outcome, reply: &[u8], out: &mut [u8]) -> Run {
+    let page = room_at(out, run.page, MARGIN);
+    let next = put_call(out, page.next, run, outcome, reply);
+    let mut r = run;
+    r.page = turned(page, next);
+    r
+}
+
+fn call(run: Run, room: u8, piece: &[u8], out: &mut [u8]) -> Run {
+    let mut reply = [0xaau8; 256];
+    let step = read_with(run, piece, &mut reply, room as usize);
+    let session = step.session;
+    let store = step.store;
+    let page = run.page;
+    let outcome = step.outcome;
+    let after = Run {
+        opened: true,
+        goes_on: true,
+        failed: false,
+        session,
+        store,
+        page,
+    };
+    told(after, outcome, &reply, out)
+}
+
+// Reads the next n bytes of the script.
+fn fill(buffer: &mut [u8], n: usize) -> Filled {
     if buffer.len() < n {
-        return false;
+        return Filled::End;
     }
-    let got = io::read_full(STDIN_FILENO, &mut buffer[..n]);
-    n <= got
+    text::input::fill(&mut buffer[..n])
 }
 
 // A call on the next n bytes of the script.
 fn call_on(run: Run, room: u8, n: usize, buffer: &mut [u8], out: &mut [u8]) -> Run {
-    if !fill(buffer, n) {
-        return ended(run);
-    }
+    let read = fill(buffer, n);
+    let Filled::Whole = read else {
+        return stopped(run, read);
+    };
     if buffer.len() < n {
         return ended(run);
     }
     call(run, room, &buffer[..n], out)
 }
 
+// A number of two bytes.
+fn big_endian(high: u8, low: u8) -> usize {
+    high as usize * 256 + low as usize
+}
+
 fn call_on_piece(run: Run, out: &mut [u8]) -> Run {
-    let Byte::Is(room) = next_byte() else {
-        return ended(run);
+    let mut head = [0u8; 3];
+    let read = text::input::fill(&mut head);
+    let Filled::Whole = read else {
+        return stopped(run, read);
     };
-    let Byte::Is(high) = next_byte() else {
-        return ended(run);
-    };
-    let Byte::Is(low) = next_byte() else {
-        return ended(run);
-    };
+    let n = big_endian(head[1], head[2]);
     let mut buffer = io::large_buffer();
-    call_on(
-        run,
-        room,
-        high as usize * 256 + low as usize,
-        &mut buffer,
-        out,
-    )
+    call_on(run, head[0], n, &mut buffer, out)
 }
 
 // ---- a dump
 
-fn dump_tables(next: usize, tables: [Table; TABLES], out: &mut [u8]) -> usize {
-    let mut at = next;
+fn dump_table(page: Page, place: usize, t: Table, out: &mut [u8]) -> Page {
+    let p = room_at(out, page, MARGIN);
+    let next = put_table(out, p.next, place, t);
+    turned(p, next)
+}
+
+fn dump_tables(page: Page, tables: [Table; TABLES], out: &mut [u8]) -> Page {
+    let mut at = page;
     let mut place = 0;
     while place < TABLES {
         let t = tables[place];
-        at = room_at(out, at, MARGIN);
-        at = put_table(out, at, place, t);
+        at = dump_table(at, place, t, out);
         place += 1;
     }
     at
@@ -206,16 +236,21 @@ fn types_of(tables: [Table; TABLES], place: usize) -> u32 {
     t.data_types
 }
 
-fn dump_entries(next: usize, store: Store, out: &mut [u8]) -> usize {
+fn dump_entry(page: Page, place: usize, types: u32, e: Entry, out: &mut [u8]) -> Page {
+    let p = room_at(out, page, MARGIN);
+    let next = put_entry(out, p.next, place, types, e);
+    turned(p, next)
+}
+
+fn dump_entries(page: Page, store: Store, out: &mut [u8]) -> Page {
     let tables = store.tables;
     let entries = store.entries;
-    let mut at = next;
+    let mut at = page;
     let mut place = 0;
     while place < ENTRIES {
         let e = entries[place];
         let types = types_of(tables, e.table);
-        at = room_at(out, at, MARGIN);
-        at = put_entry(out, at, place, types, e);
+        at = dump_entry(at, place, types, e, out);
         place += 1;
     }
     at
@@ -224,12 +259,12 @@ fn dump_entries(next: usize, store: Store, out: &mut [u8]) -> usize {
 fn show(run: Run, out: &mut [u8]) -> Run {
     let store = run.store;
     let tables = store.tables;
-    let a = room_at(out, run.next, MARGIN);
-    let b = put_record(out, a, run.session);
-    let c = dump_tables(b, tables, out);
-    let next = dump_entries(c, store, out);
+    let a = room_at(out, run.page, MARGIN);
+    let b = put_record(out, a.next, run.session);
+    let c = dump_tables(turned(a, b), tables, out);
+    let page = dump_entries(c, store, out);
     let mut r = run;
-    r.next = next;
+    r.page = page;
     r
 }
 
@@ -245,9 +280,12 @@ fn later_command(run: Run, command: u8, out: &mut [u8]) -> Run {
 }
 
 fn command(run: Run, out: &mut [u8]) -> Run {
-    let Byte::Is(c) = next_byte() else {
-        return ended(run);
+    let mut one = [0u8; 1];
+    let read = text::input::fill(&mut one);
+    let Filled::Whole = read else {
+        return stopped(run, read);
     };
+    let c = one[0];
     if c == b'O' {
         let store = store::empty_store();
         return open_session(run, store, out);
@@ -259,20 +297,36 @@ fn command(run: Run, out: &mut [u8]) -> Run {
 }
 
 // Nothing says that a script ends, so the turns are counted down from a number that no run uses up.
-fn run_all(run: Run, out: &mut [u8]) -> usize {
+fn run_all(run: Run, out: &mut [u8]) -> Run {
     let mut r = run;
     let mut turns = u64::MAX;
     while turns > 0 {
         turns -= 1;
         r = command(r, out);
         if !r.goes_on {
-            return r.next;
+            return r;
+        }
+        if !r.page.written {
+            return r;
         }
     }
-    r.next
+    r
+}
+
+// The last line, unless reading failed; a failed write is seen by `flush`.
+fn put_end(run: Run, out: &mut [u8]) -> Page {
+    if run.failed {
+        return run.page;
+    }
+    let page = room_at(out, run.page, MARGIN);
+    let next = put(out, page.next, b"end\n");
+    turned(page, next)
 }
 
 fn main() {
+    if !none_given(b"replay") {
+        return;
+    }
     let mut room = [0u8; OPENING_ROOM];
     let opened = open_answerer(b"east", b"west", &mut room);
     let session = opened.session;
@@ -280,13 +334,16 @@ fn main() {
     let run = Run {
         opened: false,
         goes_on: true,
+        failed: false,
         session,
         store,
-        next: 0,
+        page: Page {
+            next: 0,
+            written: true,
+        },
     };
     let mut out = io::large_buffer();
-    let a = run_all(run, &mut out);
-    let b = room_at(&out, a, MARGIN);
-    let n = put(&mut out, b, b"end\n");
-    write(&out, n);
+    let last = run_all(run, &mut out);
+    let page = put_end(last, &mut out);
+    flush(&out, page);
 }

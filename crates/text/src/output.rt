@@ -1,14 +1,26 @@
-// Text in a room written to standard output, for the programs.
+// Text in a room written to standard output, for the programs. A write that fails is told on standard error, once, and nothing is written
+// after it.
 use libc::STDOUT_FILENO;
 ghost use mathlib.Core.Path.{_≡_};
 ghost use lib.ListN.{length};
 ghost use Rattle.text.specs.Room.{fitsBehind, placeFor};
 
-// Writes the first n bytes.
-pub fn write(out: &[u8], n: usize) {
-    if n <= out.len() {
-        io::write_all(STDOUT_FILENO, &out[..n]);
+// The position behind the text that isn't written yet, and whether all text before it was written.
+pub struct Page {
+    pub next: usize,
+    pub written: bool,
+}
+
+// Writes the first n bytes, and answers whether they were written.
+pub fn write(out: &[u8], n: usize) -> bool {
+    if out.len() < n {
+        return false;
     }
+    let is_written = io::write_all(STDOUT_FILENO, &out[..n]);
+    if !is_written {
+        os::fail(b"standard output");
+    }
+    is_written
 }
 
 // Whether so many bytes fit behind a position.
@@ -21,14 +33,32 @@ fn fits_behind(size: usize, next: usize, most: usize) -> bool
     most <= size - next
 }
 
-// The position for the next text, of at most so many bytes: `next` if there is room for it, else the start, and what stands before
-// `next` is written.
-pub fn room_at(out: &[u8], next: usize, most: usize) -> usize
-    ensures { λ r. ⌜ r ≡ placeFor (length (now (out .entry))) next most ⌝ }
-{
-    if fits_behind(out.len(), next, most) {
-        return next;
+// Whether all was written once the first n bytes are too. After a failed write none is tried.
+fn write_more(out: &[u8], n: usize, written: bool) -> bool {
+    if written {
+        return write(out, n);
     }
-    write(out, next);
-    0
+    false
+}
+
+// Writes what isn't written yet.
+pub fn flush(out: &[u8], page: Page) -> Page {
+    let written = write_more(out, page.next, page.written);
+    Page { next: 0, written }
+}
+
+// The page with room for the next text, of at most so many bytes: as it is if there is room behind `next`, else from the start, and what
+// stands before `next` is written.
+pub fn room_at(out: &[u8], page: Page, most: usize) -> Page
+    ensures { λ r. ⌜ r .next ≡ placeFor (length (now (out .entry))) (page .next) most ⌝ }
+{
+    let next = page.next;
+    if fits_behind(out.len(), next, most) {
+        return Page {
+            next,
+            written: page.written,
+        };
+    }
+    let written = write_more(out, next, page.written);
+    Page { next: 0, written }
 }

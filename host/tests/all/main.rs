@@ -1,9 +1,11 @@
 //! Tests of the library through its Rust wrapper.
 
 mod common;
+mod freeing;
 mod layout;
 mod listing;
 mod opening;
 mod random;
 mod reading;
+mod texts;
 mod unsound;

@@ -6,8 +6,11 @@ use Rattle.replay.proofs.call_on.Tie as tie
 fill-requires : tie.Need-fill-requires
 fill-requires c κs = search needs
 
-ended-requires : tie.Need-ended-requires
-ended-requires c κs = search needs
+enum-told : tie.Need-enum-told
+enum-told c = search needs
+
+stopped-requires : tie.Need-stopped-requires
+stopped-requires c κs = search needs
 
 same-length : tie.Need-same-length
 same-length c = search needs
@@ -15,8 +18,8 @@ same-length c = search needs
 returns : tie.Need-returns
 returns c = search needs
 
-ended-requires-2 : tie.Need-ended-requires-2
-ended-requires-2 c κs = search needs
+ended-requires : tie.Need-ended-requires
+ended-requires c κs = search needs
 
 same-length-2 : tie.Need-same-length-2
 same-length-2 c = search needs
@@ -47,10 +50,11 @@ call-on-spec =
     tie.close
     (tie.spec
     fill-requires
-    ended-requires
+    enum-told
+    stopped-requires
     same-length
     returns
-    ended-requires-2
+    ended-requires
     same-length-2
     returns-2
     slice-reshare-prefix-call

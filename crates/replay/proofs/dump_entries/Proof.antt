@@ -6,10 +6,10 @@ use Rattle.replay.proofs.dump_entries.Statement.{statement}
 use Rattle.replay.proofs.dump_entries.Tie as tie
 
 abbrev Inv-loop : tie.InvT-loop
-Inv-loop next out₀ tables entries at₀ place₀ out at place = length out ≡ length out₀
+Inv-loop out₀ tables entries at₀ place₀ out at place = length out ≡ length out₀
 
 abbrev μ-loop : tie.MeasureT-loop
-μ-loop next out₀ tables entries at₀ place₀ out at place = 128 - place
+μ-loop out₀ tables entries at₀ place₀ out at place = 128 - place
 
 loop-holds : tie.Need-loop-holds Inv-loop μ-loop
 loop-holds c = search needs
@@ -23,11 +23,8 @@ array-copy-out-e c = search needs
 types-of-requires : tie.Need-types-of-requires Inv-loop μ-loop
 types-of-requires c κs = search needs
 
-room-at-requires : tie.Need-room-at-requires Inv-loop μ-loop
-room-at-requires c κs = search needs
-
-put-entry-requires : tie.Need-put-entry-requires Inv-loop μ-loop
-put-entry-requires c κs = search needs
+dump-entry-requires : tie.Need-dump-entry-requires Inv-loop μ-loop
+dump-entry-requires c κs = search needs
 
 add-place : tie.Need-add-place Inv-loop μ-loop
 add-place c = search needs
@@ -54,8 +51,7 @@ dump-entries-spec =
     mul-e
     array-copy-out-e
     types-of-requires
-    room-at-requires
-    put-entry-requires
+    dump-entry-requires
     add-place
     loop-less
     loop-again

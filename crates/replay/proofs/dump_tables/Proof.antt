@@ -6,10 +6,10 @@ use Rattle.replay.proofs.dump_tables.Statement.{statement}
 use Rattle.replay.proofs.dump_tables.Tie as tie
 
 abbrev Inv-loop : tie.InvT-loop
-Inv-loop next out₀ tables at₀ place₀ out at place = length out ≡ length out₀
+Inv-loop out₀ tables at₀ place₀ out at place = length out ≡ length out₀
 
 abbrev μ-loop : tie.MeasureT-loop
-μ-loop next out₀ tables at₀ place₀ out at place = 8 - place
+μ-loop out₀ tables at₀ place₀ out at place = 8 - place
 
 loop-holds : tie.Need-loop-holds Inv-loop μ-loop
 loop-holds c = search needs
@@ -20,11 +20,8 @@ mul-t c = search needs
 array-copy-out-t : tie.Need-array-copy-out-t Inv-loop μ-loop
 array-copy-out-t c = search needs
 
-room-at-requires : tie.Need-room-at-requires Inv-loop μ-loop
-room-at-requires c κs = search needs
-
-put-table-requires : tie.Need-put-table-requires Inv-loop μ-loop
-put-table-requires c κs = search needs
+dump-table-requires : tie.Need-dump-table-requires Inv-loop μ-loop
+dump-table-requires c κs = search needs
 
 add-place : tie.Need-add-place Inv-loop μ-loop
 add-place c = search needs
@@ -50,8 +47,7 @@ dump-tables-spec =
     loop-holds
     mul-t
     array-copy-out-t
-    room-at-requires
-    put-table-requires
+    dump-table-requires
     add-place
     loop-less
     loop-again

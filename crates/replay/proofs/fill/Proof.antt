@@ -6,14 +6,14 @@ use Rattle.replay.proofs.fill.Tie as tie
 returns : tie.Need-returns
 returns c = search needs
 
-slice-relend-prefix-read-full : tie.Need-slice-relend-prefix-read-full
-slice-relend-prefix-read-full c = search needs
+slice-relend-prefix-fill : tie.Need-slice-relend-prefix-fill
+slice-relend-prefix-fill c = search needs
 
-slice-aggregate-read-full : tie.Need-slice-aggregate-read-full
-slice-aggregate-read-full c = search parts
+slice-aggregate-fill : tie.Need-slice-aggregate-fill
+slice-aggregate-fill c = search parts
 
-read-full-requires : tie.Need-read-full-requires
-read-full-requires c κs = search needs
+fill-requires : tie.Need-fill-requires
+fill-requires c κs = search needs
 
 same-length : tie.Need-same-length
 same-length c = search needs
@@ -26,8 +26,8 @@ fill-spec =
     tie.close
     (tie.spec
     returns
-    slice-relend-prefix-read-full
-    slice-aggregate-read-full
-    read-full-requires
+    slice-relend-prefix-fill
+    slice-aggregate-fill
+    fill-requires
     same-length
     returns-2)

@@ -1,5 +1,5 @@
-use borrow.Author.Needs.{needs}
 use Rattle.text.proofs.output.Places.{placing}
+use borrow.Author.Needs.{needs}
 use Rattle.text.proofs.output.room_at.Statement.{statement}
 use Rattle.text.proofs.output.room_at.Tie as tie
 
@@ -9,11 +9,11 @@ fits-behind-requires c κs = search needs
 returns : tie.Need-returns
 returns c = search placing
 
-write-requires : tie.Need-write-requires
-write-requires c κs = search needs
+write-more-requires : tie.Need-write-more-requires
+write-more-requires c κs = search needs
 
 returns-2 : tie.Need-returns-2
 returns-2 c = search placing
 
 pub room-at-spec : {M : Type 1} → statement M
-room-at-spec = tie.close (tie.spec fits-behind-requires returns write-requires returns-2)
+room-at-spec = tie.close (tie.spec fits-behind-requires returns write-more-requires returns-2)

@@ -1,0 +1,52 @@
+// Standard input for the programs. A read that fails is told on standard error; one that a signal interrupts is made again.
+use libc::EINTR;
+use libc::STDIN_FILENO;
+
+// What `read_some` answers where nothing was read and the input hasn't ended.
+pub const FAILED: isize = -1;
+
+pub const INTERRUPTED: isize = -2;
+
+// How reading so many bytes ended.
+pub enum Filled {
+    Whole,
+    End,
+    Failed,
+}
+
+// Reads once, and answers the number of bytes, 0 at the end of the input, or one of the two above.
+pub fn read_some(buffer: &mut [u8]) -> isize {
+    let got = libc::read(STDIN_FILENO, buffer);
+    if 0 <= got {
+        return got;
+    }
+    if os::errno() == EINTR {
+        return INTERRUPTED;
+    }
+    os::fail(b"standard input");
+    FAILED
+}
+
+// Fills the buffer. Nothing says that signals end, so the turns are counted down from a number that no run uses up.
+pub fn fill(buffer: &mut [u8]) -> Filled {
+    let mut done: usize = 0;
+    let mut turns = u64::MAX;
+    while done < buffer.len() {
+        if turns == 0 {
+            return Filled::Failed;
+        }
+        turns -= 1;
+        let got = read_some(&mut buffer[done..]);
+        if got == 0 {
+            return Filled::End;
+        }
+        if got == FAILED {
+            return Filled::Failed;
+        }
+        if 0 < got {
+            let n = io::count(got, &buffer[done..]);
+            done += n;
+        }
+    }
+    Filled::Whole
+}

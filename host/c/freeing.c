@@ -1,0 +1,101 @@
+/* What becomes of a record whose table is freed, and the way to free one. */
+#include "test.h"
+
+static const struct peers_table *named(const struct peers_store *store, const char *name) {
+    for (size_t i = 0; i < PEERS_TABLES; i++) {
+        const struct peers_table *table = &store->tables[i];
+        if (table->held && table->name_len == strlen(name) && memcmp(table->name, name, table->name_len) == 0) return table;
+    }
+    return NULL;
+}
+
+/* Frees the table at place 0 with its entries, as the header says. */
+static void free_first(struct peers_store *store) {
+    for (size_t i = 0; i < PEERS_ENTRIES; i++)
+        if (store->entries[i].table == 0) store->entries[i].held = 0;
+    store->tables[0].held = 0;
+}
+
+/* An incremental update of the key `keyt` with 9. */
+static const uint8_t incremental[] = "\x0A\x81\x05keyt\x09";
+#define INCREMENTAL (sizeof incremental - 1)
+
+/* A record with table `t` bound and updated, and a store whose table and entries are then freed. */
+static void freed(struct state state) {
+    establish(state);
+    define(state, 1, "t", PEERS_KEY_INTEGER, 4, 1u << PEERS_GPC0);
+    update(state, 1, "keyt", 4, (const uint64_t[]){5}, 1);
+    free_first(state.store);
+}
+
+/* Another record on the same store defines `other`, which takes the free place. */
+static void take_the_place(struct state state) {
+    struct state other = lend_state();
+    establish(other);
+    memcpy(other.store, state.store, sizeof *state.store);
+    define(other, 7, "other", PEERS_KEY_INTEGER, 4, 1u << PEERS_GPC0);
+    memcpy(state.store, other.store, sizeof *state.store);
+    CHECK(named(state.store, "other") == &state.store->tables[0]);
+    give_back_state(other);
+}
+
+static void old_record(struct state state) {
+    uint8_t reply[12];
+    freed(state);
+    /* while the place is free every call is refused, and changes nothing */
+    struct peers_outcome outcome = call(state, incremental, INCREMENTAL, 12, reply);
+    CHECK(outcome.number == PEERS_REFUSED_UNSOUND && outcome.taken == 0);
+    /* once the place is taken the update goes to the wrong table, and is acknowledged: this is what the rule forbids */
+    take_the_place(state);
+    outcome = call(state, incremental, INCREMENTAL, 12, reply);
+    CHECK(outcome.number == PEERS_UPDATE && outcome.values[0] == 0 && outcome.reply_len == 8);
+    CHECK(memcmp(reply, "\x0A\x85\x05\x01\x00\x00\x00\x02", 8) == 0);
+    CHECK(state.store->entries[0].held == 1 && state.store->entries[0].table == 0);
+    CHECK(named(state.store, "t") == NULL);
+}
+
+static void new_record(struct state state) {
+    static struct peers_store store, after;
+    uint8_t reply[12];
+    freed(state);
+    take_the_place(state);
+    copy_store(&store, state.store);
+    establish(state);
+    memcpy(state.store, &store, sizeof store);
+    /* a new record has no current table, so the peer's incremental update is refused */
+    struct peers_outcome outcome = call(state, incremental, INCREMENTAL, 12, reply);
+    CHECK(outcome.number == PEERS_REFUSED_UNBOUND);
+    copy_store(&after, state.store);
+    CHECK(memcmp(&store, &after, sizeof store) == 0);
+    /* and with the table defined anew it goes where it belongs */
+    establish(state);
+    memcpy(state.store, &store, sizeof store);
+    define(state, 1, "t", PEERS_KEY_INTEGER, 4, 1u << PEERS_GPC0);
+    update(state, 1, "keyt", 4, (const uint64_t[]){5}, 1);
+    CHECK(named(state.store, "t") == &state.store->tables[1]);
+    CHECK(state.store->entries[0].held == 1 && state.store->entries[0].table == 1);
+}
+
+/* An entry goes whenever the host likes, and its key is new again. */
+static void entry_alone(struct state state) {
+    uint8_t reply[12];
+    establish(state);
+    define(state, 1, "t", PEERS_KEY_INTEGER, 4, 1u << PEERS_GPC0);
+    update(state, 1, "keyt", 4, (const uint64_t[]){5}, 1);
+    state.store->entries[0].held = 0;
+    struct peers_outcome outcome = call(state, incremental, INCREMENTAL, 12, reply);
+    CHECK(outcome.number == PEERS_UPDATE && outcome.values[2] == 0 && outcome.values[3] == 0);
+    CHECK(state.store->entries[0].values[PEERS_SLOT_GPC0] == 9);
+    /* a table that goes before its entries leaves a store that is refused */
+    state.store->tables[0].held = 0;
+    open_answerer_on(state);
+    CHECK(call(state, (const uint8_t *)"H", 1, 12, reply).number == PEERS_REFUSED_UNSOUND);
+}
+
+void test_freeing(void) {
+    struct state state = lend_state();
+    old_record(state);
+    new_record(state);
+    entry_alone(state);
+    give_back_state(state);
+}

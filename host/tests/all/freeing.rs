@@ -1,0 +1,81 @@
+//! Freeing entries and tables between calls.
+
+use crate::common::{define, message, update, State, HELLO};
+use peers::{Answer, Commit, DataType, Refusal, Session, Value};
+
+/// An established record with table `t` at place 0, and one entry.
+fn one_entry() -> State {
+    let mut state = State::established();
+    state.accept(&[define(1, b"t", 0, 4, 4, &[]), update(1, b"keyt", &[5])]);
+    state
+}
+
+/// An incremental update of the entry's key.
+fn incremental() -> Vec<u8> {
+    message(129, b"keyt\x09")
+}
+
+/// A new session of the peer on the same store.
+fn reconnect(state: &mut State) {
+    state.session = Session::answerer(b"east", b"west").unwrap();
+    assert_eq!(state.offer(HELLO).len(), 1);
+}
+
+#[test]
+fn an_entry() {
+    let mut state = one_entry();
+    assert!(state.store.free_entry(0));
+    assert!(!state.store.free_entry(0) && !state.store.free_entry(128));
+    assert_eq!(state.store.entries().count(), 0);
+    let told = state.offer(&incremental());
+    let committed = Answer::Update {
+        table: 0,
+        id: 2,
+        entry: 0,
+        commit: Commit::New,
+    };
+    assert_eq!(told[0].0, committed);
+    let entry = state.store.entry(0).unwrap();
+    assert_eq!(entry.value(DataType::Gpc0), Some(Value::Number(9)));
+}
+
+#[test]
+fn a_table_that_a_record_uses() {
+    let mut state = one_entry();
+    assert!(state.session.uses(0) && !state.session.uses(1));
+    assert!(state.store.free_table(0));
+    assert!(!state.store.free_table(0) && !state.store.free_table(8));
+    // while the place is free every call is refused
+    let (taken, told) = state.call(&incremental());
+    assert_eq!((taken, told.0), (0, Answer::Refused(Refusal::Unsound)));
+    // once it is taken the update goes to the wrong table, and is acknowledged
+    let old = state.session.clone();
+    reconnect(&mut state);
+    state.accept(&[define(7, b"other", 0, 4, 4, &[])]);
+    state.session = old;
+    let told = state.offer(&incremental());
+    assert_eq!(told[0].1, [10, 133, 5, 1, 0, 0, 0, 2]);
+    assert_eq!(state.store.entry(0).unwrap().table().name(), b"other");
+}
+
+#[test]
+fn a_table_that_no_record_uses() {
+    let mut state = one_entry();
+    state.accept(&[define(2, b"u", 0, 4, 4, &[]), update(1, b"keyu", &[6])]);
+    reconnect(&mut state);
+    assert!(!state.session.uses(0) && !state.session.uses(1));
+    assert!(state.store.free_table(0));
+    let names: Vec<_> = state.store.entries().map(|e| e.table().name()).collect();
+    assert_eq!(names, [b"u"]);
+    state.accept(&[
+        define(1, b"v", 0, 4, 4, &[]),
+        update(1, b"keyt", &[5]),
+        define(2, b"u", 0, 4, 4, &[]),
+    ]);
+    let places: Vec<_> = state
+        .store
+        .tables()
+        .map(|t| (t.place(), t.name()))
+        .collect();
+    assert_eq!(places, [(0, &b"v"[..]), (1, b"u")]);
+}
