@@ -10,8 +10,7 @@ static const uint8_t stream[] =
 #define STREAM (sizeof stream - 1)
 
 struct expected {
-    uint32_t number;
-    size_t count;
+    uint32_t number, count;
     uint64_t values[4];
     size_t reply_len;
     const char *reply;
