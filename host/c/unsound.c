@@ -15,13 +15,13 @@ static struct peers_session base_session;
 static struct peers_store base_store;
 
 static void from_base(void) {
-    copy_session(s, &base_session);
-    copy_store(t, &base_store);
+    *s = base_session;
+    *t = base_store;
 }
 
 static void keep_base(void) {
-    copy_session(&base_session, s);
-    copy_store(&base_store, t);
+    base_session = *s;
+    base_store = *t;
 }
 
 /* The answer of a call on the changed state; every byte must be as it was. */
