@@ -57,6 +57,7 @@ void update(struct state state, uint32_t id, const void *key, size_t key_len, co
 
 /* Groups of tests. */
 void test_layout(const char *file);
+void test_bytes(void);
 void test_texts(const char *file);
 void test_opening(void);
 void test_listing(void);
