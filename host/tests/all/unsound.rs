@@ -800,3 +800,19 @@ fn record_of_a_refused_opening() {
         ],
     );
 }
+
+// ---- the wrapper's methods
+
+/// Numbers past their range are no number of a byte: their low byte isn't taken for one.
+#[test]
+fn methods_on_what_is_not_sound() {
+    let mut state = eight_tables();
+    state.store.layout_mut().tables[0].key_type = 256;
+    assert_eq!(state.store.table(0).unwrap().key_type(), None);
+    let record = state.session.layout_mut();
+    (record.connection.closed, record.connection.number) = (1, 256 + 10);
+    (record.connection.current, record.len) = (u32::MAX, usize::MAX);
+    assert_eq!(state.session.closed_with(), None);
+    assert_eq!(state.session.current(), Some(u32::MAX as usize - 1));
+    assert_eq!(state.session.unfinished().len(), 1027);
+}
