@@ -6,7 +6,7 @@
  * keeps nothing between calls.
  *
  * The host's duties: each pointer points to as much memory as its type or the length after it says (an empty one too points to
- * somewhere); what is lent to one call doesn't overlap; no other thread touches it during the call. A reading call takes 70 KB of
+ * somewhere); what is lent to one call doesn't overlap; no other thread touches it during the call. A reading call takes 60 KB of
  * stack, an empty store by value 140 KB.
  *
  * No struct has padding: its bytes are those of its fields. So a record, a store, an outcome and what opening gives back can be compared
