@@ -6,8 +6,12 @@
  * keeps nothing between calls.
  *
  * The host's duties: each pointer points to as much memory as its type or the length after it says (an empty one too points to
- * somewhere); what is lent to one call doesn't overlap; no other thread touches it during the call. A reading call takes 70 KB of
+ * somewhere); what is lent to one call doesn't overlap; no other thread touches it during the call. A reading call takes 60 KB of
  * stack, an empty store by value 140 KB.
+ *
+ * No struct has padding: its bytes are those of its fields. So a record, a store, an outcome and what opening gives back can be compared
+ * with memcmp, hashed, or saved as bytes and lent again to an archive of the same PEERS_LAYOUT. Bytes that have no meaning are compared
+ * too: calls write zeros there, but a place that the host freed keeps what it held.
  */
 #ifndef PEERS_H
 #define PEERS_H
@@ -22,7 +26,7 @@ extern "C" {
 /* ---- version */
 
 #define PEERS_VERSION 1 /* of the calls: their names, parameters, numbers and meaning */
-#define PEERS_LAYOUT 1  /* of the structs: their fields, order and sizes */
+#define PEERS_LAYOUT 2  /* of the structs: their fields, order and sizes */
 
 /* The archive's version times 65,536 plus its layout. */
 uint32_t peers_version(void);
@@ -39,6 +43,7 @@ static inline int peers_matches(void) { return peers_version() == PEERS_VERSION 
 #define PEERS_RATES 8            /* data types that are rates */
 #define PEERS_VALUES 34          /* integers of an entry, the server ID aside */
 #define PEERS_UNFINISHED_MAX 1027 /* unfinished bytes */
+#define PEERS_BUFFER 1032        /* bytes of a record's buffer: five more, so that the record has no padding */
 #define PEERS_OPENING_ROOM 101   /* room that opening asks for */
 #define PEERS_READING_ROOM 12    /* room that a reading call asks for */
 
@@ -118,19 +123,19 @@ enum peers_period {
 };
 
 struct peers_table {
-    uint8_t held;        /* 1 for a held table, 0 for a free place */
-    uint8_t key_type;    /* enum peers_key_type */
-    uint8_t timed;       /* 1 where expiry and periods are known */
+    uint32_t held;       /* 1 for a held table, 0 for a free place */
+    uint32_t key_type;   /* enum peers_key_type */
+    uint32_t timed;      /* 1 where expiry and periods are known */
     uint32_t data_types; /* bits 0 to 18 */
     size_t name_len;
-    size_t key_len;      /* for strings the largest */
+    uint32_t key_len;    /* for strings the largest */
     uint32_t expiry;     /* milliseconds */
     uint32_t periods[PEERS_RATES]; /* milliseconds, of the rates among the data types */
     uint8_t name[PEERS_NAME_MAX];
 };
 
 struct peers_entry {
-    uint8_t held;      /* 1 for a held entry, 0 for a free place */
+    uint32_t held;     /* 1 for a held entry, 0 for a free place */
     int32_t server_id; /* if the table has PEERS_SERVER_ID */
     size_t table;      /* the table's place */
     size_t key_len;
@@ -153,17 +158,17 @@ enum peers_phase {
 
 /* What the session knows of the table at the same place of the store. */
 struct peers_binding {
-    uint8_t bound;     /* 1 where `id` is bound to the table */
-    uint8_t updated;   /* 1 where the table had an update in this session */
+    uint32_t bound;    /* 1 where `id` is bound to the table */
+    uint32_t updated;  /* 1 where the table had an update in this session */
     uint32_t id;       /* the sender's ID of the table */
     uint32_t previous; /* the last committed update ID */
 };
 
 struct peers_connection {
-    uint8_t phase;  /* enum peers_phase */
-    uint8_t closed; /* 1 for a closed session */
-    uint8_t number; /* what it was closed with: 0 after the peer's error message, else enum peers_refusal */
-    size_t current; /* 0 without a current table, else its place plus 1 */
+    uint32_t phase;   /* enum peers_phase */
+    uint32_t closed;  /* 1 for a closed session */
+    uint32_t number;  /* what it was closed with: 0 after the peer's error message, else enum peers_refusal */
+    uint32_t current; /* 0 without a current table, else its place plus 1 */
     size_t local_len;
     size_t remote_len;
     uint8_t local[PEERS_NAME_MAX];  /* our name */
@@ -171,10 +176,12 @@ struct peers_connection {
     struct peers_binding bindings[PEERS_TABLES];
 };
 
+/* The bytes of `buffer` past `len` aren't looked at, and a call that takes bytes leaves zeros there. The record of a refused opening is all
+ * zeros but for `closed` and `number`. */
 struct peers_session {
     struct peers_connection connection;
-    size_t len; /* how many bytes of `buffer` are unfinished */
-    uint8_t buffer[PEERS_UNFINISHED_MAX];
+    size_t len; /* how many bytes of `buffer` are unfinished, at most PEERS_UNFINISHED_MAX */
+    uint8_t buffer[PEERS_BUFFER];
 };
 
 /* ---- answers */
@@ -225,7 +232,7 @@ struct peers_outcome {
     size_t taken;       /* bytes of the piece that were taken */
     size_t reply_len;   /* bytes at the front of the room that go to the peer */
     uint32_t number;    /* the answer: enum peers_answer, or enum peers_refusal */
-    size_t count;       /* how many values the answer has */
+    uint32_t count;     /* how many values the answer has */
     uint64_t values[4]; /* zeros after them */
 };
 

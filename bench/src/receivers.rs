@@ -147,7 +147,7 @@ impl Receiver for Plain {
 
     fn told(&mut self, piece: &[u8], room: &mut [u8]) -> Told {
         let outcome = plain::read(&mut self.session, &mut self.store, piece, room);
-        let values = outcome.values[..outcome.count].to_vec();
+        let values = outcome.values[..outcome.count as usize].to_vec();
         let reply = room[..outcome.reply_len].to_vec();
         (outcome.taken, outcome.number, values, reply)
     }

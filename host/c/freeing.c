@@ -32,9 +32,9 @@ static void freed(struct state state) {
 static void take_the_place(struct state state) {
     struct state other = lend_state();
     establish(other);
-    memcpy(other.store, state.store, sizeof *state.store);
+    *other.store = *state.store;
     define(other, 7, "other", PEERS_KEY_INTEGER, 4, 1u << PEERS_GPC0);
-    memcpy(state.store, other.store, sizeof *state.store);
+    *state.store = *other.store;
     CHECK(named(state.store, "other") == &state.store->tables[0]);
     give_back_state(other);
 }
@@ -55,21 +55,20 @@ static void old_record(struct state state) {
 }
 
 static void new_record(struct state state) {
-    static struct peers_store store, after;
+    static struct peers_store store;
     uint8_t reply[12];
     freed(state);
     take_the_place(state);
-    copy_store(&store, state.store);
+    store = *state.store;
     establish(state);
-    memcpy(state.store, &store, sizeof store);
+    *state.store = store;
     /* a new record has no current table, so the peer's incremental update is refused */
     struct peers_outcome outcome = call(state, incremental, INCREMENTAL, 12, reply);
     CHECK(outcome.number == PEERS_REFUSED_UNBOUND);
-    copy_store(&after, state.store);
-    CHECK(memcmp(&store, &after, sizeof store) == 0);
+    CHECK(memcmp(&store, state.store, sizeof store) == 0);
     /* and with the table defined anew it goes where it belongs */
     establish(state);
-    memcpy(state.store, &store, sizeof store);
+    *state.store = store;
     define(state, 1, "t", PEERS_KEY_INTEGER, 4, 1u << PEERS_GPC0);
     update(state, 1, "keyt", 4, (const uint64_t[]){5}, 1);
     CHECK(named(state.store, "t") == &state.store->tables[1]);

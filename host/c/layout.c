@@ -1,14 +1,15 @@
-/* Sizes and offsets are those of layout.txt, which the Rust test reads too. */
+/* Sizes and offsets are those of layout.txt, which the Rust test reads too. No struct has padding: its size is the sum of its fields'. */
 #include "test.h"
 
+/* A struct's size and alignment, or a field's offset and size. */
 struct line {
     const char *name;
-    size_t offset, align;
+    size_t number, align, size;
 };
 
 #define ALIGN(type) offsetof(struct { char first; type second; }, second)
-#define SIZE(name) {#name, sizeof(struct peers_##name), ALIGN(struct peers_##name)}
-#define FIELD(name, field) {#name "." #field, offsetof(struct peers_##name, field), 0}
+#define SIZE(name) {#name, sizeof(struct peers_##name), ALIGN(struct peers_##name), 0}
+#define FIELD(name, field) {#name "." #field, offsetof(struct peers_##name, field), 0, sizeof((struct peers_##name *)0)->field}
 
 static const struct line lines[] = {
     SIZE(table), FIELD(table, held), FIELD(table, key_type), FIELD(table, timed), FIELD(table, data_types),
@@ -28,14 +29,23 @@ static const struct line lines[] = {
 
 void test_layout(const char *file) {
     FILE *from = fopen(file, "r");
+    size_t rest = 0; /* bytes of the struct that belong to no field so far */
     CHECK(from != NULL);
     for (size_t i = 0; i < sizeof lines / sizeof *lines; i++) {
+        const struct line *line = &lines[i];
         char expected[80], own[80];
         CHECK(fgets(expected, sizeof expected, from) != NULL);
-        if (lines[i].align) snprintf(own, sizeof own, "%s %zu %zu\n", lines[i].name, lines[i].offset, lines[i].align);
-        else snprintf(own, sizeof own, "%s %zu\n", lines[i].name, lines[i].offset);
+        if (line->align) {
+            CHECK(rest == 0);
+            rest = line->number;
+            snprintf(own, sizeof own, "%s %zu %zu\n", line->name, line->number, line->align);
+        } else {
+            rest -= line->size;
+            snprintf(own, sizeof own, "%s %zu\n", line->name, line->number);
+        }
         CHECK(strcmp(expected, own) == 0);
     }
+    CHECK(rest == 0);
     CHECK(fgetc(from) == EOF);
     fclose(from);
 }

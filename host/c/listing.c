@@ -10,8 +10,7 @@ static const uint8_t stream[] =
 #define STREAM (sizeof stream - 1)
 
 struct expected {
-    uint32_t number;
-    size_t count;
+    uint32_t number, count;
     uint64_t values[4];
     size_t reply_len;
     const char *reply;
@@ -66,26 +65,18 @@ static void run(struct state state, size_t cut) {
 }
 
 void test_listing(void) {
-    static struct peers_session session, whole_session;
-    static struct peers_store store, whole_store;
+    static struct peers_session session;
+    static struct peers_store store;
     struct state state = lend_state();
     run(state, STREAM);
-    copy_session(&whole_session, state.session);
-    copy_store(&whole_store, state.store);
+    session = *state.session;
+    store = *state.store;
     for (size_t cut = 0; cut <= STREAM + 1; cut++) {
         run(state, cut);
-        copy_session(&session, state.session);
-        copy_store(&store, state.store);
-        CHECK(memcmp(&session, &whole_session, sizeof session) == 0);
-        CHECK(memcmp(&store, &whole_store, sizeof store) == 0);
+        CHECK(memcmp(&session, state.session, sizeof session) == 0);
+        CHECK(memcmp(&store, state.store, sizeof store) == 0);
     }
     give_back_state(state);
-}
-
-static bool zero(const void *from, size_t len) {
-    for (size_t i = 0; i < len; i++)
-        if (((const uint8_t *)from)[i] != 0) return false;
-    return true;
 }
 
 /* A refused opening: a closed record, all else zero, with which a call answers 2. */
@@ -100,10 +91,7 @@ static void refused(struct peers_opened opened, uint32_t number) {
     CHECK(call(state, piece, 1, 12, reply).number == PEERS_REFUSED_CLOSED);
     CHECK(session->connection.closed == 1 && session->connection.number == number);
     session->connection.closed = session->connection.number = 0;
-    CHECK(session->connection.phase == 0 && session->connection.current == 0);
-    CHECK(session->connection.local_len == 0 && session->connection.remote_len == 0 && session->len == 0);
-    CHECK(zero(session->connection.local, 32) && zero(session->connection.remote, 32));
-    CHECK(zero(session->buffer, sizeof session->buffer));
+    CHECK(all_zero(session, sizeof *session));
     give_back_state(state);
 }
 

@@ -7,6 +7,7 @@ int main(int argc, char **argv) {
     test_texts(argv[2]);
     for (edge = EDGE_AFTER; edge <= EDGE_BEFORE; edge++) {
         test_opening();
+        test_bytes();
         test_listing();
         test_unsound();
         test_random();

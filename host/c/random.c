@@ -36,8 +36,8 @@ void test_random(void) {
     establish(state);
     define(state, 1, "t", PEERS_KEY_INTEGER, 4, 1u << PEERS_GPC0);
     update(state, 1, "keys", 4, (const uint64_t[]){5}, 1);
-    copy_session(&base, state.session);
-    copy_store(&held, state.store);
+    base = *state.session;
+    held = *state.store;
     for (int round = 0; round < 500; round++) {
         fill(state.session, sizeof *state.session);
         fill(state.store, sizeof *state.store);

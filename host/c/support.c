@@ -36,55 +36,10 @@ void give_back_state(struct state state) {
     give_back(state.store, sizeof *state.store);
 }
 
-static void copy_table(struct peers_table *to, const struct peers_table *from) {
-    to->held = from->held;
-    to->key_type = from->key_type;
-    to->timed = from->timed;
-    to->data_types = from->data_types;
-    to->name_len = from->name_len;
-    to->key_len = from->key_len;
-    to->expiry = from->expiry;
-    memcpy(to->periods, from->periods, sizeof to->periods);
-    memcpy(to->name, from->name, sizeof to->name);
-}
-
-static void copy_entry(struct peers_entry *to, const struct peers_entry *from) {
-    to->held = from->held;
-    to->server_id = from->server_id;
-    to->table = from->table;
-    to->key_len = from->key_len;
-    memcpy(to->key, from->key, sizeof to->key);
-    memcpy(to->values, from->values, sizeof to->values);
-}
-
-static void copy_connection(struct peers_connection *to, const struct peers_connection *from) {
-    to->phase = from->phase;
-    to->closed = from->closed;
-    to->number = from->number;
-    to->current = from->current;
-    to->local_len = from->local_len;
-    to->remote_len = from->remote_len;
-    memcpy(to->local, from->local, sizeof to->local);
-    memcpy(to->remote, from->remote, sizeof to->remote);
-    for (size_t i = 0; i < PEERS_TABLES; i++) {
-        to->bindings[i].bound = from->bindings[i].bound;
-        to->bindings[i].updated = from->bindings[i].updated;
-        to->bindings[i].id = from->bindings[i].id;
-        to->bindings[i].previous = from->bindings[i].previous;
-    }
-}
-
-void copy_session(struct peers_session *to, const struct peers_session *from) {
-    memset(to, 0, sizeof *to);
-    copy_connection(&to->connection, &from->connection);
-    to->len = from->len;
-    memcpy(to->buffer, from->buffer, sizeof to->buffer);
-}
-
-void copy_store(struct peers_store *to, const struct peers_store *from) {
-    memset(to, 0, sizeof *to);
-    for (size_t i = 0; i < PEERS_TABLES; i++) copy_table(&to->tables[i], &from->tables[i]);
-    for (size_t i = 0; i < PEERS_ENTRIES; i++) copy_entry(&to->entries[i], &from->entries[i]);
+bool all_zero(const void *memory, size_t size) {
+    for (size_t i = 0; i < size; i++)
+        if (((const uint8_t *)memory)[i] != 0) return false;
+    return true;
 }
 
 static void take_opened(struct state state, struct peers_opened opened) {

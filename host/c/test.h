@@ -35,9 +35,7 @@ struct state {
 struct state lend_state(void);
 void give_back_state(struct state state);
 
-/* Copies all fields, and puts zeros between them: opening leaves there what it likes. */
-void copy_session(struct peers_session *to, const struct peers_session *from);
-void copy_store(struct peers_store *to, const struct peers_store *from);
+bool all_zero(const void *memory, size_t size);
 
 /* States to start from, in the memory of `state`. */
 void open_answerer(struct state state);
@@ -59,6 +57,7 @@ void update(struct state state, uint32_t id, const void *key, size_t key_len, co
 
 /* Groups of tests. */
 void test_layout(const char *file);
+void test_bytes(void);
 void test_texts(const char *file);
 void test_opening(void);
 void test_listing(void);

@@ -15,13 +15,13 @@ static struct peers_session base_session;
 static struct peers_store base_store;
 
 static void from_base(void) {
-    copy_session(s, &base_session);
-    copy_store(t, &base_store);
+    *s = base_session;
+    *t = base_store;
 }
 
 static void keep_base(void) {
-    copy_session(&base_session, s);
-    copy_store(&base_store, t);
+    base_session = *s;
+    base_store = *t;
 }
 
 /* The answer of a call on the changed state; every byte must be as it was. */
@@ -117,30 +117,33 @@ static void tables(void) {
     FAULT(t->tables[7].name_len = 0);
     FAULT(t->tables[0].name_len = SIZE_MAX);
     FAULT(t->tables[0].held = 2);
-    FAULT(t->tables[7].held = 255);
+    FAULT(t->tables[7].held = 256);
+    FAULT(t->tables[7].held = UINT32_MAX);
     SOUND(t->tables[4].data_types = ALL);
     FAULT(t->tables[4].data_types = ALL + 1);
     FAULT(t->tables[4].data_types = UINT32_MAX);
     SOUND(t->tables[4].timed = 1);
     FAULT(t->tables[4].timed = 2);
-    FAULT(t->tables[4].timed = 255);
+    FAULT(t->tables[4].timed = 256);
+    FAULT(t->tables[4].timed = UINT32_MAX);
     SOUND(t->tables[4].expiry = UINT32_MAX; t->tables[4].periods[7] = UINT32_MAX);
 }
 
 static void key_types(void) {
     static const struct {
-        uint8_t type;
-        size_t least, most;
+        uint32_t type, least, most;
     } types[] = {{0, 4, 4}, {1, 4, 4}, {2, 16, 16}, {3, 1, 64}, {4, 1, 64}};
     for (size_t i = 0; i < 5; i++) {
         SOUND(t->tables[4].key_type = types[i].type; t->tables[4].key_len = types[i].least);
         SOUND(t->tables[4].key_type = types[i].type; t->tables[4].key_len = types[i].most);
         FAULT(t->tables[4].key_type = types[i].type; t->tables[4].key_len = types[i].least - 1);
         FAULT(t->tables[4].key_type = types[i].type; t->tables[4].key_len = types[i].most + 1);
-        FAULT(t->tables[4].key_type = types[i].type; t->tables[4].key_len = SIZE_MAX);
+        FAULT(t->tables[4].key_type = types[i].type; t->tables[4].key_len = types[i].most + 256);
+        FAULT(t->tables[4].key_type = types[i].type; t->tables[4].key_len = UINT32_MAX);
     }
     FAULT(t->tables[4].key_type = 5);
-    FAULT(t->tables[4].key_type = 255);
+    FAULT(t->tables[4].key_type = 256);
+    FAULT(t->tables[4].key_type = UINT32_MAX);
 }
 
 static void names(void) {
@@ -158,7 +161,8 @@ static void entries(void) {
     SOUND(t->entries[0].held = 0);
     FAULT(t->entries[0].held = 2);
     FAULT(t->entries[127].held = 2);
-    FAULT(t->entries[127].held = 255);
+    FAULT(t->entries[127].held = 256);
+    FAULT(t->entries[127].held = UINT32_MAX);
     SOUND(t->entries[0].table = 4);
     SOUND(t->entries[2].table = 7);
     FAULT(t->entries[0].table = 8);
@@ -217,21 +221,26 @@ static void twins_in_a_full_store(void) {
 
 static void connection(void) {
     struct peers_connection *c = &s->connection;
-    for (unsigned phase = 0; phase < 256; phase++) {
-        if (phase <= PEERS_ESTABLISHED) SOUND(c->phase = (uint8_t)phase);
-        else FAULT(c->phase = (uint8_t)phase);
+    for (uint32_t phase = 0; phase < 300; phase++) {
+        if (phase <= PEERS_ESTABLISHED) SOUND(c->phase = phase);
+        else FAULT(c->phase = phase);
     }
-    for (unsigned number = 0; number < 256; number++) {
+    FAULT(c->phase = UINT32_MAX);
+    for (uint32_t number = 0; number < 300; number++) {
         bool closes = number == 0 || number == 1 || number == 3 || (10 <= number && number <= 15) || (20 <= number && number <= 29);
-        if (closes) SOUND(c->closed = 1; c->number = (uint8_t)number);
-        else FAULT(c->closed = 1; c->number = (uint8_t)number);
-        if (number > 0) FAULT(c->number = (uint8_t)number);
-        if (number > 1) FAULT(c->closed = (uint8_t)number);
+        if (closes) SOUND(c->closed = 1; c->number = number);
+        else FAULT(c->closed = 1; c->number = number);
+        if (number > 0) FAULT(c->number = number);
+        if (number > 1) FAULT(c->closed = number);
     }
+    FAULT(c->closed = 1; c->number = UINT32_MAX);
+    FAULT(c->closed = UINT32_MAX);
     SOUND(c->current = 0);
     SOUND(c->current = 1);
     FAULT(c->current = 9);
-    FAULT(c->current = SIZE_MAX);
+    FAULT(c->current = 256);
+    FAULT(c->current = 257);
+    FAULT(c->current = UINT32_MAX);
 }
 
 static void peer_names(void) {
@@ -259,9 +268,11 @@ static void bindings(void) {
     SOUND(b[0].updated = 0);
     SOUND(b[0].previous = UINT32_MAX);
     FAULT(b[0].bound = 2);
-    FAULT(b[7].bound = 255);
+    FAULT(b[7].bound = 257);
+    FAULT(b[7].bound = UINT32_MAX);
     FAULT(b[0].updated = 2);
-    FAULT(b[7].updated = 255);
+    FAULT(b[7].updated = 256);
+    FAULT(b[7].updated = UINT32_MAX);
     SOUND(b[0].id = 18);
     SOUND(b[0].id = 17; b[0].bound = 0);
     FAULT(b[0].id = 17);
@@ -301,6 +312,8 @@ static void unfinished_message(void) {
     uint8_t longest[1028] = {10, 200, 0xF0, 0x31};
     SOUND(hold(longest, 1027));
     FAULT(hold(longest, 1027); s->len = 1028);
+    FAULT(hold(longest, 1027); s->len = sizeof s->buffer);
+    FAULT(hold(longest, 1027); s->len = sizeof s->buffer + 1);
     FAULT(hold(longest, 1027); s->len = SIZE_MAX);
     SOUND(memset(s->buffer, 255, sizeof s->buffer));
     SOUND(hold("\0", 1));
@@ -368,6 +381,8 @@ static void refused_opening(void) {
     FAULT(c->bindings[7].bound = 1);
     FAULT(c->bindings[0].updated = 1);
     FAULT(hold("\0", 1));
+    FAULT(s->buffer[PEERS_UNFINISHED_MAX] = 1);
+    FAULT(s->buffer[PEERS_BUFFER - 1] = 1);
     FAULT(t->tables[0].held = 2);
 }
 

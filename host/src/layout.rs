@@ -1,6 +1,7 @@
 //! The structs that the library reads and writes, field for field as in `include/peers.h`.
 //!
-//! Every content is allowed: what the rules don't allow is refused with [`crate::Refusal::Unsound`].
+//! Every content is allowed: what the rules don't allow is refused with [`crate::Refusal::Unsound`]. No struct has padding, so each can be
+//! compared, hashed or saved as bytes.
 
 /// Places for tables.
 pub const TABLES: usize = 8;
@@ -16,23 +17,25 @@ pub const RATES: usize = 8;
 pub const VALUES: usize = 34;
 /// The most unfinished bytes.
 pub const UNFINISHED_MAX: usize = 1027;
+/// The bytes of a record's buffer: five more, so that the record has no padding.
+pub const BUFFER: usize = 1032;
 
 /// A table place.
 #[repr(C)]
 #[derive(Clone, Copy, Debug, PartialEq, Eq)]
 pub struct Table {
     /// 1 for a held table, 0 for a free place.
-    pub held: u8,
+    pub held: u32,
     /// The key type's number.
-    pub key_type: u8,
+    pub key_type: u32,
     /// 1 where expiry and periods are known.
-    pub timed: u8,
+    pub timed: u32,
     /// Bits 0 to 18.
     pub data_types: u32,
     /// The length of the name.
     pub name_len: usize,
     /// The length of the keys; for strings the largest.
-    pub key_len: usize,
+    pub key_len: u32,
     /// The expiry in milliseconds.
     pub expiry: u32,
     /// The periods in milliseconds, by rate.
@@ -46,7 +49,7 @@ pub struct Table {
 #[derive(Clone, Copy, Debug, PartialEq, Eq)]
 pub struct Entry {
     /// 1 for a held entry, 0 for a free place.
-    pub held: u8,
+    pub held: u32,
     /// The server ID, if the table has it.
     pub server_id: i32,
     /// The table's place.
@@ -74,9 +77,9 @@ pub struct Store {
 #[derive(Clone, Copy, Debug, PartialEq, Eq)]
 pub struct Binding {
     /// 1 where `id` is bound to the table.
-    pub bound: u8,
+    pub bound: u32,
     /// 1 where the table had an update in this session.
-    pub updated: u8,
+    pub updated: u32,
     /// The sender's ID of the table.
     pub id: u32,
     /// The last committed update ID.
@@ -88,13 +91,13 @@ pub struct Binding {
 #[derive(Clone, Copy, Debug, PartialEq, Eq)]
 pub struct Connection {
     /// 0 awaiting a hello, 1 awaiting a status, 2 past the handshake.
-    pub phase: u8,
+    pub phase: u32,
     /// 1 for a closed session.
-    pub closed: u8,
+    pub closed: u32,
     /// What a closed session was closed with.
-    pub number: u8,
+    pub number: u32,
     /// 0 without a current table, else its place plus 1.
-    pub current: usize,
+    pub current: u32,
     /// The length of our name.
     pub local_len: usize,
     /// The length of the accepted peer's name.
@@ -113,10 +116,10 @@ pub struct Connection {
 pub struct Session {
     /// All but the unfinished bytes.
     pub connection: Connection,
-    /// How many bytes of `buffer` are unfinished.
+    /// How many bytes of `buffer` are unfinished, at most [`UNFINISHED_MAX`].
     pub len: usize,
-    /// The unfinished bytes, at the front.
-    pub buffer: [u8; UNFINISHED_MAX],
+    /// The unfinished bytes, at the front. Those past them aren't looked at, and a call that takes bytes leaves zeros there.
+    pub buffer: [u8; BUFFER],
 }
 
 /// What a call gives back.
@@ -130,7 +133,7 @@ pub struct Outcome {
     /// The answer's number.
     pub number: u32,
     /// How many values the answer has.
-    pub count: usize,
+    pub count: u32,
     /// The answer's values, zeros after them.
     pub values: [u64; 4],
 }

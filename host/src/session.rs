@@ -71,7 +71,9 @@ impl Session {
     /// What a closed session was closed with: 0 after the peer's error message, else a refusal's number.
     pub fn closed_with(&self) -> Option<u8> {
         let connection = &self.record.connection;
-        (connection.closed == 1).then_some(connection.number)
+        // no session is closed with a number past 255: a call on such a record is refused with 4
+        let number = u8::try_from(connection.number).ok();
+        number.filter(|_| connection.closed == 1)
     }
 
     /// Whether the handshake is done.
@@ -81,7 +83,8 @@ impl Session {
 
     /// The place of the current table.
     pub fn current(&self) -> Option<usize> {
-        self.record.connection.current.checked_sub(1)
+        let place = self.record.connection.current.checked_sub(1)?;
+        Some(place as usize)
     }
 
     /// The sender's ID of the table at a place.
@@ -104,8 +107,7 @@ impl Session {
 
     /// The bytes of a message that isn't whole.
     pub fn unfinished(&self) -> &[u8] {
-        let buffer = &self.record.buffer;
-        &buffer[..self.record.len.min(buffer.len())]
+        &self.record.buffer[..self.record.len.min(layout::UNFINISHED_MAX)]
     }
 
     /// The record as the library has it.

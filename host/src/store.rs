@@ -205,12 +205,12 @@ impl<'a> Table<'a> {
 
     /// The type of its keys; a sound store's tables have one.
     pub fn key_type(&self) -> Option<KeyType> {
-        KeyType::of(self.table.key_type)
+        u8::try_from(self.table.key_type).ok().and_then(KeyType::of)
     }
 
     /// The length of its keys; for strings the largest.
     pub fn key_len(&self) -> usize {
-        self.table.key_len
+        self.table.key_len as usize
     }
 
     /// Whether its entries have values of a data type.

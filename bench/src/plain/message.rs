@@ -23,11 +23,11 @@ pub fn is_wide(data_type: u8) -> bool {
 }
 
 /// Whether a key length is one of a key type.
-pub fn key_length_fits(key_type: u8, len: usize) -> bool {
+pub fn key_length_fits(key_type: u32, len: u32) -> bool {
     match key_type {
         0 | 1 => len == 4,
         2 => len == 16,
-        3 | 4 => (1..=KEY_MAX).contains(&len),
+        3 | 4 => (1..=KEY_MAX as u32).contains(&len),
         _ => false,
     }
 }
@@ -91,9 +91,9 @@ fn definition_fields(body: &[u8]) -> Result<Defined, Fault> {
     let id = reader.word()?;
     let name_len = reader.within(1, NAME_MAX as u64)? as usize;
     let name = reader.bytes(name_len)?;
-    let key_type = reader.within(0, 4)? as u8;
+    let key_type = reader.within(0, 4)? as u32;
     let key_len = reader.int()?;
-    if key_len > KEY_MAX as u64 || !key_length_fits(key_type, key_len as usize) {
+    if key_len > KEY_MAX as u64 || !key_length_fits(key_type, key_len as u32) {
         return Err(Fault::Range);
     }
     let data_types = reader.within(0, 0x7_ffff)? as u32;
@@ -103,7 +103,7 @@ fn definition_fields(body: &[u8]) -> Result<Defined, Fault> {
         timed: 0,
         data_types,
         name_len,
-        key_len: key_len as usize,
+        key_len: key_len as u32,
         expiry: 0,
         periods: [0; RATES],
         name: [0; NAME_MAX],
@@ -132,7 +132,7 @@ fn definition(connection: &mut Connection, store: &mut Store, body: &[u8]) -> Re
     let place = place_of(store, &defined.table)?;
     store.tables[place] = defined.table;
     bind(&mut connection.bindings, place, defined.id);
-    connection.current = place + 1;
+    connection.current = place as u32 + 1;
     Ok(Settled::new(265, &[place as u64], &[]))
 }
 
@@ -169,7 +169,7 @@ fn switch(connection: &mut Connection, body: &[u8]) -> Result<Settled, u8> {
     let id = Reader::new(body).word().map_err(Fault::number)?;
     let bound = |b: &Binding| b.bound == 1 && b.id == id;
     let place = connection.bindings.iter().position(bound).ok_or(27)?;
-    connection.current = place + 1;
+    connection.current = place as u32 + 1;
     Ok(Settled::new(266, &[place as u64], &[]))
 }
 
@@ -191,8 +191,8 @@ struct Fields<'a> {
 
 fn entry_fields<'a>(reader: &mut Reader<'a>, table: &Table) -> Result<Fields<'a>, Fault> {
     let key_len = match table.key_type {
-        3 => reader.within(0, table.key_len as u64)? as usize,
-        _ => table.key_len,
+        3 => reader.within(0, table.key_len.into())? as usize,
+        _ => table.key_len as usize,
     };
     let mut fields = Fields {
         key: reader.bytes(key_len)?,
@@ -220,7 +220,7 @@ fn update(
     body: &[u8],
     incremental: bool,
 ) -> Result<Settled, u8> {
-    let place = connection.current.checked_sub(1).ok_or(27)?;
+    let place = connection.current.checked_sub(1).ok_or(27)? as usize;
     let binding = &mut connection.bindings[place];
     if incremental && binding.updated != 1 {
         return Err(28);

@@ -18,7 +18,7 @@ const READING_ROOM: usize = 12;
 /// What a message did: the answer's number and values, and the reply at the front of its bytes.
 struct Settled {
     number: u32,
-    count: usize,
+    count: u32,
     values: [u64; 4],
     reply_len: usize,
     reply: [u8; READING_ROOM],
@@ -34,7 +34,7 @@ impl Settled {
     fn new(number: u32, values: &[u64], reply: &[u8]) -> Settled {
         let mut settled = Settled {
             number,
-            count: values.len(),
+            count: values.len() as u32,
             values: [0; 4],
             reply_len: reply.len(),
             reply: [0; READING_ROOM],
@@ -47,7 +47,7 @@ impl Settled {
     /// A refusal, which closes the connection.
     fn refused(connection: &mut Connection, number: u8) -> Settled {
         connection.closed = 1;
-        connection.number = number;
+        connection.number = number.into();
         Settled::new(number.into(), &[], refusal_reply(number))
     }
 }

@@ -4,7 +4,8 @@ use super::frame::{self, Frame};
 use super::handshake::{hello_waits, is_name};
 use super::message::{has, is_wide, key_length_fits, SLOT_TYPES};
 use crate::layout::{
-    Binding, Connection, Entry, Session, Store, Table, ENTRIES, NAME_MAX, TABLES, UNFINISHED_MAX,
+    Binding, Connection, Entry, Session, Store, Table, BUFFER, ENTRIES, NAME_MAX, TABLES,
+    UNFINISHED_MAX,
 };
 
 /// Whether record and store are what the rules allow together.
@@ -54,9 +55,10 @@ fn entry_is_sound(store: &Store, entry: &Entry) -> bool {
 }
 
 fn entry_fits(table: &Table, entry: &Entry) -> bool {
+    let key_len = table.key_len as usize;
     let length_fits = match table.key_type {
-        3 => entry.key_len <= table.key_len,
-        _ => entry.key_len == table.key_len,
+        3 => entry.key_len <= key_len,
+        _ => entry.key_len == key_len,
     };
     let slot_fits = |(&value, &t): (&u64, &u8)| {
         value <= u32::MAX.into() || is_wide(t) || !has(table.data_types, t)
@@ -113,7 +115,7 @@ fn is_refused_opening(session: &Session) -> bool {
         && c.local == [0; NAME_MAX]
         && c.remote == [0; NAME_MAX]
         && c.bindings.iter().all(empty)
-        && session.buffer == [0; UNFINISHED_MAX]
+        && session.buffer == [0; BUFFER]
 }
 
 fn record_is_sound(session: &Session, store: &Store) -> bool {
@@ -152,6 +154,7 @@ fn current_is_sound(c: &Connection, store: &Store) -> bool {
     let Some(place) = c.current.checked_sub(1) else {
         return true;
     };
+    let place = place as usize;
     place < TABLES && store.tables[place].held == 1 && c.bindings[place].bound == 1
 }
 

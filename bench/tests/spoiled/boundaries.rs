@@ -121,7 +121,7 @@ const BOUNDARIES: &[(Change, Change)] = &[
         |s, _| s.connection.current = 0,
         |s, _| s.connection.current = 9,
     ),
-    (|s, _| s.buffer[1026] = 1, |s, _| s.len = 1028),
+    (|s, _| s.buffer[1031] = 1, |s, _| s.len = 1028),
     (|s, _| (s.len, s.buffer[0]) = (1, 10), |s, _| s.len = 2),
 ];
 
@@ -150,6 +150,7 @@ const OPENING_BOUNDARIES: &[(Change, Change)] = &[
     (NOTHING, |s, _| s.connection.bindings[7].id = 1),
     (NOTHING, |s, _| s.connection.bindings[7].previous = 1),
     (NOTHING, |s, _| s.buffer[1026] = 1),
+    (NOTHING, |s, _| s.buffer[1031] = 1),
     (NOTHING, |s, _| s.len = 1),
 ];
 
@@ -177,7 +178,7 @@ fn of_a_refused_opening() {
 
 #[test]
 fn of_what_a_record_was_closed_with() {
-    for number in 0..=255 {
+    for number in (0..300).chain([u32::MAX]) {
         let mut both = Both::after(Role::Answerer, &five_tables());
         both.change(|s, _| (s.connection.closed, s.connection.number) = (1, number));
         let sound = matches!(number, 0 | 1 | 3 | 10..=15 | 20..=29);

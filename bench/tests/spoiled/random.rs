@@ -47,16 +47,16 @@ fn spoil_record(random: &mut Random, record: &mut Session) {
     let c = &mut record.connection;
     let binding = &mut c.bindings[random.below(8)];
     match random.below(14) {
-        0 => c.phase = random.byte(),
-        1 => c.closed = random.byte(),
-        2 => c.number = random.byte(),
-        3 => random.spoil_size(&mut c.current),
+        0 => random.spoil_word(&mut c.phase),
+        1 => random.spoil_word(&mut c.closed),
+        2 => random.spoil_word(&mut c.number),
+        3 => random.spoil_word(&mut c.current),
         4 => random.spoil_size(&mut c.local_len),
         5 => random.spoil_size(&mut c.remote_len),
         6 => random.spoil(&mut c.local),
         7 => random.spoil(&mut c.remote),
-        8 => binding.bound = random.byte(),
-        9 => binding.updated = random.byte(),
+        8 => random.spoil_word(&mut binding.bound),
+        9 => random.spoil_word(&mut binding.updated),
         10 => random.spoil_word(&mut binding.id),
         11 => random.spoil_word(&mut binding.previous),
         12 => random.spoil_size(&mut record.len),
@@ -67,12 +67,12 @@ fn spoil_record(random: &mut Random, record: &mut Session) {
 fn spoil_table(random: &mut Random, store: &mut Store) {
     let table = &mut store.tables[random.below(8)];
     match random.below(9) {
-        0 => table.held = random.byte(),
-        1 => table.key_type = random.byte(),
-        2 => table.timed = random.byte(),
+        0 => random.spoil_word(&mut table.held),
+        1 => random.spoil_word(&mut table.key_type),
+        2 => random.spoil_word(&mut table.timed),
         3 => random.spoil_word(&mut table.data_types),
         4 => random.spoil_size(&mut table.name_len),
-        5 => random.spoil_size(&mut table.key_len),
+        5 => random.spoil_word(&mut table.key_len),
         6 => random.spoil_word(&mut table.expiry),
         7 => random.spoil_word(&mut table.periods[0]),
         _ => random.spoil(&mut table.name),
@@ -88,7 +88,7 @@ fn spoil_entry(random: &mut Random, store: &mut Store) {
     let copy = store.entries[other];
     let entry = &mut store.entries[place];
     match random.below(8) {
-        0 => entry.held = random.byte(),
+        0 => random.spoil_word(&mut entry.held),
         1 => entry.server_id = random.below(256) as i32 - 128,
         2 => random.spoil_size(&mut entry.table),
         3 => random.spoil_size(&mut entry.key_len),

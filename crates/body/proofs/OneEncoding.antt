@@ -306,7 +306,7 @@ module _ (i : ℕ) (t : Table) (p : List ℕ) (h : FittingTable i t p) (j : ℕ)
       let r₂ = integer-once (length (nameOf t)) (length (nameOf u)) _ _ (name-small i t p h) (name-small j u q k) (r₁ .1) in
       let r₃ = part-once (nameOf t) (nameOf u) _ _ (r₂ .0) (r₂ .1) in
       let r₄ = integer-once (t .«key_type») (u .«key_type») _ _ (omega (arith, x .keyType)) (omega (arith, y .keyType)) (r₃ .1) in
-      let r₅ = integer-once (t .«key_len») (u .«key_len») _ _ (x .keyLength) (y .keyLength) (r₄ .1) in
+      let r₅ = integer-once (t .«key_len») (u .«key_len») _ _ (omega (arith, x .keyLength)) (omega (arith, y .keyLength)) (r₄ .1) in
       let r₆ = integer-once (t .«data_types») (u .«data_types») _ _ (omega (arith, x .dataTypes)) (omega (arith, y .dataTypes)) (r₅ .1) in
       (r₁ .0, record { name = r₃ .0; keyType = r₄ .0; keyLength = r₅ .0; dataTypes = r₆ .0; times = times-once (r₆ .0) (r₆ .1) })
 

@@ -33,10 +33,10 @@ pub struct DefinitionBody {
     pub id: u32,
     pub name_at: usize,
     pub name_len: usize,
-    pub key_type: u8,
-    pub key_len: usize,
+    pub key_type: u32,
+    pub key_len: u32,
     pub data_types: u32,
-    pub timed: u8,
+    pub timed: u32,
     pub expiry: u32,
     pub periods: [u32; RATES],
 }

@@ -12,8 +12,8 @@ use wire::values::Field;
 // Key type, key length and data types.
 pub enum ShapeRead {
     Fields {
-        key_type: u8,
-        key_len: usize,
+        key_type: u32,
+        key_len: u32,
         data_types: u32,
         next: usize,
     },
@@ -28,7 +28,7 @@ fn is_key_type(n: u64) -> bool
     if 255 < n {
         return false;
     }
-    store::types::is_known(store::types::key_kind(n as u8))
+    store::types::is_known(store::types::key_kind(n as u32))
 }
 
 // The key type at `at`.
@@ -48,7 +48,7 @@ fn read_key_type(body: &[u8], at: usize) -> Field
 }
 
 // The key length at `at`, of keys of a type.
-fn read_key_len(key_type: u8, body: &[u8], at: usize) -> Field
+fn read_key_len(key_type: u32, body: &[u8], at: usize) -> Field
     ensures { λ r. ⌜ fieldRead r ≡ integer (keyLengthOk «key_type») (now (body .entry)) at ⌝ }
 {
     match wire::read_int(body, at) {
@@ -68,7 +68,7 @@ pub fn read_shape(body: &[u8], at: usize) -> ShapeRead
     ensures { λ r. ⌜ shapeRead r ≡ shapeFields (now (body .entry)) at ⌝ }
 {
     match read_key_type(body, at) {
-        Field::Value { value: kind, next } => match read_key_len(kind as u8, body, next) {
+        Field::Value { value: kind, next } => match read_key_len(kind as u32, body, next) {
             Field::Value {
                 value: len,
                 next: at2,
@@ -77,8 +77,8 @@ pub fn read_shape(body: &[u8], at: usize) -> ShapeRead
                     value: types,
                     next: end,
                 } => ShapeRead::Fields {
-                    key_type: kind as u8,
-                    key_len: len as usize,
+                    key_type: kind as u32,
+                    key_len: len as u32,
                     data_types: types as u32,
                     next: end,
                 },

@@ -18,7 +18,7 @@ pub struct PeriodsRead {
 // Expiry and periods. `timed` is 1 where the body has them.
 pub struct TimesRead {
     pub reading: Reading,
-    pub timed: u8,
+    pub timed: u32,
     pub expiry: u32,
     pub periods: [u32; RATES],
 }

@@ -22,7 +22,7 @@ pub struct UpdateBody {
 }
 
 // The key at `at`, of a table with this key type and key length.
-fn read_key(key_type: u8, key_len: usize, body: &[u8], at: usize) -> PartRead
+fn read_key(key_type: u32, key_len: usize, body: &[u8], at: usize) -> PartRead
     ensures { λ r. ⌜ partRead r ≡ keyField «key_type» «key_len» (now (body .entry)) at ⌝ }
 {
     if store::types::is_string(store::types::key_kind(key_type)) {
@@ -36,7 +36,7 @@ fn read_entry(table: Table, id: u32, body: &[u8], at: usize) -> UpdateBody
     ensures { λ r. ⌜ r ≡ updateBody (entryFields table id (now (body .entry)) at) ⌝ }
 {
     let key_type = table.key_type;
-    let key_len = table.key_len;
+    let key_len = table.key_len as usize;
     let types = table.data_types;
     match read_key(key_type, key_len, body, at) {
         PartRead::Bytes { start, len, next } => {

@@ -12,7 +12,7 @@ ghost use Rattle.text.specs.Room.{Wrote};
 ghost use Rattle.dump.specs.RecordLines.{bindingLines, bindingsLines};
 
 // A line of a word, a place and an ID, where the flag says that there is one.
-fn flagged_line(room: &mut [u8], at: usize, flag: u8, word: &[u8], place: usize, id: u32) -> usize
+fn flagged_line(room: &mut [u8], at: usize, flag: u32, word: &[u8], place: usize, id: u32) -> usize
     ensures { λ r. ⌜ Wrote (now (room .entry)) at (cond (eqb flag 1) (line (now (word .entry)) (decimal place ∷ decimal id ∷ [])) []) (now (room .exit)) r ⌝ }
 {
     if flag != 1 {

@@ -3,7 +3,7 @@ use crate::bound::bindings_lines;
 use crate::phase::phase_line;
 use session::Connection;
 use session::Session;
-use session::UNFINISHED_MAX;
+use session::unfinished_len;
 use text::put;
 use text::spaced::put_decimal_word;
 use text::spaced::put_hex_or_none;
@@ -16,12 +16,9 @@ ghost use Rattle.dump.specs.RecordLines.{unfinishedLine, currentLine, re
 fn put_unfinished(room: &mut [u8], at: usize, session: Session) -> usize
     ensures { λ r. ⌜ Wrote (now (room .entry)) at (spaced (hexOrNone (unfinished session) ∷ [])) (now (room .exit)) r ⌝ }
 {
-    let n = session.len;
+    let n = unfinished_len(session);
     let buffer = session.buffer;
-    if n < UNFINISHED_MAX {
-        return put_hex_or_none(room, at, &buffer[..n]);
-    }
-    put_hex_or_none(room, at, &buffer)
+    put_hex_or_none(room, at, &buffer[..n])
 }
 
 fn unfinished_line(room: &mut [u8], at: usize, session: Session) -> usize

@@ -268,7 +268,7 @@ module _ (c : Connection) (s : Store) (h : Held c s) where
       (made-facts name r (omega (arith, n, w .nameLeast)) (omega (arith, n, w .nameMost)) (w .keyType) (w .keyLength) (w .dataTypes) (w .timed))
       (made-table-shape name r (omega (arith, n, w .nameMost)) (span-bytes body (d .name) (w .nameEnd) bytes .byte)
       (record {
-        keyType = key-type-small (d .keyType) (w .keyType);
+        keyType = let small = key-type-small (d .keyType) (w .keyType) in omega arith;
         keyLength = omega arith;
         dataTypes = omega (arith, w .dataTypes);
         timed = omega (arith, w .timed);

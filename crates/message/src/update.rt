@@ -39,7 +39,7 @@ fn with_fields(connection: Connection, body: &[u8], table: usize, fields: Update
 pub fn update(connection: Connection, tables: [Table; TABLES], body: &[u8]) -> Asked
     ensures { λ r. ⌜ r ≡ asked connection (update connection tables (now (body .entry))) ⌝ }
 {
-    let current = connection.current;
+    let current = connection.current as usize;
     if current == 0 {
         return ask_refusal(connection, 27);
     }
@@ -71,9 +71,9 @@ fn incremental_of(
 pub fn incremental(connection: Connection, tables: [Table; TABLES], body: &[u8]) -> Asked
     ensures { λ r. ⌜ r ≡ asked connection (incremental connection tables (now (body .entry))) ⌝ }
 {
-    let mark = connection.current;
-    if mark == 0 {
+    let current = connection.current as usize;
+    if current == 0 {
         return ask_refusal(connection, 27);
     }
-    incremental_of(connection, tables, mark - 1, body)
+    incremental_of(connection, tables, current - 1, body)
 }

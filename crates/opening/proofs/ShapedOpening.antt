@@ -29,7 +29,7 @@ none-shape : BindingShape noBinding
 unfolding noBinding
 none-shape = record { bound = lit< tt; updated = lit< tt; id = lit< tt; previous = lit< tt }
 
-module _ (phase closed number : ℕ) (local remote : List ℕ) (p : phase < 2 ^ 8) (c : closed < 2 ^ 8) (n : number < 2 ^ 8) (a : length local ≤ 32)
+module _ (phase closed number : ℕ) (local remote : List ℕ) (p : phase < 2 ^ 32) (c : closed < 2 ^ 32) (n : number < 2 ^ 32) (a : length local ≤ 32)
     (b : length remote ≤ 32) (f : (i : ℕ) → getD local i 0 < 2 ^ 8) (g : (i : ℕ) → getD remote i 0 < 2 ^ 8) where
   new-shape : ConnectionShape (newConnection phase closed number local remote)
   unfolding newConnection bindingAt
@@ -49,7 +49,7 @@ module _ (phase closed number : ℕ) (local remote : List ℕ) (p : phase < 2 ^ 
   empty-holding : SessionShape (holding (newConnection phase closed number local remote) [])
   empty-holding = holding-shape new-shape [] (omega arith) (λ i. lit< tt)
 
-phase-small : (role : Role) → firstPhase role < 2 ^ 8
+phase-small : (role : Role) → firstPhase role < 2 ^ 32
 phase-small answerer = lit< tt
 phase-small (caller process relative) = lit< tt
 
@@ -59,7 +59,7 @@ opened-shape role local remote a b =
     empty-holding (firstPhase role) 0 0 local remote (phase-small role) (lit< tt) (lit< tt) (name-most local a) (name-most remote b)
     (graphic-small local (name-graphic local a)) (graphic-small remote (name-graphic remote b))
 
-refused-shape : (n : ℕ) → n < 2 ^ 8 → SessionShape (refusedOpening n)
+refused-shape : (n : ℕ) → n < 2 ^ 32 → SessionShape (refusedOpening n)
 unfolding refusedOpening
 refused-shape n l = empty-holding 0 1 n [] [] (lit< tt) (lit< tt) l (omega arith) (omega arith) (λ i. lit< tt) (λ i. lit< tt)
 

@@ -2,10 +2,10 @@
 use handshake::PEER_NAME_MAX;
 use handshake::name_ok;
 use lists::pad;
+use session::BUFFER;
 use session::Binding;
 use session::Connection;
 use session::Session;
-use session::UNFINISHED_MAX;
 use store::TABLES;
 ghost use mathlib.Core.Path.{_≡_};
 ghost use mathlib.Core.Bool.{_&&_};
@@ -24,7 +24,7 @@ fn name_array(name: &[u8]) -> [u8; PEER_NAME_MAX]
 }
 
 // A session with these names, nothing bound and nothing unfinished.
-pub fn new_session(phase: u8, closed: u8, number: u8, local: &[u8], remote: &[u8]) -> Session
+pub fn new_session(phase: u32, closed: u32, number: u32, local: &[u8], remote: &[u8]) -> Session
     ensures { λ r. ⌜ r ≡ holding (newConnection phase closed number (now (local .entry)) (now (remote .entry))) [] ⌝ }
 {
     let ours = name_array(local);
@@ -49,7 +49,7 @@ pub fn new_session(phase: u8, closed: u8, number: u8, local: &[u8], remote: &[u8
     Session {
         connection,
         len: 0,
-        buffer: [0u8; UNFINISHED_MAX],
+        buffer: [0u8; BUFFER],
     }
 }
 

@@ -26,7 +26,7 @@ pub struct Opened {
 fn refused_opening(number: u8) -> Opened
     ensures { λ r. ⌜ r ≡ openedOf (refuseOpening number) ⌝ }
 {
-    let session = new_session(AWAITING_HELLO, 1, number, b"", b"");
+    let session = new_session(AWAITING_HELLO, 1, number as u32, b"", b"");
     let answer = Answer::Refused(number);
     let outcome = Outcome {
         taken: 0,

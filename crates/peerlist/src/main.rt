@@ -64,7 +64,7 @@ fn list_call(run: Run, piece: &[u8], out: &mut [u8]) -> Run {
 }
 
 // Whether no call follows: the session is closed, or a write failed.
-fn is_over(closed: u8, written: bool) -> bool {
+fn is_over(closed: u32, written: bool) -> bool {
     if !written {
         return true;
     }

@@ -7,7 +7,7 @@ version = 1
 
 -- of the structs: their fields, order and sizes
 unfoldable pub layout : ℕ
-layout = 1
+layout = 2
 
 -- one number for both
 unfoldable pub archiveVersion : ℕ

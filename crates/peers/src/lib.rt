@@ -20,7 +20,7 @@ ghost use Rattle.peers.specs.Version.{archiveVersion};
 // The version of the calls, and that of the structs' layout.
 const VERSION: u32 = 1;
 
-const LAYOUT: u32 = 1;
+const LAYOUT: u32 = 2;
 
 // What this archive was built as, so that a header or a wrapper of another version is noticed.
 #[no_mangle]

@@ -14,7 +14,7 @@ pub struct RawOutcome {
     pub taken: usize,
     pub reply_len: usize,
     pub number: u32,
-    pub count: usize,
+    pub count: u32,
     pub values: [u64; 4],
 }
 

@@ -4,11 +4,11 @@ use message::Change;
 use message::Effect;
 use message::changes::no_change;
 use session::Answer;
+use session::BUFFER;
 use session::Connection;
 use session::Outcome;
 use session::Reply;
 use session::Session;
-use session::UNFINISHED_MAX;
 use store::Store;
 ghost use mathlib.Core.Path.{_≡_};
 ghost use Rattle.session.specs.Session.{holding};
@@ -32,7 +32,7 @@ pub struct StepChange {
 pub fn record_with(connection: Connection, bytes: &[u8]) -> Session
     ensures { λ r. ⌜ r ≡ holding connection (now (bytes .entry)) ⌝ }
 {
-    let mut buffer = [0u8; UNFINISHED_MAX];
+    let mut buffer = [0u8; BUFFER];
     pad(&mut buffer, bytes);
     let len = bytes.len();
     Session {

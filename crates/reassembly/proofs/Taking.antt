@@ -3,21 +3,20 @@ use Prim.Native.Nat.{ℕ, zero, suc, _+_, _-_, _≤_, _<_}
 use native.Mathlib.Omega.{arith}
 use native.Mathlib.Numerals.{add-one}
 use mathlib.Core.Path.{_≡_, refl, sym, ap, _∙_}
-use mathlib.Core.Logic.{⊎-elim}
 use mathlib.Core.Bool.{Bool, true, false}
 use mathlib.Core.List.{List, [], _∷_, _++_, append-nil, append-assoc}
 use lib.ListN.{length, take, drop, getD, set, length-append, drop-of-length-le}
-use lib.Seq.{drop-cons, length-take-le, take-all}
+use lib.Seq.{drop-cons, length-take-le}
 use mir.Val.{Fits}
 use mir.Syntax.{w64}
 use borrow.Author.Needs.{needs}
-use Rattle.lists.proofs.Prefix.{first-bytes}
 use Rattle.lists.specs.Lists.{padTo}
-use Rattle.lists.proofs.Cases.{by-test, cond-true, cond-false, lt-or-le}
+use Rattle.lists.proofs.Cases.{by-test, cond-true, cond-false}
 use Rattle.lists.proofs.Bytes.{pad-length, pad-take}
 use Rattle.session.specs.declared.Connection.{Connection}
 use Rattle.session.specs.declared.Session.{Session}
 use Rattle.session.specs.Session.{unfinished}
+use Rattle.session.proofs.Unfinished.{limit-within, limit-length, buffer-padded}
 use Rattle.session_soundness.specs.Sound.{waits}
 use Rattle.session_soundness.proofs.Waiting.{waits-few}
 use Rattle.reassembly.specs.declared.Taken.{Taken}
@@ -25,29 +24,7 @@ use Rattle.reassembly.specs.Pieces.{Part, oneMore, takePiece, takenOf}
 
 -- ---- the unfinished bytes of a record
 
-pub all-unfinished : (s : Session) → length (s .buffer) ≡ 1027 → 1027 < s .len → 1027 ≡ length (unfinished s)
-unfolding unfinished
-all-unfinished s e l = sym (ap length (take-all (s .len) (s .buffer) (omega arith)) ∙ e)
-
-pub some-unfinished : (s : Session) → length (s .buffer) ≡ 1027 → s .len ≤ 1027 → s .len ≡ length (unfinished s)
-unfolding unfinished
-some-unfinished s e l = sym (length-take-le (s .len) (s .buffer) (omega arith))
-
-buffer-unfinished : (s : Session) (n : ℕ) → length (s .buffer) ≡ 1027 → n ≡ length (unfinished s) → take n (s .buffer) ≡ unfinished s
-unfolding unfinished
-buffer-unfinished s n e p =
-    ⊎-elim
-    (λ h.
-    let q = all-unfinished s e h in
-    take-all n (s .buffer) (omega (arith, p, e, q)) ∙ sym (take-all (s .len) (s .buffer) (omega arith)))
-    (λ h. ap (λ (k : ℕ). take k (s .buffer)) (p ∙ sym (some-unfinished s e h)))
-    (lt-or-le 1027 (s .len))
-
-pub buffer-padded : (s : Session) (n m : ℕ) (bytes : List ℕ) → length (s .buffer) ≡ 1027 → n ≡ length (unfinished s) → bytes ≡ padTo m (take n (s .buffer))
-    → bytes ≡ padTo m (unfinished s)
-buffer-padded s n m bytes e p q = q ∙ ap (padTo m) (buffer-unfinished s n e p)
-
-pub ruleset unfinished-rules = (needs, all-unfinished, some-unfinished, first-bytes, buffer-padded)
+pub ruleset unfinished-rules = (needs, limit-within, limit-length, buffer-padded)
 
 -- ---- one byte behind the others
 

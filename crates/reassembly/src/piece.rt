@@ -5,26 +5,13 @@ use frame::BODY_MAX;
 use lists::pad;
 use session::ESTABLISHED;
 use session::Session;
-use session::UNFINISHED_MAX;
+use session::unfinished_len;
 use session_soundness::unfinished::bytes_wait;
 ghost use mathlib.Core.Path.{_≡_};
-ghost use Prim.Native.Nat.{_≤_};
-ghost use lib.ListN.{length};
 ghost use Rattle.lists.specs.Lists.{padTo};
-ghost use Rattle.session.specs.Session.{unfinishedMax, unfinished};
+ghost use Rattle.session.specs.Session.{unfinished};
 ghost use Rattle.reassembly.specs.Skip.{waitsUntil};
 ghost use Rattle.reassembly.specs.Pieces.{takePiece, messageMax, takenOf};
-
-// How many bytes of a record are unfinished: the whole buffer, where its length is past it.
-fn unfinished_len(session: Session) -> usize
-    ensures { λ r. ⌜ (r ≡ length (unfinished session)) × (r ≤ unfinishedMax) ⌝ }
-{
-    let len = session.len;
-    if UNFINISHED_MAX < len {
-        return UNFINISHED_MAX;
-    }
-    len
-}
 
 fn unfinished_bytes(session: Session) -> [u8; MESSAGE_MAX]
     ensures { λ r. ⌜ r ≡ padTo messageMax (unfinished session) ⌝ }
@@ -38,7 +25,7 @@ fn unfinished_bytes(session: Session) -> [u8; MESSAGE_MAX]
 
 // How many bytes the message has of which these are the first, where its encoded body length is there; else 0. Waiting bytes wait on
 // while they are fewer.
-fn waits_until(phase: u8, u: &[u8]) -> usize
+fn waits_until(phase: u32, u: &[u8]) -> usize
     ensures { λ r. ⌜ r ≡ waitsUntil phase (now (u .entry)) ⌝ }
 {
     if phase != ESTABLISHED {

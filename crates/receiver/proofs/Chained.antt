@@ -1,5 +1,5 @@
 -- A list of real calls is the model's list of calls on the state that the first record and store hold.
-use Prim.Native.Nat.{ℕ, zero, suc, _+_, _^_, _≤_, _<_}
+use Prim.Native.Nat.{ℕ, zero, suc, _+_, _^_, _≤_, _<_, min}
 use native.Mathlib.Omega.{arith}
 use mathlib.Core.Path.{_≡_, refl, sym, ap, subst, _∙_}
 use mathlib.Core.Logic.{_⊎_, inl, inr, ⊎-elim}
@@ -49,7 +49,7 @@ good-held s t sh f =
     record {
       sound = sound-held s t (sh .session .buffer .size) f;
       connection = sh .session .connection;
-      unfinished = λ i. take-small (s .len) (s .buffer) i (sh .session .buffer .small i);
+      unfinished = λ i. take-small (min (s .len) 1027) (s .buffer) i (sh .session .buffer .small i);
       store = sh .store;
     }
 

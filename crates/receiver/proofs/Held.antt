@@ -48,7 +48,7 @@ state-fits s h =
 
 -- ---- the state that a sound record holds is sound
 
-pub sound-held : (s : Session) (t : Store) → length (s .buffer) ≡ 1027 → sound s t ≡ true → soundState (heldBy s t) ≡ true
+pub sound-held : (s : Session) (t : Store) → length (s .buffer) ≡ 1032 → sound s t ≡ true → soundState (heldBy s t) ≡ true
 unfolding soundState sound heldBy
 sound-held s t b h =
     let f = soundSession (t .tables) s in

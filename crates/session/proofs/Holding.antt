@@ -1,14 +1,16 @@
 -- A record with given unfinished bytes.
 use Prim.Native.Nat.{ℕ, _≤_}
-use mathlib.Core.Path.{_≡_}
+use native.Mathlib.Omega.{arith}
+use mathlib.Core.Path.{_≡_, _∙_}
 use mathlib.Core.List.{List}
 use lib.ListN.{length}
 use Rattle.lists.proofs.Bytes.{pad-take}
 use Rattle.session.specs.declared.Connection.{Connection}
 use Rattle.session.specs.Session.{unfinished, holding}
+use Rattle.session.proofs.Unfinished.{unfinished-within}
 
 module _ (c : Connection) (u : List ℕ) where
   -- they are its unfinished bytes
   pub unfinished-held : length u ≤ 1027 → unfinished (holding c u) ≡ u
-  unfolding unfinished holding
-  unfinished-held l = pad-take 1027 u l
+  unfolding holding
+  unfinished-held l = unfinished-within (holding c u) l ∙ pad-take 1032 u (omega arith)

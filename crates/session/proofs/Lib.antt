@@ -4,3 +4,4 @@ pub mod CurrentTable
 pub mod Holding
 pub mod Shapes
 pub mod Typed
+pub mod Unfinished

@@ -4,10 +4,9 @@ use native.Mathlib.Omega.{arith}
 use mathlib.Core.Path.{_≡_, sym, _∙_, subst}
 use mathlib.Core.Logic.{⊎-elim}
 use mathlib.Core.List.{List}
-use lib.ListN.{length, getD, List·getD-eq-default}
-use Rattle.lists.specs.Lists.{padTo}
+use lib.ListN.{length, getD}
 use Rattle.lists.proofs.Cases.{lt-or-le}
-use Rattle.lists.proofs.Bytes.{pad-length, pad-at}
+use Rattle.store.proofs.Kept.{pad-cells}
 use Rattle.session.specs.declared.Binding.{Binding}
 use Rattle.session.specs.declared.Connection.{Connection}
 use Rattle.session.specs.Session.{noBinding, bindingAt, holding, closedWith, establish, withState, withTables, currentOf, makeCurrent, unbind, bindTo, bind, commitTo, committed}
@@ -18,13 +17,13 @@ use Rattle.session.proofs.Bindings.{bind-length, bind-cases, commit-len
 pub current-limit : (place : ℕ) → currentOf place ≤ 8
 current-limit place = ⊎-elim (λ l. omega (arith, current-within place l)) (λ l. omega (arith, current-past-last place l)) (lt-or-le place 8)
 
-current-small : (place : ℕ) → currentOf place < 2 ^ 64
+current-small : (place : ℕ) → currentOf place < 2 ^ 32
 current-small place = omega (arith, current-limit place)
 
 -- ---- a connection
 
 module _ {c : Connection} (h : ConnectionShape c) where
-  state-shape : (phase closed number : ℕ) → phase < 2 ^ 8 → closed < 2 ^ 8 → number < 2 ^ 8 → ConnectionShape (withState c phase closed number)
+  state-shape : (phase closed number : ℕ) → phase < 2 ^ 32 → closed < 2 ^ 32 → number < 2 ^ 32 → ConnectionShape (withState c phase closed number)
   unfolding bindingAt
   state-shape phase closed number p k n =
       record {
@@ -42,13 +41,13 @@ module _ {c : Connection} (h : ConnectionShape c) where
 
   pub closed-shape : {n : ℕ} → n < 2 ^ 8 → ConnectionShape (closedWith c n)
   unfolding closedWith
-  closed-shape l = state-shape _ _ _ (h .phase) (omega arith) l
+  closed-shape l = state-shape _ _ _ (h .phase) (omega arith) (omega (arith, l))
 
   pub establish-shape : ConnectionShape (establish c)
   unfolding establish
   establish-shape = state-shape _ _ _ (omega arith) (h .closed) (h .number)
 
-  tables-shape : (current : ℕ) (bs : List Binding) → current < 2 ^ 64 → length bs ≡ 8 → ((i : ℕ) → i < 8 → BindingShape (getD bs i noBinding))
+  tables-shape : (current : ℕ) (bs : List Binding) → current < 2 ^ 32 → length bs ≡ 8 → ((i : ℕ) → i < 8 → BindingShape (getD bs i noBinding))
       → ConnectionShape (withTables c current bs)
   unfolding withTables bindingAt
   tables-shape current bs m l f =
@@ -112,12 +111,5 @@ module _ {c : Connection} (h : ConnectionShape c) where
       record {
         connection = h;
         len = omega arith;
-        buffer = record { size = pad-length 1027 u; small = padded-small };
+        buffer = pad-cells 1032 u b;
       }
-    where
-      padded-small : (i : ℕ) → getD (padTo 1027 u) i 0 < 2 ^ 8
-      padded-small i =
-          ⊎-elim
-          (λ m. subst (λ (n : ℕ). n < 2 ^ 8) (sym (pad-at 1027 u i 0 m)) (b i))
-          (λ m. subst (λ (n : ℕ). n < 2 ^ 8) (sym (List·getD-eq-default (padTo 1027 u) 0 (omega (arith, pad-length 1027 u)))) (omega arith))
-          (lt-or-le i 1027)

@@ -1,5 +1,5 @@
 -- The session record: what it says, and how a refusal or an accepted handshake changes it.
-use Prim.Native.Nat.{ℕ, _+_}
+use Prim.Native.Nat.{ℕ, _+_, min}
 use mathlib.Core.List.{List, [], _∷_}
 use mathlib.Core.Bool.{Bool, cond, _&&_}
 use lib.ListN.{length, take, getD, set}
@@ -17,8 +17,13 @@ use Rattle.session.specs.declared.Session.{Session}
 abbrev pub unfinishedMax : ℕ
 unfinishedMax = 1027
 
+-- the bytes of a record's buffer, of which those past the limit are never used: with them the record has no padding
+abbrev pub bufferSize : ℕ
+bufferSize = 1032
+
+-- the first `len` bytes of the buffer; no more than the limit, where the length is past it
 unfoldable pub unfinished : Session → List ℕ
-unfinished s = take (s .len) (s .buffer)
+unfinished s = take (min (s .len) unfinishedMax) (s .buffer)
 
 unfoldable pub isClosed : Connection → Bool
 isClosed c = eqb (c .closed) 1
@@ -52,7 +57,7 @@ findBound c id = firstPlace (boundTo id) (c .bindings)
 -- ---- a record with given unfinished bytes: zeros stand behind them
 
 unfoldable pub holding : Connection → List ℕ → Session
-holding c u = record { connection = c; len = length u; buffer = padTo unfinishedMax u }
+holding c u = record { connection = c; len = length u; buffer = padTo bufferSize u }
 
 -- ---- changes of a record
 

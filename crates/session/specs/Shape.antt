@@ -8,19 +8,19 @@ use Rattle.store.specs.Shape.{Cells}
 use Rattle.session.specs.declared.Binding.{Binding}
 use Rattle.session.specs.declared.Connection.{Connection}
 use Rattle.session.specs.declared.Session.{Session}
-use Rattle.session.specs.Session.{unfinishedMax, bindingAt}
+use Rattle.session.specs.Session.{bufferSize, bindingAt}
 
 pub record BindingShape (b : Binding) : Type 0 where
-  pub bound : b .bound < 2 ^ 8
-  pub updated : b .updated < 2 ^ 8
+  pub bound : b .bound < 2 ^ 32
+  pub updated : b .updated < 2 ^ 32
   pub id : b .id < 2 ^ 32
   pub previous : b .previous < 2 ^ 32
 
 pub record ConnectionShape (c : Connection) : Type 0 where
-  pub phase : c .phase < 2 ^ 8
-  pub closed : c .closed < 2 ^ 8
-  pub number : c .number < 2 ^ 8
-  pub current : c .current < 2 ^ 64
+  pub phase : c .phase < 2 ^ 32
+  pub closed : c .closed < 2 ^ 32
+  pub number : c .number < 2 ^ 32
+  pub current : c .current < 2 ^ 32
   pub localLength : c .«local_len» < 2 ^ 64
   pub remoteLength : c .«remote_len» < 2 ^ 64
   pub local : Cells peerNameMax 8 (c .local)
@@ -31,4 +31,4 @@ pub record ConnectionShape (c : Connection) : Type 0 where
 pub record SessionShape (s : Session) : Type 0 where
   pub connection : ConnectionShape (s .connection)
   pub len : s .len < 2 ^ 64
-  pub buffer : Cells unfinishedMax 8 (s .buffer)
+  pub buffer : Cells bufferSize 8 (s .buffer)

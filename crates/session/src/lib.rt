@@ -7,26 +7,31 @@ pub mod reply_bytes;
 use handshake::PEER_NAME_MAX;
 use store::TABLES;
 ghost use mathlib.Core.Path.{_≡_};
-ghost use Rattle.session.specs.Session.{closedWith, establish, currentOf, makeCurrent};
+ghost use Prim.Native.Nat.{_≤_};
+ghost use lib.ListN.{length};
+ghost use Rattle.session.specs.Session.{unfinishedMax, unfinished, closedWith, establish, currentOf, makeCurrent};
 
 // ---- limits
 
 // Unfinished bytes are at most 194 of a hello, 3 of a status, 1,027 of a message.
 pub const UNFINISHED_MAX: usize = 1027;
 
+// The bytes of a record's buffer: five more, so that the record has no padding.
+pub const BUFFER: usize = 1032;
+
 // The phases of a session: a hello is awaited, a status is awaited, the handshake is done.
-pub const AWAITING_HELLO: u8 = 0;
+pub const AWAITING_HELLO: u32 = 0;
 
-pub const AWAITING_STATUS: u8 = 1;
+pub const AWAITING_STATUS: u32 = 1;
 
-pub const ESTABLISHED: u8 = 2;
+pub const ESTABLISHED: u32 = 2;
 
 // What the session knows of the table at a place: the ID that the sender bound to it, where `bound` is 1, and the ID of its last
 // committed update, where `updated` is 1.
 #[repr(C)]
 pub struct Binding {
-    pub bound: u8,
-    pub updated: u8,
+    pub bound: u32,
+    pub updated: u32,
     pub id: u32,
     pub previous: u32,
 }
@@ -35,10 +40,10 @@ pub struct Binding {
 // `current` is 0 for no current table, else its place plus 1. Only the first bytes of a name's array are the name.
 #[repr(C)]
 pub struct Connection {
-    pub phase: u8,
-    pub closed: u8,
-    pub number: u8,
-    pub current: usize,
+    pub phase: u32,
+    pub closed: u32,
+    pub number: u32,
+    pub current: u32,
     pub local_len: usize,
     pub remote_len: usize,
     pub local: [u8; PEER_NAME_MAX],
@@ -51,7 +56,7 @@ pub struct Connection {
 pub struct Session {
     pub connection: Connection,
     pub len: usize,
-    pub buffer: [u8; UNFINISHED_MAX],
+    pub buffer: [u8; BUFFER],
 }
 
 // ---- answers
@@ -102,13 +107,26 @@ pub struct Outcome {
 // An answer's values: the first `count` of `numbers`, zeros after them.
 pub struct Values {
     pub numbers: [u64; 4],
-    pub count: usize,
+    pub count: u32,
 }
 
 // A reply: the first `len` of `bytes`, zeros after them. No reply of a call is longer than twelve bytes.
 pub struct Reply {
     pub bytes: [u8; 12],
     pub len: usize,
+}
+
+// ---- the unfinished bytes
+
+// How many bytes of a record are unfinished: no more than the limit, whatever its length says.
+pub fn unfinished_len(session: Session) -> usize
+    ensures { λ r. ⌜ (r ≡ length (unfinished session)) × (r ≤ unfinishedMax) ⌝ }
+{
+    let len = session.len;
+    if UNFINISHED_MAX < len {
+        return UNFINISHED_MAX;
+    }
+    len
 }
 
 // ---- changes of a connection
@@ -119,7 +137,7 @@ pub fn close_connection(c: Connection, number: u8) -> Connection
 {
     let mut d = c;
     d.closed = 1;
-    d.number = number;
+    d.number = number as u32;
     d
 }
 
@@ -133,10 +151,14 @@ pub fn establish_connection(c: Connection) -> Connection
 }
 
 // What `current` holds for the table at a place: its place plus 1, and 0 past the last place.
-pub fn current_of(place: usize) -> usize
+pub fn current_of(place: usize) -> u32
     ensures { λ r. ⌜ r ≡ currentOf place ⌝ }
 {
-    if place < TABLES { place + 1 } else { 0 }
+    if place < TABLES {
+        (place + 1) as u32
+    } else {
+        0
+    }
 }
 
 // The connection with the table at a place as its current one.

@@ -1,9 +1,11 @@
 -- The tests of the whole record: the connection, the unfinished bytes, and both.
-use Prim.Native.Nat.{_≤_, _<_}
-use mathlib.Core.Path.{_≡_, refl, sym, _∙_}
+use Prim.Native.Nat.{ℕ, _≤_, _<_}
+use mathlib.Core.Path.{_≡_, refl, sym, ap, _∙_}
 use mathlib.Core.Bool.{Bool, true, false, _&&_}
 use mathlib.Core.List.{List, [], _∷_, _++_}
-use lib.ListN.{take}
+use lib.ListN.{length, take}
+use lib.Seq.{length-take-le}
+use native.Mathlib.Omega.{arith}
 use lib.Dec.{eqb}
 use borrow.Author.Needs.{needs}
 use borrow.Author.Tests.{eq-eqb, ne-eqb, le-leb, lt-leb}
@@ -13,6 +15,7 @@ use Rattle.store.specs.declared.Table.{Table}
 use Rattle.session.specs.declared.Connection.{Connection}
 use Rattle.session.specs.declared.Session.{Session}
 use Rattle.session.specs.Session.{unfinished, isClosed}
+use Rattle.session.proofs.Unfinished.{unfinished-within}
 use Rattle.session_soundness.specs.Sound.{fieldTests, bindingTests, soundConnection, waits, unfinishedOk, isRefusedOpening, soundSession}
 use Rattle.session_soundness.proofs.Waiting.{waits-whole}
 use Rattle.session.proofs.Basics.{told}
@@ -49,13 +52,21 @@ module _ (s : Session) where
 
   pub open-waits : (r : Bool) → s .len ≤ 1027 → (s .connection .closed ≡ 1 → ⊥) → r ≡ waits (s .connection) (take (s .len) (s .buffer))
       → r ≡ unfinishedOk s
-  unfolding unfinishedOk isClosed unfinished
+  unfolding unfinishedOk isClosed
   open-waits r l e f =
       f
-      ∙ waits-whole (s .connection) (take (s .len) (s .buffer))
+      ∙ ap (waits (s .connection)) (sym (unfinished-within s l))
+      ∙ waits-whole (s .connection) (unfinished s)
       ∙ sym (and-true _ _ (le-leb (s .len) 1027 l) ∙ cond-false _ _ _ (ne-eqb (s .connection .closed) 1 e))
 
-pub ruleset unfinishing = (needs, part-fits, part-long, buffer-over, closed-empty, open-waits)
+-- a first part of the buffer, within the limit
+pub buffer-fits : (n : ℕ) (xs : List ℕ) → length xs ≡ 1032 → n ≤ 1027 → n ≤ length xs
+buffer-fits n xs e l = omega arith
+
+pub buffer-part : (n : ℕ) (xs : List ℕ) → length xs ≡ 1032 → n ≤ 1027 → length (take n xs) ≡ n
+buffer-part n xs e l = length-take-le n xs (omega arith)
+
+pub ruleset unfinishing = (needs, buffer-fits, buffer-part, buffer-over, closed-empty, open-waits)
 
 -- ---- the record
 

@@ -1,12 +1,12 @@
 -- Soundness of whole records: the record of a refused opening, a record with given unfinished bytes, and what a sound open record says.
 use Prim.Native.Nat.{ℕ, zero, suc, _≤_}
 use native.Mathlib.Omega.{arith}
-use mathlib.Core.Path.{_≡_, refl, sym, ap, _∙_}
-use mathlib.Core.Bool.{true, false}
+use mathlib.Core.Path.{_≡_, refl, sym, ap, subst, _∙_}
+use mathlib.Core.Bool.{true, false, cond, _&&_}
 use mathlib.Core.List.{List, []}
 use lib.ListN.{length, take}
 use lib.Seq.{length-take-le}
-use lib.Dec.{leb}
+use lib.Dec.{leb, eqb}
 use borrow.Author.Tests.{le-leb, leb-true, eqb-true}
 use Rattle.lists.specs.Lists.{every, padTo, isZero}
 use Rattle.lists.proofs.Cases.{by-test, and-first, and-second, and-intro, or-true, or-false, cond-true, cond-false, all-first, all-rest, all-intro, all-false}
@@ -18,6 +18,7 @@ use Rattle.session.specs.declared.Connection.{Connection}
 use Rattle.session.specs.declared.Session.{Session}
 use Rattle.session.specs.Session.{isClosed, unfinished, holding}
 use Rattle.session.proofs.Holding.{unfinished-held}
+use Rattle.session.proofs.Unfinished.{unfinished-within}
 use Rattle.session_soundness.specs.Sound.{waits, firstParts, unfinishedOk, emptyBuffer, isRefusedOpening, soundConnection, soundSession, sound}
 use Rattle.session_soundness.proofs.Facts.{SoundConnection, connection-facts, facts-connection}
 use Rattle.session_soundness.proofs.Waiting.{waits-none, waits-few, waits-first-parts, first-parts-wait}
@@ -60,7 +61,7 @@ zeros-pass (suc n) = zeros-pass n
 
 empty-buffer : (c : Connection) → emptyBuffer (holding c []) ≡ true
 unfolding emptyBuffer holding
-empty-buffer c = zeros-pass 1027
+empty-buffer c = zeros-pass 1032
 
 module _ (s : Session) (h : isRefusedOpening s ≡ true) where
   refused-buffer : emptyBuffer s ≡ true
@@ -72,8 +73,7 @@ module _ (s : Session) (h : isRefusedOpening s ≡ true) where
   refused-len = eqb-true (s .len) 0 (and-first (isZero (s .len)) (every isZero (s .buffer)) refused-buffer)
 
   refused-none : unfinished s ≡ []
-  unfolding unfinished
-  refused-none = ap (λ (n : ℕ). take n (s .buffer)) refused-len
+  refused-none = unfinished-within s (omega (arith, refused-len)) ∙ ap (λ (n : ℕ). take n (s .buffer)) refused-len
 
   refused-again : isRefusedOpening (holding (s .connection) []) ≡ true
   unfolding isRefusedOpening holding
@@ -87,16 +87,24 @@ module _ (s : Session) (h : isRefusedOpening s ≡ true) where
 
 -- ---- a record with its unfinished bytes alone
 
-unfinished-alone : (s : Session) → length (s .buffer) ≡ 1027 → unfinishedOk s ≡ true → unfinishedOk (holding (s .connection) (unfinished s)) ≡ true
-unfolding unfinishedOk holding unfinished
-unfinished-alone s b h =
-    let l : s .len ≤ 1027 = leb-true (s .len) 1027 (and-first _ _ h) in
-    let k : s .len ≤ length (s .buffer) = omega arith in
-    let e : length (take (s .len) (s .buffer)) ≡ s .len = length-take-le (s .len) (s .buffer) k in
-    let f : length (take (s .len) (s .buffer)) ≤ 1027 = omega arith in
-    rw (pad-take 1027 (take (s .len) (s .buffer)) f, e) h
+holds-well : (c : Connection) (u : List ℕ) → length u ≤ 1027 → cond (isClosed c) (eqb (length u) 0) (every (waits c) (firstParts u)) ≡ true
+    → unfinishedOk (holding c u) ≡ true
+unfolding unfinishedOk holding
+holds-well c u l h =
+    and-intro (leb (length u) 1027) _ (le-leb (length u) 1027 l)
+    (ap (λ (v : List ℕ). cond (isClosed c) (eqb (length u) 0) (every (waits c) (firstParts v))) (unfinished-held c u l) ∙ h)
 
-pub held-session : (ts : List Table) (s : Session) → length (s .buffer) ≡ 1027 → soundSession ts s ≡ true
+unfinished-alone : (s : Session) → length (s .buffer) ≡ 1032 → unfinishedOk s ≡ true → unfinishedOk (holding (s .connection) (unfinished s)) ≡ true
+unfolding unfinishedOk
+unfinished-alone s b h =
+    let l : s .len ≤ 1027 = leb-true (s .len) 1027 (and-first (leb (s .len) 1027) _ h) in
+    let k : s .len ≤ length (s .buffer) = omega arith in
+    let e : length (unfinished s) ≡ s .len = ap length (unfinished-within s l) ∙ length-take-le (s .len) (s .buffer) k in
+    holds-well (s .connection) (unfinished s) (omega (arith, e, l))
+    (subst (λ (n : ℕ). cond (isClosed (s .connection)) (eqb n 0) (every (waits (s .connection)) (firstParts (unfinished s))) ≡ true) (sym e)
+    (and-second (leb (s .len) 1027) _ h))
+
+pub held-session : (ts : List Table) (s : Session) → length (s .buffer) ≡ 1032 → soundSession ts s ≡ true
     → soundSession ts (holding (s .connection) (unfinished s)) ≡ true
 unfolding soundSession holding
 held-session ts s b h =
@@ -112,22 +120,15 @@ held-session ts s b h =
 -- ---- a record with given unfinished bytes
 
 module _ {ts : List Table} {c : Connection} (f : SoundConnection ts c) where
-  bytes-held : (u : List ℕ) → isClosed c ≡ false → length u ≤ 1027 → every (waits c) (firstParts (unfinished (holding c u))) ≡ true
-      → unfinishedOk (holding c u) ≡ true
-  unfolding unfinishedOk holding
-  bytes-held u o l h = and-intro (leb (length u) 1027) _ (le-leb (length u) 1027 l) (cond-false (isClosed c) _ _ o ∙ h)
-
   none-held : isClosed c ≡ true → unfinishedOk (holding c []) ≡ true
-  unfolding unfinishedOk holding
-  none-held o = and-intro (leb 0 1027) _ refl (cond-true (isClosed c) _ _ o)
+  none-held o = holds-well c [] (omega arith) (cond-true (isClosed c) _ _ o)
 
   -- waiting bytes in an open record
   pub holding-sound : (u : List ℕ) → isClosed c ≡ false → waits c u ≡ true → soundSession ts (holding c u) ≡ true
   unfolding holding
   holding-sound u o w =
       record-sound ts (holding c u) (facts-connection f)
-      (bytes-held u o (waits-few c u w)
-      (ap (λ (v : List ℕ). every (waits c) (firstParts v)) (unfinished-held c u (waits-few c u w)) ∙ waits-first-parts c u w))
+      (holds-well c u (waits-few c u w) (cond-false (isClosed c) _ _ o ∙ waits-first-parts c u w))
 
   -- no unfinished bytes, open or closed
   pub empty-sound : soundSession ts (holding c []) ≡ true

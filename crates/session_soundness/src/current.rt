@@ -8,7 +8,7 @@ ghost use Rattle.session_soundness.specs.Sound.{currentOk};
 pub fn current_ok(tables: [Table; TABLES], c: Connection) -> bool
     ensures { λ r. ⌜ r ≡ currentOk tables c ⌝ }
 {
-    let plus_one = c.current;
+    let plus_one = c.current as usize;
     if plus_one == 0 {
         return true;
     }

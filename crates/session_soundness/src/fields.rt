@@ -19,7 +19,7 @@ fn closed_ok(c: Connection) -> bool
     c.closed <= 1
 }
 
-pub fn refuses_opening(number: u8) -> bool
+pub fn refuses_opening(number: u32) -> bool
     ensures { λ r. ⌜ r ≡ refusesOpening number ⌝ }
 {
     match number {
@@ -30,7 +30,7 @@ pub fn refuses_opening(number: u8) -> bool
 }
 
 // Whether a session can be closed with a number.
-fn is_closing(number: u8) -> bool
+fn is_closing(number: u32) -> bool
     ensures { λ r. ⌜ r ≡ isClosing number ⌝ }
 {
     if number == 0 {

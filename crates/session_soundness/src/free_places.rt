@@ -18,7 +18,7 @@ fn has_no_ids(b: Binding) -> bool
 }
 
 // Whether a place may have this binding, where its table has this `held`.
-fn place_ok(held: u8, b: Binding) -> bool
+fn place_ok(held: u32, b: Binding) -> bool
     ensures { λ r. ⌜ r ≡ (eqb held 1 || noIds b) ⌝ }
 {
     if held == 1 {

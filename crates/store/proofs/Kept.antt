@@ -139,10 +139,10 @@ made-entry-shape table key server values a b f m v =
     record { held = omega arith; server = m; table = a; keyLength = b; key = pad-cells keyMax key f; values = v }
 
 pub record DefinitionShape (d : Definition) : Type 0 where
-  pub keyType : d .«key_type» < 2 ^ 8
-  pub keyLength : d .«key_len» < 2 ^ 64
+  pub keyType : d .«key_type» < 2 ^ 32
+  pub keyLength : d .«key_len» < 2 ^ 32
   pub dataTypes : d .«data_types» < 2 ^ 32
-  pub timed : d .timed < 2 ^ 8
+  pub timed : d .timed < 2 ^ 32
   pub expiry : d .expiry < 2 ^ 32
   pub periods : Cells 8 32 (d .periods)
 

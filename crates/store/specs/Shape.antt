@@ -16,18 +16,18 @@ pub record Cells (n bits : ℕ) (xs : List ℕ) : Type 0 where
   pub small : (i : ℕ) → getD xs i 0 < 2 ^ bits
 
 pub record TableShape (t : Table) : Type 0 where
-  pub held : t .held < 2 ^ 8
-  pub keyType : t .«key_type» < 2 ^ 8
-  pub timed : t .timed < 2 ^ 8
+  pub held : t .held < 2 ^ 32
+  pub keyType : t .«key_type» < 2 ^ 32
+  pub timed : t .timed < 2 ^ 32
   pub dataTypes : t .«data_types» < 2 ^ 32
   pub nameLength : t .«name_len» < 2 ^ 64
-  pub keyLength : t .«key_len» < 2 ^ 64
+  pub keyLength : t .«key_len» < 2 ^ 32
   pub expiry : t .expiry < 2 ^ 32
   pub periods : Cells rateCount 32 (t .periods)
   pub name : Cells nameMax 8 (t .name)
 
 pub record EntryShape (e : Entry) : Type 0 where
-  pub held : e .held < 2 ^ 8
+  pub held : e .held < 2 ^ 32
   pub server : mag (e .«server_id») < 2 ^ 31
   pub table : e .table < 2 ^ 64
   pub keyLength : e .«key_len» < 2 ^ 64

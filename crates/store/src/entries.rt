@@ -16,7 +16,7 @@ pub enum Place {
 }
 
 // The lowest free place up to place i, where `free` is the lowest one before it; ENTRIES, where there is none.
-fn next_free(free: usize, held: u8, i: usize) -> usize
+fn next_free(free: usize, held: u32, i: usize) -> usize
     ensures { λ r. ⌜ r ≡ nextFree free held i ⌝ }
 {
     if free != ENTRIES {

@@ -28,12 +28,12 @@ pub const DATA_TYPES_MAX: u32 = 0x7_ffff;
 // Only the first `name_len` bytes of `name`, and only the periods of rate types present, are values; the others are written as zero.
 #[repr(C)]
 pub struct Table {
-    pub held: u8,
-    pub key_type: u8,
-    pub timed: u8,
+    pub held: u32,
+    pub key_type: u32,
+    pub timed: u32,
     pub data_types: u32,
     pub name_len: usize,
-    pub key_len: usize,
+    pub key_len: u32,
     pub expiry: u32,
     pub periods: [u32; RATES],
     pub name: [u8; NAME_MAX],
@@ -42,7 +42,7 @@ pub struct Table {
 // An entry of the table at place `table`. The integers of data type t other than 0 stand in `values` from the slot of t on.
 #[repr(C)]
 pub struct Entry {
-    pub held: u8,
+    pub held: u32,
     pub server_id: i32,
     pub table: usize,
     pub key_len: usize,
@@ -77,10 +77,10 @@ pub fn make_entry(table: usize, key: &[u8], server_id: i32, values: [u64; VALUES
 
 // What a definition says of its table besides the name.
 pub struct Definition {
-    pub key_type: u8,
-    pub key_len: usize,
+    pub key_type: u32,
+    pub key_len: u32,
     pub data_types: u32,
-    pub timed: u8,
+    pub timed: u32,
     pub expiry: u32,
     pub periods: [u32; RATES],
 }

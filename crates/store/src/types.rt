@@ -19,7 +19,7 @@ pub enum KeyKind {
 }
 
 // The kind of a key type's number; no other function looks at the number.
-pub fn key_kind(key_type: u8) -> KeyKind
+pub fn key_kind(key_type: u32) -> KeyKind
     ensures { λ r. ⌜ r ≡ keyKind «key_type» ⌝ }
 {
     match key_type {
@@ -81,7 +81,7 @@ pub fn key_length_fits(most: usize, kind: KeyKind, len: usize) -> bool
     }
 }
 
-pub fn key_length_ok(key_type: u8, len: usize) -> bool
+pub fn key_length_ok(key_type: u32, len: usize) -> bool
     ensures { λ r. ⌜ r ≡ keyLengthOk «key_type» len ⌝ }
 {
     key_length_fits(KEY_MAX, key_kind(key_type), len)

@@ -25,9 +25,9 @@ fn entry_key_length_ok(t: Table, e: Entry) -> bool
     ensures { λ r. ⌜ r ≡ entryKeyLengthOk t e ⌝ }
 {
     if is_string(key_kind(t.key_type)) {
-        return e.key_len <= t.key_len;
+        return e.key_len <= t.key_len as usize;
     }
-    e.key_len == t.key_len
+    e.key_len == t.key_len as usize
 }
 
 // Whether the key bytes past the length are zero.

@@ -23,7 +23,7 @@ fn held_table_ok(t: Table) -> bool
     if !is_known(key_kind(t.key_type)) {
         return false;
     }
-    if !key_length_ok(t.key_type, t.key_len) {
+    if !key_length_ok(t.key_type, t.key_len as usize) {
         return false;
     }
     if DATA_TYPES_MAX < t.data_types {

@@ -1,13 +1,20 @@
-//! Sizes and offsets are those of `layout.txt`, which the C test reads too.
+//! Sizes and offsets are those of `layout.txt`, which the C test reads too. No struct has padding: its size is the sum of its fields'.
 
 use peers::layout::{Binding, Connection, Entry, Opened, Outcome, Session, Store, Table};
 use std::fmt::Write;
 use std::mem::{align_of, offset_of, size_of};
 
+/// The size of the field that a function gives.
+fn size_of_field<S, F>(_: fn(&S) -> &F) -> usize {
+    size_of::<F>()
+}
+
 macro_rules! describe {
     ($text:ident, $name:literal, $type:ty: $($field:ident)*) => {
         writeln!($text, "{} {} {}", $name, size_of::<$type>(), align_of::<$type>()).unwrap();
         $(writeln!($text, "{}.{} {}", $name, stringify!($field), offset_of!($type, $field)).unwrap();)*
+        let fields = [$(size_of_field(|s: &$type| &s.$field)),*];
+        assert_eq!(fields.iter().sum::<usize>(), size_of::<$type>(), "padding in {}", $name);
     };
 }
 

@@ -1,5 +1,6 @@
 //! Tests of the library through its Rust wrapper.
 
+mod bytes;
 mod common;
 mod freeing;
 mod layout;

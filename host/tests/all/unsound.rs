@@ -124,14 +124,14 @@ fn nothing_changed() {
 // ---- tables
 
 /// A free table place with anything in it.
-fn garbage_table(held: u8) -> Table {
+fn garbage_table(held: u32) -> Table {
     Table {
         held,
         key_type: 77,
         timed: 9,
         data_types: u32::MAX,
         name_len: usize::MAX,
-        key_len: usize::MAX,
+        key_len: u32::MAX,
         expiry: 1,
         periods: [3; 8],
         name: [0xFF; 32],
@@ -153,7 +153,8 @@ fn held_mark_of_a_table() {
         &[
             |_, t| t.tables[0].held = 2,
             |_, t| t.tables[7].held = 2,
-            |_, t| t.tables[0].held = 255,
+            |_, t| t.tables[0].held = 256,
+            |_, t| t.tables[0].held = u32::MAX,
             |_, t| t.tables[3] = garbage_table(1),
         ],
     );
@@ -207,9 +208,11 @@ fn key_type_and_key_length() {
             |_, t| (t.tables[4].key_type, t.tables[4].key_len) = (3, 65),
             |_, t| (t.tables[4].key_type, t.tables[4].key_len) = (4, 0),
             |_, t| (t.tables[4].key_type, t.tables[4].key_len) = (4, 65),
-            |_, t| (t.tables[4].key_type, t.tables[4].key_len) = (4, usize::MAX),
+            |_, t| (t.tables[4].key_type, t.tables[4].key_len) = (4, 256 + 64),
+            |_, t| (t.tables[4].key_type, t.tables[4].key_len) = (4, u32::MAX),
             |_, t| (t.tables[4].key_type, t.tables[4].key_len) = (5, 4),
-            |_, t| (t.tables[4].key_type, t.tables[4].key_len) = (255, 4),
+            |_, t| (t.tables[4].key_type, t.tables[4].key_len) = (256, 4),
+            |_, t| (t.tables[4].key_type, t.tables[4].key_len) = (u32::MAX, 4),
         ],
     );
 }
@@ -246,7 +249,11 @@ fn timed_mark() {
     );
     faults(
         &eight_tables(),
-        &[|_, t| t.tables[4].timed = 2, |_, t| t.tables[4].timed = 255],
+        &[
+            |_, t| t.tables[4].timed = 2,
+            |_, t| t.tables[4].timed = 256,
+            |_, t| t.tables[4].timed = u32::MAX,
+        ],
     );
 }
 
@@ -281,7 +288,7 @@ fn two_tables_with_one_name() {
 // ---- entries
 
 /// A free entry place with anything in it.
-fn garbage_entry(held: u8) -> Entry {
+fn garbage_entry(held: u32) -> Entry {
     Entry {
         held,
         server_id: -1,
@@ -308,7 +315,9 @@ fn held_mark_of_an_entry() {
             |_, t| t.entries[7].held = 2,
             |_, t| t.entries[127].held = 2,
             |_, t| t.entries[0].held = 2,
-            |_, t| t.entries[0].held = 255,
+            |_, t| t.entries[0].held = 257,
+            |_, t| t.entries[127].held = 256,
+            |_, t| t.entries[0].held = u32::MAX,
             |_, t| t.entries[127] = garbage_entry(1),
         ],
     );
@@ -492,7 +501,9 @@ fn phase() {
         &eight_tables(),
         &[
             |s, _| s.connection.phase = 3,
-            |s, _| s.connection.phase = 255,
+            |s, _| s.connection.phase = 256,
+            |s, _| s.connection.phase = 258,
+            |s, _| s.connection.phase = u32::MAX,
         ],
     );
 }
@@ -500,7 +511,7 @@ fn phase() {
 #[test]
 fn closed_mark_and_number() {
     let mut state = eight_tables();
-    for number in 0..=255 {
+    for number in (0..300).chain([u32::MAX]) {
         let connection = &mut state.session.layout_mut().connection;
         (connection.closed, connection.number) = (1, number);
         match number {
@@ -512,10 +523,12 @@ fn closed_mark_and_number() {
         &eight_tables(),
         &[
             |s, _| s.connection.closed = 2,
-            |s, _| s.connection.closed = 255,
+            |s, _| s.connection.closed = 257,
+            |s, _| s.connection.closed = u32::MAX,
             |s, _| s.connection.number = 1,
             |s, _| s.connection.number = 10,
-            |s, _| s.connection.number = 255,
+            |s, _| s.connection.number = 256,
+            |s, _| s.connection.number = u32::MAX,
         ],
     );
 }
@@ -565,9 +578,11 @@ fn marks_of_a_binding() {
         &eight_tables(),
         &[
             |s, _| s.connection.bindings[0].bound = 2,
-            |s, _| s.connection.bindings[7].bound = 255,
+            |s, _| s.connection.bindings[7].bound = 257,
+            |s, _| s.connection.bindings[7].bound = u32::MAX,
             |s, _| s.connection.bindings[0].updated = 2,
-            |s, _| s.connection.bindings[7].updated = 255,
+            |s, _| s.connection.bindings[7].updated = 256,
+            |s, _| s.connection.bindings[7].updated = u32::MAX,
         ],
     );
 }
@@ -628,7 +643,9 @@ fn current_table() {
         &eight_tables(),
         &[
             |s, _| s.connection.current = 9,
-            |s, _| s.connection.current = usize::MAX,
+            |s, _| s.connection.current = 256,
+            |s, _| s.connection.current = 257,
+            |s, _| s.connection.current = u32::MAX,
             // the current table has no ID
             |s, _| s.connection.bindings[7].bound = 0,
         ],
@@ -671,12 +688,13 @@ fn unfinished_length() {
         &state,
         &[
             |s, _| s.len = 1028,
-            |s, _| s.len = 1029,
+            |s, _| s.len = 1032,
+            |s, _| s.len = 1033,
             |s, _| s.len = usize::MAX,
         ],
     );
     // bytes past the length are not looked at
-    sound(&State::established(), &[|s, _| s.buffer = [0xFF; 1027]]);
+    sound(&State::established(), &[|s, _| s.buffer = [0xFF; 1032]]);
 }
 
 #[test]
@@ -776,7 +794,25 @@ fn record_of_a_refused_opening() {
             |s, _| s.connection.remote_len = 1,
             |s, _| s.connection.bindings[7].bound = 1,
             |s, _| s.connection.bindings[0].updated = 1,
+            |s, _| s.buffer[1027] = 1,
+            |s, _| s.buffer[1031] = 1,
             |_, t| t.tables[0].held = 2,
         ],
     );
+}
+
+// ---- the wrapper's methods
+
+/// Numbers past their range are no number of a byte: their low byte isn't taken for one.
+#[test]
+fn methods_on_what_is_not_sound() {
+    let mut state = eight_tables();
+    state.store.layout_mut().tables[0].key_type = 256;
+    assert_eq!(state.store.table(0).unwrap().key_type(), None);
+    let record = state.session.layout_mut();
+    (record.connection.closed, record.connection.number) = (1, 256 + 10);
+    (record.connection.current, record.len) = (u32::MAX, usize::MAX);
+    assert_eq!(state.session.closed_with(), None);
+    assert_eq!(state.session.current(), Some(u32::MAX as usize - 1));
+    assert_eq!(state.session.unfinished().len(), 1027);
 }

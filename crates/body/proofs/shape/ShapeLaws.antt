@@ -11,6 +11,7 @@ use Rattle.wire.specs.declared.values.Field.{Field}
 use Rattle.wire.specs.declared.values.Field.the-variants as field
 use Rattle.store.specs.declared.types.KeyKind.{KeyKind}
 use Rattle.store.specs.Limits.{keyKind, isKnown, dataTypesOk, keyLengthOk}
+use Rattle.store.proofs.Rules.{key-length-most}
 use Rattle.body.specs.Fields.{andThen, integer, between}
 use Rattle.body.specs.Bodies.{isKeyType, shapeFields}
 use Rattle.body.specs.Results.{fieldRead, shapeRead}
@@ -51,8 +52,8 @@ module _ (s : List ℕ) (at : ℕ) (f : Field) (p : fieldRead f ≡ integer isKe
   unfolding shapeFields shapeRead andThen fieldRead
   type-out e = rw (← p, e)
 
-  pub type-fits : (kind at₁ : ℕ) → f ≡ field.Value kind at₁ → kind < 256
-  type-fits kind at₁ e = small-type kind (integer-passed isKeyType s at kind at₁ (field-got _ f p kind at₁ e))
+  pub type-fits : (kind at₁ : ℕ) → f ≡ field.Value kind at₁ → kind < 2 ^ 32
+  type-fits kind at₁ e = omega (arith, small-type kind (integer-passed isKeyType s at kind at₁ (field-got _ f p kind at₁ e)))
 
   module _ (kind at₁ : ℕ) (e : f ≡ field.Value kind at₁) (g : Field) (p₁ : fieldRead g ≡ integer (keyLengthOk kind) s at₁) where
     pub len-short : g ≡ field.Short → shapeRead shape-read.Short ≡ shapeFields s at
@@ -79,9 +80,14 @@ module _ (s : List ℕ) (at : ℕ) (f : Field) (p : fieldRead f ≡ integer isKe
       unfolding shapeFields shapeRead andThen fieldRead
       types-value types next e₂ = rw (← p, e, ← p₁, e₁, ← types-read, e₂)
 
+pub len-fits : (kind : ℕ) (s : List ℕ) (at : ℕ) (g : Field) → fieldRead g ≡ integer (keyLengthOk kind) s at → (len next : ℕ) → g ≡ field.Value len next
+    → len < 2 ^ 32
+len-fits kind s at g p len next e =
+    omega (arith, key-length-most kind len (integer-passed (keyLengthOk kind) s at len next (field-got _ g p len next e)))
+
 pub types-fits : (high : ℕ) (s : List ℕ) (at : ℕ) (h : Field) → fieldRead h ≡ integer (between 0 high) s at → high < 2 ^ 32
     → (types next : ℕ) → h ≡ field.Value types next → types < 2 ^ 32
 types-fits high s at h p l types next e =
     omega (arith, between-high 0 high types (integer-passed (between 0 high) s at types next (field-got _ h p types next e)))
 
-pub ruleset shape-laws = (needs, type-short, type-out, type-fits, len-short, len-out, types-short, types-out, types-value, types-fits)
+pub ruleset shape-laws = (needs, type-short, type-out, type-fits, len-fits, len-short, len-out, types-short, types-out, types-value, types-fits)

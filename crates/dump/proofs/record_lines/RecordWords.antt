@@ -10,24 +10,18 @@ use Rattle.handshake.specs.Bytes.{ascii, decimal}
 use Rattle.session.specs.declared.Connection.{Connection}
 use Rattle.session.specs.declared.Session.{Session}
 use Rattle.session.specs.Session.{unfinished}
+use Rattle.session.proofs.Unfinished.{first-unfinished, limit-within, limit-length}
 use Rattle.text.specs.Text.{hexOrNone, spaced, line}
 use Rattle.text.specs.Room.{Wrote}
 use Rattle.text.proofs.Rooms.{joined, retold}
 use Rattle.text.proofs.LineWords.{line-of}
-use Rattle.text.proofs.Prefixes.{prefixes, whole}
 use Rattle.dump.specs.RecordLines.{phaseLine, unfinishedLine, currentLine, bindingsLines, recordLines}
 
-module _ {room x : List ℕ} {at k : ℕ} where
-  pub unfinished-part : (s : Session) → Wrote room at (spaced (hexOrNone (take (s .len) (s .buffer)) ∷ [])) x k → Wrote room at (spaced (hexOrNone (unfinished s) ∷ [])) x k
-  unfolding unfinished
-  unfinished-part s w = w
+pub unfinished-part : {room x : List ℕ} {at k : ℕ} (s : Session) (n : ℕ) → length (s .buffer) ≡ 1032 → n ≡ length (unfinished s)
+    → Wrote room at (spaced (hexOrNone (take n (s .buffer)) ∷ [])) x k → Wrote room at (spaced (hexOrNone (unfinished s) ∷ [])) x k
+unfinished-part s n l e w = retold (ap (λ (b : List ℕ). spaced (hexOrNone b ∷ [])) (first-unfinished s l n e)) w
 
-  pub unfinished-whole : (s : Session) → length (s .buffer) ≡ 1027 → 1027 ≤ s .len
-      → Wrote room at (spaced (hexOrNone (s .buffer) ∷ [])) x k → Wrote room at (spaced (hexOrNone (unfinished s) ∷ [])) x k
-  unfolding unfinished
-  unfinished-whole s l h w = retold (ap (λ (b : List ℕ). spaced (hexOrNone b ∷ [])) (whole (s .buffer) (s .len) 1027 l h)) w
-
-pub ruleset unfinishing = (prefixes, unfinished-part, unfinished-whole)
+pub ruleset unfinishing = (needs, limit-within, limit-length, unfinished-part)
 
 -- ---- the unfinished bytes, the current table
 pub unfinished-is : (s : Session) {room x y z : List ℕ} {at k m n : ℕ}

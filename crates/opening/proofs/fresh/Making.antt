@@ -31,11 +31,11 @@ pub session-made : (phase closed number : ℕ) (local remote ours theirs : List 
         bindings = replicate 8 blank;
       };
       len = 0;
-      buffer = replicate 1027 0;
+      buffer = replicate 1032 0;
     })
     (holding (newConnection phase closed number local remote) [])
 unfolding holding newConnection noBinding
-session-made phase closed number local remote ours theirs e f = rw (e, f, pad-nil 1027)
+session-made phase closed number local remote ours theirs e f = rw (e, f, pad-nil 1032)
 
 -- ---- names
 

@@ -175,19 +175,19 @@ step-at-0 = refl
 step-at-1 : fieldOf P′.mir 1 ≡ someO (S′.mir, 56)
 step-at-1 = refl
 
-step-at-2 : fieldOf P′.mir 2 ≡ someO (tyBool, 1288)
+step-at-2 : fieldOf P′.mir 2 ≡ someO (tyBool, 1320)
 step-at-2 = refl
 
-step-at-3 : fieldOf P′.mir 3 ≡ someO (tyBool, 1289)
+step-at-3 : fieldOf P′.mir 3 ≡ someO (tyBool, 1321)
 step-at-3 = refl
 
-step-at-4 : fieldOf P′.mir 4 ≡ someO (tyInt w64, 1296)
+step-at-4 : fieldOf P′.mir 4 ≡ someO (tyInt w64, 1328)
 step-at-4 = refl
 
-step-at-5 : fieldOf P′.mir 5 ≡ someO (N₀′.mir, 1304)
+step-at-5 : fieldOf P′.mir 5 ≡ someO (N₀′.mir, 1336)
 step-at-5 = refl
 
-step-at-6 : fieldOf P′.mir 6 ≡ someO (N₁′.mir, 1664)
+step-at-6 : fieldOf P′.mir 6 ≡ someO (N₁′.mir, 1696)
 step-at-6 = refl
 
 -- the arrays in the store: their machine values, their relations, and the store with another element

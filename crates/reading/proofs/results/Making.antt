@@ -23,7 +23,7 @@ use Rattle.reading.specs.Results.{stays, waits, replied}
 
 -- ---- a record with unfinished bytes
 
-pub record-made : (c : Connection) (u buffer : List ℕ) → buffer ≡ padTo 1027 u
+pub record-made : (c : Connection) (u buffer : List ℕ) → buffer ≡ padTo 1032 u
     → _≡_ {A = Session} (record { connection = c; len = length u; buffer = buffer }) (holding c u)
 unfolding holding
 record-made c u buffer e = rw e

@@ -29,6 +29,9 @@ enum-known-types c = search shape-laws
 cast-t17 : tie.Need-cast-t17
 cast-t17 c = search shape-laws
 
+cast-t18 : tie.Need-cast-t18
+cast-t18 c = search shape-laws
+
 cast-t19 : tie.Need-cast-t19
 cast-t19 c = search shape-laws
 
@@ -84,6 +87,7 @@ read-shape-spec =
     read-between-requires
     enum-known-types
     cast-t17
+    cast-t18
     cast-t19
     enum-told
     enum-told-2

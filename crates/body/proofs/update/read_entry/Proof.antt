@@ -2,6 +2,9 @@ use Rattle.body.proofs.update.UpdateLaws.{entry-laws}
 use Rattle.body.proofs.update.read_entry.Statement.{statement}
 use Rattle.body.proofs.update.read_entry.Tie as tie
 
+cast-key-len : tie.Need-cast-key-len
+cast-key-len c = search entry-laws
+
 read-key-requires : tie.Need-read-key-requires
 read-key-requires c κs = search entry-laws
 
@@ -57,6 +60,7 @@ pub read-entry-spec : {M : Type 1} → statement M
 read-entry-spec =
     tie.close
     (tie.spec
+    cast-key-len
     read-key-requires
     enum-known-start
     read-data-requires

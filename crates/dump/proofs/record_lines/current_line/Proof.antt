@@ -24,6 +24,9 @@ put-requires-2 c κs = search needs
 sub-put-decimal-word : tie.Need-sub-put-decimal-word
 sub-put-decimal-word c = search needs
 
+cast-put-decimal-word : tie.Need-cast-put-decimal-word
+cast-put-decimal-word c = search needs
+
 put-decimal-word-requires : tie.Need-put-decimal-word-requires
 put-decimal-word-requires c κs = search needs
 
@@ -50,6 +53,7 @@ current-line-spec =
     slice-aggregate-put-2
     put-requires-2
     sub-put-decimal-word
+    cast-put-decimal-word
     put-decimal-word-requires
     slice-aggregate-put-3
     put-requires-3

@@ -1,7 +1,9 @@
 use Rattle.dump.proofs.record_lines.RecordWords.{unfinishing}
-use borrow.Author.Needs.{needs}
 use Rattle.dump.proofs.record_lines.put_unfinished.Statement.{statement}
 use Rattle.dump.proofs.record_lines.put_unfinished.Tie as tie
+
+unfinished-len-requires : tie.Need-unfinished-len-requires
+unfinished-len-requires c κs = search unfinishing
 
 array-share-prefix-buffer : tie.Need-array-share-prefix-buffer
 array-share-prefix-buffer c = search unfinishing
@@ -10,36 +12,14 @@ slice-aggregate-put-hex-or-none : tie.Need-slice-aggregate-put-hex-or-none
 slice-aggregate-put-hex-or-none c = search unfinishing
 
 put-hex-or-none-requires : tie.Need-put-hex-or-none-requires
-put-hex-or-none-requires c κs = search needs
+put-hex-or-none-requires c κs = search unfinishing
 
 same-length : tie.Need-same-length
-same-length c = search needs
+same-length c = search unfinishing
 
 returns : tie.Need-returns
 returns c = search unfinishing
 
-slice-aggregate-put-hex-or-none-2 : tie.Need-slice-aggregate-put-hex-or-none-2
-slice-aggregate-put-hex-or-none-2 c = search needs
-
-put-hex-or-none-requires-2 : tie.Need-put-hex-or-none-requires-2
-put-hex-or-none-requires-2 c κs = search needs
-
-same-length-2 : tie.Need-same-length-2
-same-length-2 c = search needs
-
-returns-2 : tie.Need-returns-2
-returns-2 c = search unfinishing
-
 pub put-unfinished-spec : {M : Type 1} → statement M
 put-unfinished-spec =
-    tie.close
-    (tie.spec
-    array-share-prefix-buffer
-    slice-aggregate-put-hex-or-none
-    put-hex-or-none-requires
-    same-length
-    returns
-    slice-aggregate-put-hex-or-none-2
-    put-hex-or-none-requires-2
-    same-length-2
-    returns-2)
+    tie.close (tie.spec unfinished-len-requires array-share-prefix-buffer slice-aggregate-put-hex-or-none put-hex-or-none-requires same-length returns)

@@ -8,11 +8,14 @@ cast-put-decimal-word c = search types-words
 put-decimal-word-requires : tie.Need-put-decimal-word-requires
 put-decimal-word-requires c κs = search types-words
 
+cast-put-decimal-word-2 : tie.Need-cast-put-decimal-word-2
+cast-put-decimal-word-2 c = search types-words
+
 put-decimal-word-requires-2 : tie.Need-put-decimal-word-requires-2
 put-decimal-word-requires-2 c κs = search types-words
 
-cast-put-decimal-word-2 : tie.Need-cast-put-decimal-word-2
-cast-put-decimal-word-2 c = search types-words
+cast-put-decimal-word-3 : tie.Need-cast-put-decimal-word-3
+cast-put-decimal-word-3 c = search types-words
 
 put-decimal-word-requires-3 : tie.Need-put-decimal-word-requires-3
 put-decimal-word-requires-3 c κs = search types-words
@@ -21,7 +24,7 @@ same-length : tie.Need-same-length
 same-length c = search types-words
 
 returns : tie.Need-returns
-returns c = three-words _ _ _ (c .before .before .before .before .before .before .before .before .before .before .before .put-decimal-word .ensures) (c .before .before .before .before .before .before .before .put-decimal-word2 .ensures) (c .before .before .put-decimal-word3 .ensures)
+returns c = three-words _ _ _ (c .before .before .before .before .before .before .before .before .before .before .before .before .put-decimal-word .ensures) (c .before .before .before .before .before .before .before .put-decimal-word2 .ensures) (c .before .before .put-decimal-word3 .ensures)
 
 pub put-types-spec : {M : Type 1} → statement M
 put-types-spec =
@@ -29,8 +32,9 @@ put-types-spec =
     (tie.spec
     cast-put-decimal-word
     put-decimal-word-requires
-    put-decimal-word-requires-2
     cast-put-decimal-word-2
+    put-decimal-word-requires-2
+    cast-put-decimal-word-3
     put-decimal-word-requires-3
     same-length
     returns)

@@ -2,6 +2,9 @@ use Rattle.message.proofs.Updating.{updating}
 use Rattle.message.proofs.update.incremental.Statement.{statement}
 use Rattle.message.proofs.update.incremental.Tie as tie
 
+cast-current : tie.Need-cast-current
+cast-current c = search updating
+
 ask-refusal-requires : tie.Need-ask-refusal-requires
 ask-refusal-requires c κs = search updating
 
@@ -20,4 +23,4 @@ returns-2 c = search updating
 pub incremental-spec : {M : Type 1} → statement M
 incremental-spec =
     tie.close
-    (tie.spec ask-refusal-requires returns sub-incremental-of incremental-of-requires returns-2)
+    (tie.spec cast-current ask-refusal-requires returns sub-incremental-of incremental-of-requires returns-2)

@@ -3,6 +3,9 @@ use Rattle.message.proofs.Updating.{updating, no-current, current-there
 use Rattle.message.proofs.update.update.Statement.{statement}
 use Rattle.message.proofs.update.update.Tie as tie
 
+cast-current : tie.Need-cast-current
+cast-current c = search updating
+
 ask-refusal-requires : tie.Need-ask-refusal-requires
 ask-refusal-requires c κs = search updating
 
@@ -28,6 +31,7 @@ pub update-spec : {M : Type 1} → statement M
 update-spec =
     tie.close
     (tie.spec
+    cast-current
     ask-refusal-requires
     returns
     sub-place

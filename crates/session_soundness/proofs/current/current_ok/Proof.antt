@@ -2,6 +2,9 @@ use Rattle.session_soundness.proofs.current.CurrentTests.{current}
 use Rattle.session_soundness.proofs.current.current_ok.Statement.{statement}
 use Rattle.session_soundness.proofs.current.current_ok.Tie as tie
 
+cast-plus-one : tie.Need-cast-plus-one
+cast-plus-one c = search current
+
 returns : tie.Need-returns
 returns c = search current
 
@@ -33,6 +36,7 @@ pub current-ok-spec : {M : Type 1} → statement M
 current-ok-spec =
     tie.close
     (tie.spec
+    cast-plus-one
     returns
     returns-2
     sub-place

@@ -17,6 +17,9 @@ is-known-requires c κs = search table-rows
 returns-2 : tie.Need-returns-2
 returns-2 c = search table-rows
 
+cast-key-length-ok : tie.Need-cast-key-length-ok
+cast-key-length-ok c = search table-rows
+
 key-length-ok-requires : tie.Need-key-length-ok-requires
 key-length-ok-requires c κs = search table-rows
 
@@ -38,6 +41,7 @@ held-table-ok-spec =
     key-kind-requires
     is-known-requires
     returns-2
+    cast-key-length-ok
     key-length-ok-requires
     returns-3
     returns-4
