@@ -4,7 +4,7 @@
     python3 tools/shifts.py PATH..
 
 A count is constant if it has literals, NAMED_CONSTANTS (a path before the name, as in u8::BITS), operators and parentheses only;
-a parameter of a C macro is no constant. A function named like a shift or a rotation is one too, its last argument being the count.
+a parameter of a C macro is no constant, but what a macro in capitals stands for isn't looked at. A function named like a shift or a rotation is one too, its last argument being the count.
 
 Two `<` or `>` side by side are a shift, unless they are brackets of Rust's generics. These open behind a name in CamelCase, a name
 that is being declared, a macro's `$name`, `::`, `impl` or `for`, or where no operand is; they hold only what types have, and close.

@@ -1,6 +1,10 @@
 #!/usr/bin/env python3
-"""Tries tools/shifts.py on tools/shift_samples: in refused/ it names each line with the comment `refused` and no other, in passed/ none."""
+"""Tries tools/shifts.py on tools/shift_samples: in refused/ it names each line with the comment `refused` and no other, in passed/ none.
+
+The samples are copied first, and lose a `.txt` at their names' end: the gate takes no Rattle source that is in no crate.
+"""
 import os
+import shutil
 import subprocess
 import sys
 import tempfile
@@ -9,7 +13,15 @@ sys.dont_write_bytecode = True
 import shifts
 
 SAMPLES = os.path.join(os.path.dirname(os.path.abspath(__file__)), 'shift_samples')
-REFUSED, PASSED = (os.path.join(SAMPLES, kind) for kind in ('refused', 'passed'))
+
+
+def copied(kind, folder):
+    """A copy of the samples of a kind, in a folder of its own."""
+    to = os.path.join(folder, kind)
+    os.mkdir(to)
+    for name in os.listdir(os.path.join(SAMPLES, kind)):
+        shutil.copy(os.path.join(SAMPLES, kind, name), os.path.join(to, name.removesuffix('.txt')))
+    return to
 
 
 def marked(path):
@@ -25,8 +37,9 @@ def said(*paths):
     return ended.returncode, ended.stdout.splitlines()
 
 
-def main():
-    refused, passed = list(shifts.sources(REFUSED)), list(shifts.sources(PASSED))
+def tried(refused_in, passed_in):
+    """Each refused line is named, no other is, and nothing to look at is no success."""
+    refused, passed = list(shifts.sources(refused_in)), list(shifts.sources(passed_in))
     for samples in refused, passed:
         assert {os.path.splitext(path)[1] for path in samples} == set(shifts.LANGUAGES), samples
     expected = []
@@ -34,18 +47,17 @@ def main():
         lines = marked(path)
         assert lines, path
         expected += [f'{path}:{line}: shift by a computed count' for line in lines]
-    status, lines = said(REFUSED)
+    status, lines = said(refused_in)
     assert (status, lines) == (1, expected), set(lines) ^ set(expected)
-    status, lines = said(PASSED)
+    status, lines = said(passed_in)
     assert status == 0 and len(lines) == 1, lines
-    assert said(PASSED, REFUSED)[0] == 1
-    others()
+    assert said(passed_in, refused_in)[0] == 1
+    assert said(passed_in, os.path.join(passed_in, 'nowhere'))[0] == said()[0] == 1
     print(f'{len(expected)} refused shifts in samples found')
 
 
 def others():
-    """Nothing to look at is no success, nor is what has no end. What was built isn't looked at."""
-    assert said()[0] == said(PASSED, os.path.join(SAMPLES, 'nowhere'))[0] == 1
+    """What has no end is no success. What was built isn't looked at."""
     with tempfile.TemporaryDirectory() as folder:
         for name, text, status in [
             ('own.rs', 'x << 3', 0),
@@ -59,6 +71,12 @@ def others():
             with open(path, 'w', encoding='utf-8') as file:
                 file.write(text)
             assert said(path if status else folder)[0] == status, name
+
+
+def main():
+    with tempfile.TemporaryDirectory() as folder:
+        tried(copied('refused', folder), copied('passed', folder))
+    others()
 
 
 if __name__ == '__main__':
