@@ -6,6 +6,7 @@ use bench::measure::{calls, clock, in_turns, times, Load, MESSAGES};
 use bench::receivers::{Library, Plain, Second, ROOM};
 use bench::rows::{document, heading, heading_of_bytes, row, row_of_bytes, row_of_ratios};
 use bench::streams::{filling, long_filling, long_updates, message, update, updates};
+use bench::streams::{traffic_filling, traffic_updates, BY_LENGTH};
 use bench::{archive, machine, shares};
 
 /// Rounds of each measurement, of which the best counts.
@@ -56,6 +57,16 @@ fn lengths() {
         let len = whole.len();
         let load = Load::new(filling(1), vec![whole; MESSAGES]);
         row_of_bytes(&format!("{body} bytes"), times(&load, ROUNDS), len);
+    }
+}
+
+/// Values of growing length: what reading an integer costs.
+fn value_lengths() {
+    heading("An update of 1 held key, bytes in and bytes out taking n bytes each");
+    for (bytes, value) in BY_LENGTH {
+        let updates = traffic_updates(MESSAGES as u32, value);
+        let load = Load::new(traffic_filling(value), updates);
+        row(&format!("n = {bytes}"), times(&load, ROUNDS));
     }
 }
 
@@ -130,6 +141,7 @@ fn main() {
     let levels = store_levels();
     new_keys();
     lengths();
+    value_lengths();
     reassembly();
     fronts();
     message_counts();

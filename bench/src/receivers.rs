@@ -214,7 +214,10 @@ fn second_table(table: peers::Table) -> second::store::Table {
         name: table.name().to_vec(),
         key_type: table.key_type().map_or(u64::MAX, |t| t as u64),
         key_length: table.key_len() as u64,
-        data_types: table.data_types().map(|t| 1 << t.number()).sum(),
+        data_types: table
+            .data_types()
+            .map(|t| second::datatype::bit(t.number().into()))
+            .sum(),
         times: table.expiry().map(|expiry| second::store::Times {
             expiry: expiry.into(),
             periods: table.periods().map(|(_, period)| period.into()).collect(),

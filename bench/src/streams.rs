@@ -45,12 +45,15 @@ pub fn update(id: u32, number: u32) -> Vec<u8> {
 }
 
 fn update_of(id: u32, key: &[u8]) -> Vec<u8> {
+    let values = [17, 900, 4, 3, u64::from(id) % 10_000, 2_000, 70, 65];
+    update_with(id, key, &values)
+}
+
+fn update_with(id: u32, key: &[u8], values: &[u64]) -> Vec<u8> {
     let mut body = id.to_be_bytes().to_vec();
     body.push(key.len() as u8);
     body.extend(key);
-    for value in [17, 900, 4, 3, u64::from(id) % 10_000, 2_000, 70, 65] {
-        body.extend(int(value));
-    }
+    body.extend(values.iter().flat_map(|&value| int(value)));
     message(128, &body)
 }
 
@@ -67,6 +70,27 @@ pub fn updates(count: u32, entries: u32) -> Vec<Vec<u8>> {
     (0..count)
         .map(|n| update(1000 + n, n.wrapping_mul(37) % entries))
         .collect()
+}
+
+// ---- values by length
+
+/// Values that take 1, 5 and 10 bytes.
+pub const BY_LENGTH: [(usize, u64); 3] = [(1, 200), (5, 1_000_000_000), (10, u64::MAX)];
+
+/// As `filling(1)`, where the table has bytes in and bytes out.
+pub fn traffic_filling(value: u64) -> Vec<u8> {
+    let mut body = vec![1, 1, b'a', 3, 64];
+    body.extend(int(1 << 13 | 1 << 15));
+    [HELLO, &message(130, &body), &traffic(0, value)].concat()
+}
+
+/// Updates of this entry, both values being the same.
+pub fn traffic_updates(count: u32, value: u64) -> Vec<Vec<u8>> {
+    (0..count).map(|n| traffic(1000 + n, value)).collect()
+}
+
+fn traffic(id: u32, value: u64) -> Vec<u8> {
+    update_with(id, &key(0), &[value, value])
 }
 
 // ---- keys of 64 bytes

@@ -2,7 +2,8 @@
 
 use bench::plain::mark;
 use bench::receivers::{Library, Plain, Receiver, Role, Second};
-use bench::streams::{filling, long_filling, long_updates, message, updates, HELLO};
+use bench::streams::{filling, int, long_filling, long_updates, message, updates, HELLO};
+use bench::streams::{traffic_filling, traffic_updates, BY_LENGTH};
 use second::generate;
 use second::replay::{command, Command};
 
@@ -69,6 +70,18 @@ fn on_the_benchmark_streams() {
     all.take(&bytes);
     for piece in bytes[HELLO.len()..].chunks(16) {
         all.take(piece);
+    }
+}
+
+#[test]
+fn on_values_of_each_length() {
+    for (bytes, value) in BY_LENGTH {
+        assert_eq!(int(value).len(), bytes);
+        let mut all = All::open(Role::Answerer);
+        all.take(&traffic_filling(value));
+        all.take(&traffic_updates(3, value).concat());
+        let values = all.plain.store.entries[0].values;
+        assert_eq!(values.iter().filter(|&&v| v == value).count(), 2);
     }
 }
 

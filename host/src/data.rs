@@ -73,6 +73,12 @@ pub enum DataType {
     Gpc1Rate = 18,
 }
 
+/// The bit of each data type.
+const BITS: [u32; 19] = [
+    0x1, 0x2, 0x4, 0x8, 0x10, 0x20, 0x40, 0x80, 0x100, 0x200, 0x400, 0x800, 0x1000, 0x2000, 0x4000,
+    0x8000, 0x1_0000, 0x2_0000, 0x4_0000,
+];
+
 impl DataType {
     /// All data types, ascending.
     pub const ALL: [DataType; 19] = [
@@ -100,6 +106,11 @@ impl DataType {
     /// The number on the wire, and the bit among a table's data types.
     pub fn number(self) -> u8 {
         self as u8
+    }
+
+    /// That bit alone.
+    pub(crate) fn bit(self) -> u32 {
+        BITS[self as usize]
     }
 
     /// The name in HAProxy's configuration.

@@ -215,7 +215,7 @@ impl<'a> Table<'a> {
 
     /// Whether its entries have values of a data type.
     pub fn has(&self, data_type: DataType) -> bool {
-        self.table.data_types & (1 << data_type.number()) != 0
+        self.table.data_types & data_type.bit() != 0
     }
 
     /// The data types of its entries, ascending.

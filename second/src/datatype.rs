@@ -6,6 +6,17 @@ pub const COUNT: u32 = 19;
 /// The largest data types field.
 pub const LARGEST: u64 = (1 << COUNT) - 1;
 
+/// The field of each data type alone: 1, 2, 4 and so on.
+pub const BITS: [u64; COUNT as usize] = {
+    let mut bits = [1; COUNT as usize];
+    let mut n = 1;
+    while n < bits.len() {
+        bits[n] = 2 * bits[n - 1];
+        n += 1;
+    }
+    bits
+};
+
 /// The number of the server ID.
 pub const SERVER: u32 = 0;
 
@@ -22,9 +33,14 @@ pub fn is_wide(number: u32) -> bool {
     matches!(number, 13 | 15)
 }
 
+/// The field of one data type alone.
+pub fn bit(number: u32) -> u64 {
+    BITS[number as usize]
+}
+
 /// The data types of the field, ascending.
 pub fn present(data_types: u64) -> Vec<u32> {
-    (0..COUNT).filter(|&n| data_types >> n & 1 == 1).collect()
+    (0..COUNT).filter(|&n| data_types & bit(n) != 0).collect()
 }
 
 /// The rate types of the field, ascending.

@@ -48,18 +48,17 @@ pub fn decode(bytes: &[u8]) -> Decoded {
     if u64::from(first) < LONG {
         return whole(u128::from(first), 1);
     }
-    let mut value = u128::from(first);
-    for (k, &byte) in later.iter().enumerate() {
-        let length = k + 2;
-        value += u128::from(byte) << (4 + 7 * k);
-        if u64::from(byte) < NEXT {
-            return whole(value, length);
-        }
-        if length == LONGEST {
-            return Decoded::Overflow;
-        }
-    }
-    Decoded::Cut
+    let later = &later[..later.len().min(LONGEST - 1)];
+    let Some(last) = later.iter().position(|&byte| u64::from(byte) < NEXT) else {
+        return match later.len() == LONGEST - 1 {
+            true => Decoded::Overflow,
+            false => Decoded::Cut,
+        };
+    };
+    // from the last byte on, so that byte k is multiplied by 128 k times
+    let backwards = later[..=last].iter().rev();
+    let sum = backwards.fold(0, |sum, &byte| 128 * sum + u128::from(byte));
+    whole(u128::from(first) + 16 * sum, last + 2)
 }
 
 /// A whole integer of `length` bytes, or an overflow.

@@ -14,8 +14,14 @@ pub const SLOT_TYPES: [u8; VALUES] = [
     16, 16, 16, 17, 18, 18, 18,
 ];
 
+/// The bit of each data type.
+const BITS: [u32; 19] = [
+    0x1, 0x2, 0x4, 0x8, 0x10, 0x20, 0x40, 0x80, 0x100, 0x200, 0x400, 0x800, 0x1000, 0x2000, 0x4000,
+    0x8000, 0x1_0000, 0x2_0000, 0x4_0000,
+];
+
 pub fn has(types: u32, data_type: u8) -> bool {
-    types & (1 << data_type) != 0
+    types & BITS[usize::from(data_type)] != 0
 }
 
 pub fn is_wide(data_type: u8) -> bool {

@@ -24,13 +24,13 @@ pub fn read_int(bytes: &[u8]) -> Result<(u64, usize), Fault> {
     if first < 240 {
         return Ok((value, 1));
     }
-    let mut shift = 4;
+    let mut weight = 16;
     for (n, &byte) in bytes[1..].iter().take(8).enumerate() {
-        value += u64::from(byte) << shift;
+        value += weight * u64::from(byte);
         if byte < 128 {
             return Ok((value, n + 2));
         }
-        shift += 7;
+        weight *= 128;
     }
     let &tenth = bytes.get(9).ok_or(Fault::Short)?;
     if tenth >= 16 {

@@ -24,6 +24,11 @@ impl Random {
         }
     }
 
+    /// A power of 2.
+    fn power(&mut self) -> u64 {
+        (0..self.below(64)).fold(1, |power, _| 2 * power)
+    }
+
     /// Changes one byte, as often as not the first.
     fn spoil(&mut self, bytes: &mut [u8]) {
         let at = self.below(2) * self.below(bytes.len());
@@ -93,7 +98,7 @@ fn spoil_entry(random: &mut Random, store: &mut Store) {
         2 => random.spoil_size(&mut entry.table),
         3 => random.spoil_size(&mut entry.key_len),
         4 => random.spoil(&mut entry.key),
-        5 => entry.values[random.below(34)] = 1 << random.below(64),
+        5 => entry.values[random.below(34)] = random.power(),
         6 => entry.key = copy.key,
         _ => *entry = copy,
     }

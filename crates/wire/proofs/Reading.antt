@@ -16,6 +16,20 @@ use Rattle.lists.proofs.Cases.{lt-or-le, split}
 use Rattle.wire.proofs.Read.{fitting-value, fitting-over, whole, at-end, at-last, at-more, first-end, first-alone, first-more, tenth-end, tenth-low, tenth-high, tenth-whole, weight-le}
 
 -- ---- `tenth_byte`
+module _ (w : ℕ) (e : w ≡ 16 * 128 ^ 8) (b : ℕ) (l : b < 16) where
+  -- the byte's product, in the code's form and in the definition's
+  top-is : w * b ≡ 16 * 128 ^ 8 * b
+  top-is = ap (λ (x : ℕ). x * b) e
+
+  pub top-le : w * b ≤ 2 ^ 64 - 1
+  top-le = omega (arith, top-is)
+
+  pub top-fits : Fits w64 (w * b)
+  top-fits = omega (arith, top-le)
+
+  pub sum-fits : (value : ℕ) → value ≤ 2 ^ 64 - 1 - w * b → Fits w64 (value + w * b)
+  sum-fits value m = omega (arith, top-le)
+
 module _ (s : List ℕ) (i value : ℕ) where
   pub last-none : length s ≤ i → Short ≡ tenthByte value i (drop i s)
   last-none h = sym (tenth-end s i value h)
@@ -28,13 +42,15 @@ module _ (s : List ℕ) (i value : ℕ) where
         (λ m. tenth-low s i value b q h m ∙ fitting-over _ _ (omega arith))
         (λ m. tenth-high s i value b q h m))
 
-    pub last-over : b < 16 → 2 ^ 64 - 1 - 2 ^ 60 * b < value → Overflow ≡ tenthByte value i (drop i s)
-    last-over l m = sym (tenth-low s i value b q h (omega arith) ∙ fitting-over _ _ (omega arith))
+    module _ (w : ℕ) (e : w ≡ 16 * 128 ^ 8) (l : b < 16) where
+      pub last-over : 2 ^ 64 - 1 - w * b < value → Overflow ≡ tenthByte value i (drop i s)
+      last-over m = sym (tenth-low s i value b q h (omega arith) ∙ fitting-over _ _ (omega (arith, top-is w e b l)))
 
-    pub last-value : b < 16 → value ≤ 2 ^ 64 - 1 - 2 ^ 60 * b → Value (value + 2 ^ 60 * b) (i + 1) ≡ tenthByte value i (drop i s)
-    last-value l m = sym (tenth-low s i value b q h (omega arith) ∙ fitting-value _ _ (omega arith))
+      pub last-value : value ≤ 2 ^ 64 - 1 - w * b → Value (value + w * b) (i + 1) ≡ tenthByte value i (drop i s)
+      last-value m =
+          rw (top-is w e b l) (sym (tenth-low s i value b q h (omega arith) ∙ fitting-value _ _ (omega (arith, top-is w e b l))))
 
-pub ruleset tenth = (needs, last-none, last-high, last-over, last-value)
+pub ruleset tenth = (needs, top-le, top-fits, sum-fits, last-none, last-high, last-over, last-value)
 
 -- ---- `read_int`
 pub record Reading (s : List ℕ) (at i acc w n : ℕ) : Type 0 where
@@ -69,8 +85,8 @@ module _ {s : List ℕ} {at i acc w n : ℕ} (r : Reading s at i acc w n) where
   pub add-fits : {b : ℕ} → n < 8 → b < 256 → Fits w64 (acc + w * b)
   add-fits {b} k h = let u : b ≤ 255 = omega arith in omega (arith, weighs k, r .small, mul-le-mul-left w u)
 
-  pub weight-fits : n < 8 → Fits w64 (w * 128)
-  weight-fits k = omega (arith, weighs k)
+  pub doubles : n < 8 → w < 2 ^ 57
+  doubles k = omega (arith, weighs k)
 
   pub ends : {b : ℕ} → n < 8 → i < length s → b ≡ getD s i 0 → b < 256 → b < 128 → Value (acc + w * b) (i + 1) ≡ readInt s at
   ends {b} k h q u l =
@@ -79,19 +95,24 @@ module _ {s : List ℕ} {at i acc w n : ℕ} (r : Reading s at i acc w n) where
       ∙ at-last s i (9 - n) (8 - n) acc n (omega arith) b q h l
       ∙ rw (product b) (fitting-value (acc + w * b) (i + 1) (add-fits k u .fits)))
 
-  pub goes-on : {b : ℕ} → n < 8 → i < length s → b ≡ getD s i 0 → b < 256 → 128 ≤ b → Reading s at (i + 1) (acc + w * b) (w * 128) (n + 1)
-  goes-on {b} k h q u l =
+  pub goes-on : {b x : ℕ} → n < 8 → i < length s → b ≡ getD s i 0 → b < 256 → 128 ≤ b → x ≡ 128 * w
+      → Reading s at (i + 1) (acc + w * b) x (n + 1)
+  goes-on {b} {x} k h q u l d =
       let v : b ≤ 255 = omega arith in
       record {
         few = omega arith;
-        weight = rw (add-one, pow-suc, r .weight) (omega arith);
-        small = omega (arith, r .small, mul-le-mul-left w v);
+        weight = rw (add-one, pow-suc) (omega (arith, d, r .weight));
+        small = omega (arith, d, r .small, mul-le-mul-left w v);
         rest = r .rest ∙ at-more s i (9 - n) (9 - (n + 1)) acc n (omega arith) b q h l ∙ rw (product b);
       }
 
-  pub at-tenth : {t : Int} → 8 ≤ n → t ≡ tenthByte acc i (drop i s) → t ≡ readInt s at
-  at-tenth {t} k e =
-      let f : n ≡ 8 = omega (arith, r .few) in
-      e ∙ sym (r .rest ∙ rw f (tenth-whole acc i (drop i s)))
+  eight : 8 ≤ n → n ≡ 8
+  eight k = omega (arith, r .few)
 
-pub ruleset reading = (needs, none, alone, start, short-of, mul-fits, add-fits, weight-fits, ends, goes-on, at-tenth)
+  pub tenth-weight : 8 ≤ n → w ≡ 16 * 128 ^ 8
+  tenth-weight k = rw (r .weight, eight k)
+
+  pub at-tenth : {t : Int} → 8 ≤ n → t ≡ tenthByte acc i (drop i s) → t ≡ readInt s at
+  at-tenth k e = e ∙ sym (r .rest ∙ rw (eight k) (tenth-whole acc i (drop i s)))
+
+pub ruleset reading = (needs, none, alone, start, short-of, mul-fits, add-fits, doubles, ends, goes-on, tenth-weight, at-tenth)

@@ -4,6 +4,7 @@ pub mod fixed;
 pub mod values;
 
 ghost use mathlib.Core.Path.{_≡_};
+ghost use Prim.Native.Nat.{_*_, _^_, _<_};
 ghost use lib.ListN.{drop};
 ghost use Rattle.wire.specs.Integer.{readInt, tenthByte, encodedInt};
 use lists::wide;
@@ -15,8 +16,9 @@ pub enum Int {
     Overflow,
 }
 
-// The tenth byte, at `i`, after nine bytes that give `value`.
-fn tenth_byte(s: &[u8], i: usize, value: u64) -> Int
+// The tenth byte, at `i`, of this weight, after nine bytes that give `value`.
+fn tenth_byte(s: &[u8], i: usize, value: u64, weight: u64) -> Int
+    requires { ⌜ weight ≡ 16 * 128 ^ 8 ⌝ }
     ensures { λ r. ⌜ r ≡ tenthByte value i (drop i (now (s .entry))) ⌝ }
 {
     if s.len() <= i {
@@ -26,7 +28,7 @@ fn tenth_byte(s: &[u8], i: usize, value: u64) -> Int
     if 16 <= b {
         return Int::Overflow;
     }
-    let top = 0x1000_0000_0000_0000 * b;
+    let top = weight * b;
     if 0xffff_ffff_ffff_ffff - top < value {
         return Int::Overflow;
     }
@@ -36,7 +38,21 @@ fn tenth_byte(s: &[u8], i: usize, value: u64) -> Int
     }
 }
 
-// The encoded integer at `at`. The weight of a later byte is 16, then 128 times the one before.
+// 128 times a weight.
+fn doubled_seven_times(w: u64) -> u64
+    requires { ⌜ w < 2 ^ 57 ⌝ }
+    ensures { λ r. ⌜ r ≡ 128 * w ⌝ }
+{
+    let w2 = w + w;
+    let w4 = w2 + w2;
+    let w8 = w4 + w4;
+    let w16 = w8 + w8;
+    let w32 = w16 + w16;
+    let w64 = w32 + w32;
+    w64 + w64
+}
+
+// The encoded integer at `at`. The weight of a later byte is 16, then the one before doubled seven times.
 pub fn read_int(s: &[u8], at: usize) -> Int
     ensures { λ r. ⌜ r ≡ readInt (now (s .entry)) at ⌝ }
 {
@@ -64,10 +80,10 @@ pub fn read_int(s: &[u8], at: usize) -> Int
         if b < 128 {
             return Int::Value { value, next: i };
         }
-        weight *= 128;
+        weight = doubled_seven_times(weight);
         n += 1;
     }
-    tenth_byte(s, i, value)
+    tenth_byte(s, i, value, weight)
 }
 
 // The bytes of an encoded integer: the first `len` of `bytes`, and zeros after them.

@@ -209,7 +209,7 @@ fn field_messages() -> Vec<(Vec<Vec<u8>>, Message)> {
         list.push((vec![definition.bytes()], update));
     }
     for data_type in 0..datatype::COUNT {
-        let shape = shape(3, 2, 1 << data_type);
+        let shape = shape(3, 2, datatype::bit(data_type));
         let values = vec![240; datatype::values(shape.data_types).len()];
         let definition = wire::definition(1, b"d", shape, None).bytes();
         let update = |id| wire::update(id, b"k", shape, &values);

@@ -339,7 +339,7 @@ fn damage(random: &mut Random, bytes: &mut Vec<u8>) {
     let at = random.below(bytes.len());
     match random.below(7) {
         0 => bytes[at] = random.byte(),
-        1 => bytes[at] ^= 1 << random.below(8),
+        1 => bytes[at] ^= random.pick(&[1, 2, 4, 8, 16, 32, 64, 128]),
         2 => bytes[at] = random.pick(&[0, 127, 128, 239, 240, 255]),
         3 => drop(bytes.remove(at)),
         4 => bytes.insert(at, random.byte()),

@@ -4,6 +4,7 @@ use super::builder::Builder;
 use super::profile::Operation;
 use super::values::{shape, table_id, update_id, Shape};
 use super::wire::{self, overflows, Message};
+use crate::datatype;
 use crate::frame::TABLE_CLASS;
 use crate::integer::encode;
 use crate::record::Record;
@@ -162,7 +163,7 @@ fn other_shape(builder: &mut Builder, held: Shape) -> Shape {
     match random.below(3) {
         0 => other.key_type = [1, 0, 2, 4, 3][held.key_type as usize],
         1 if held.key_type >= 3 => other.key_length = held.key_length % 64 + 1,
-        _ => other.data_types ^= 1 << random.below(19),
+        _ => other.data_types ^= random.pick(&datatype::BITS),
     }
     match other == held {
         true => shape_unlike(builder, held),

@@ -88,7 +88,8 @@ fn edge(random: &mut Random, limit: u64) -> u64 {
 
 /// A number of any bit length.
 fn spread(random: &mut Random) -> u64 {
-    random.bits() >> random.below(64)
+    let bits = random.bits();
+    (0..random.below(64)).fold(bits, |number, _| number / 2)
 }
 
 /// A value within the range of a data type, encoded.
@@ -199,19 +200,19 @@ fn key_length(random: &mut Random, key_type: u64) -> u64 {
 
 /// At most two data types.
 fn narrow_data_types(random: &mut Random) -> u64 {
-    let one = 1 << random.below(19);
-    let other = 1 << random.below(19);
+    let one = random.pick(&datatype::BITS);
+    let other = random.pick(&datatype::BITS);
     random.pick(&[0, one, one, one | other])
 }
 
 /// Any data types.
 fn wide_data_types(random: &mut Random) -> u64 {
     let rates = (0..19).filter(|&n| datatype::is_rate(n));
-    let rates = rates.fold(0, |sum, n| sum | 1 << n);
+    let rates = rates.map(datatype::bit).sum();
     let any = random.bits() & datatype::LARGEST;
     let some = any & random.bits();
     let few = some & random.bits();
-    let one = 1 << random.below(19);
+    let one = random.pick(&datatype::BITS);
     random.pick(&[
         some,
         some,

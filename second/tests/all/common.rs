@@ -27,6 +27,11 @@ reply 0003
 end open 0
 ";
 
+/// The powers of 2, from 1 to 2^63.
+pub fn powers() -> impl Iterator<Item = u64> {
+    std::iter::successors(Some(1u64), |power| power.checked_mul(2))
+}
+
 /// An accepted hello.
 pub const HELLO: &[u8] = b"HAProxyS 2.1\neast\nwest 7 0\n";
 

@@ -1,5 +1,6 @@
 //! The encoded integer.
 
+use crate::common::powers;
 use second::integer::{decode, encode, Decoded};
 
 fn bytes(hex: &str) -> Vec<u8> {
@@ -90,16 +91,29 @@ fn first_bytes_below_240_stand_alone() {
     assert_eq!(decode(&[]), Decoded::Cut);
 }
 
+/// 16 times 128^k, for the later bytes from k = 0.
+const WEIGHTS: [u64; 9] = [
+    1 << 4,
+    1 << 11,
+    1 << 18,
+    1 << 25,
+    1 << 32,
+    1 << 39,
+    1 << 46,
+    1 << 53,
+    1 << 60,
+];
+
 #[test]
 fn later_bytes_have_their_weights() {
     let mut bytes = vec![0xF0];
     let mut value = 240;
-    for k in 0..8 {
+    for weights in WEIGHTS.windows(2) {
         bytes.push(0x80);
-        value += 0x80 << (4 + 7 * k);
+        value += 0x80 * weights[0];
         let mut ended = bytes.clone();
         ended.push(1);
-        let sum = value + (1 << (4 + 7 * (k + 1)));
+        let sum = value + weights[1];
         assert_eq!(decode(&ended), whole(sum, ended.len()));
         assert_eq!(encode(sum), ended);
     }
@@ -108,10 +122,9 @@ fn later_bytes_have_their_weights() {
 #[test]
 fn both_ways_over_many_values() {
     let mut values: Vec<u64> = (0..300_000).collect();
-    for shift in 0..64 {
-        let power = 1u64 << shift;
+    for power in powers() {
         values.extend([power - 1, power, power + 1, power | 0x5A5A]);
-        values.extend([u64::MAX - power, u64::MAX >> shift]);
+        values.extend([u64::MAX - power, u64::MAX / power]);
     }
     for value in values {
         let bytes = encode(value);

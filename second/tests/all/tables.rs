@@ -1,6 +1,6 @@
 //! Definitions and switches.
 
-use crate::common::{definition, encoded, refused, table, timed, update, Session};
+use crate::common::{definition, encoded, powers, refused, table, timed, update, Session};
 use second::answer::Answer;
 use second::integer::encode;
 use second::record::Phase;
@@ -112,8 +112,8 @@ fn a_wrong_key_type_is_refused_before_the_next_field() {
 
 #[test]
 fn data_types() {
-    for bit in 0..19 {
-        let body = definition(1, b"t", [0, 4, 1 << bit]);
+    for bit in powers().take(19) {
+        let body = definition(1, b"t", [0, 4, bit]);
         assert_eq!(defined(&body), Answer::Table { place: 0 });
     }
     let all = definition(1, b"t", [0, 4, (1 << 19) - 1]);
@@ -173,7 +173,7 @@ fn expiry_and_periods_are_32_bit() {
 #[test]
 fn pairs_go_in_ascending_order() {
     let rates = [3, 5, 8, 10, 12, 14, 16, 18];
-    let types = rates.iter().fold(0, |sum, &rate| sum | 1 << rate);
+    let types = 1 << 3 | 1 << 5 | 1 << 8 | 1 << 10 | 1 << 12 | 1 << 14 | 1 << 16 | 1 << 18;
     let mut times = vec![1];
     times.extend(rates.iter().flat_map(|&rate| [rate, 1000 + rate]));
     let mut session = Session::open();

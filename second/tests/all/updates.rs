@@ -1,6 +1,6 @@
 //! Updates and the entry store.
 
-use crate::common::{definition, message, refused, update, Session};
+use crate::common::{definition, message, powers, refused, update, Session};
 use second::answer::{Answer, Commit};
 use second::integer::encode;
 use second::record::Phase;
@@ -203,10 +203,10 @@ fn all_data_types() {
 
 #[test]
 fn widths_of_each_data_type() {
-    for number in 0..19 {
+    for (number, bit) in powers().take(19).enumerate() {
         let rate = [3, 5, 8, 10, 12, 14, 16, 18].contains(&number);
         let count = if rate { 3 } else { 1 };
-        let session = with_shape([0, 4, 1 << number]);
+        let session = with_shape([0, 4, bit]);
         for place in 0..count {
             for value in [0, 239, 240, (1 << 31) - 1, MAX, MAX + 1, u64::MAX] {
                 let mut values = vec![1; count];

@@ -48,8 +48,8 @@ add-value c = search reading
 returns-4 : tie.Need-returns-4 Inv-loop μ-loop
 returns-4 c = search reading
 
-mul-weight : tie.Need-mul-weight Inv-loop μ-loop
-mul-weight c = search reading
+doubled-seven-times-requires : tie.Need-doubled-seven-times-requires Inv-loop μ-loop
+doubled-seven-times-requires c κs = search reading
 
 add-n : tie.Need-add-n Inv-loop μ-loop
 add-n c = search reading
@@ -85,7 +85,7 @@ read-int-spec =
     mul-value
     add-value
     returns-4
-    mul-weight
+    doubled-seven-times-requires
     add-n
     loop-less
     loop-again

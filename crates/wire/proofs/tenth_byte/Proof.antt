@@ -23,11 +23,11 @@ sub-if3 c = search tenth
 returns-3 : tie.Need-returns-3
 returns-3 c = search tenth
 
-add-t10 : tie.Need-add-t10
-add-t10 c = search tenth
+add-t11 : tie.Need-add-t11
+add-t11 c = search tenth
 
-add-t6 : tie.Need-add-t6
-add-t6 c = search tenth
+add-t7 : tie.Need-add-t7
+add-t7 c = search tenth
 
 returns-4 : tie.Need-returns-4
 returns-4 c = search tenth
@@ -43,6 +43,6 @@ tenth-byte-spec =
     mul-top
     sub-if3
     returns-3
-    add-t10
-    add-t6
+    add-t11
+    add-t7
     returns-4)
