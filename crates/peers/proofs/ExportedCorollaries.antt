@@ -295,7 +295,7 @@ module _ (role : Role) (local remote room final : List ℕ) where
   unfolding rawOpened rawOutcome openedOf
   refused-numbers f l =
       let r = refused-opening-untouched role local remote room (answerNumber (opening .answer)) (refused-is (opening .answer) l) in
-      record { number = r .number; session = r .session; count = ap length (r .reply); room = f ∙ r .room }
+      record { taken = refl; number = r .number; session = r .session; count = ap length (r .reply); room = f ∙ r .room }
 
 pub raw-refused-opening-untouched : RawRefusedOpeningUntouched
 unfolding rawOpened rawOutcome openedOf

@@ -52,6 +52,7 @@ module _ (calls : List RawMade) (d : ExportedDemand3 start emptyStore calls) (o 
   unfolding rawCameTo inNumbers listedResult listedState heldBy
   listed-by-calls = record {
     responses = ap (λ (r : RawResult). r .responses) came ∙ in-numbers;
+    replies = ap (λ (r : RawResult). r .replies) came;
     session =
         d .whole-record listing o
         ∙ (cond-false (eqb (length listing) 0 || isClosed (start .connection)) _ _ open-start

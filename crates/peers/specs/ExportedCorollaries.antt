@@ -156,14 +156,15 @@ pub record ToldTable (m : RawMade) (place : ℕ) : Type 0 where
   pub number : m .outcome .number ≡ 265
   pub values : rawValues m ≡ place ∷ []
 
--- every call that answered a table, on any record and store, ended a message that is the encoding of the ID and the table that it left at the
--- answered place
+-- the message that the call ended is a definition: its body is the encoding of the ID and of the table that the call left at the answered place,
+-- and then ignored bytes
 pub record RawDefinition (s : Session) (t : Store) (m : RawMade) : Type 0 where
   pub place : ℕ
   pub told : ToldTable m place
   pub message : DefinitionMessage s t (answering (answer.Table place) m) place (bindingAt (m .session .connection) place .id)
       (getD (m .store .tables) place noTable)
 
+-- every call that answered a table, on any record and store
 abbrev pub RawBytesOfDefinition : Type 0
 RawBytesOfDefinition = (s : Session) (t : Store) (m : RawMade) → RawPromise s t m → m .outcome .number ≡ 265 → RawDefinition s t m
 
@@ -207,6 +208,7 @@ RawOthersUntouched =
 
 -- "1 and 3 in opening return a closed record with that number, all else empty or zero, .. and write nothing"
 pub record RawRefusedOpening (o : RawOpened) (before after : List ℕ) : Type 0 where
+  pub taken : o .outcome .taken ≡ 0
   pub number : (o .outcome .number ≡ 1) ⊎ (o .outcome .number ≡ 3)
   pub session : o .session ≡ refusedOpening (o .outcome .number)
   pub count : o .outcome .«reply_len» ≡ 0

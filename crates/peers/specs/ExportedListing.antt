@@ -9,11 +9,11 @@ use Rattle.session.specs.Session.{holding}
 use Rattle.opening.specs.Opening.{answerer, openingRoom, «open», openedOf}
 use Rattle.receiver.specs.Model.{replyRoom}
 use Rattle.worked_cases.specs.Cases.{east, west}
-use Rattle.worked_cases.specs.Listing.{listing, listedConnection, listedStore}
+use Rattle.worked_cases.specs.Listing.{listing, listedResult, listedConnection, listedStore}
 use Rattle.peers.specs.declared.numbers.RawOpened.{RawOpened}
 use Rattle.peers.specs.Numbers.{rawOpened}
 use Rattle.peers.specs.Reading.{RawMade}
-use Rattle.peers.specs.ExportedDemand3.{RawChain, RawResponse, rawResponses, rawLastSession, rawLastStore, RawOffersTo, RawOffering}
+use Rattle.peers.specs.ExportedDemand3.{RawChain, RawResponse, rawResponses, rawReplies, rawLastSession, rawLastStore, RawOffersTo, RawOffering}
 
 -- "hello west 7 0", "table 0 7431", "update 0 4294967295 0 new", "update 0 0 0 replaced", "finished", each with its reply line
 unfoldable pub listedNumbers : List RawResponse
@@ -25,13 +25,15 @@ listedNumbers =
     ∷ record { number = 260; values = []; reply = 0x00 ∷ 0x03 ∷ [] }
     ∷ []
 
--- "opened as answerer `east` accepting `west`", with room enough
+-- what `peers_open_answerer` returns "as answerer `east`, accepting `west`", with room enough
 abbrev pub OpenedEast : RawOpened → Type 0
 OpenedEast o = (room : List ℕ) × ((openingRoom ≤ length room) × (o ≡ rawOpened (openedOf («open» answerer east west (length room)))))
 
 -- what calls that offer the listing's stream give and leave; "end open 0"
 pub record RawListingCame (s : Session) (calls : List RawMade) : Type 0 where
   pub responses : rawResponses calls ≡ listedNumbers
+  -- a call that ends no message writes nothing
+  pub replies : rawReplies calls ≡ listedResult .replies
   pub session : rawLastSession s calls ≡ holding listedConnection []
   pub store : rawLastStore emptyStore calls ≡ listedStore
 
