@@ -177,7 +177,7 @@ struct peers_connection {
 };
 
 /* The bytes of `buffer` past `len` aren't looked at, and a call that takes bytes leaves zeros there. The record of a refused opening is all
- * zeros but for `closed` and `number`. */
+ * zeros but for `closed` and `number`; with another byte in its buffer it is refused with 4. */
 struct peers_session {
     struct peers_connection connection;
     size_t len; /* how many bytes of `buffer` are unfinished, at most PEERS_UNFINISHED_MAX */

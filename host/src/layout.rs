@@ -118,7 +118,8 @@ pub struct Session {
     pub connection: Connection,
     /// How many bytes of `buffer` are unfinished, at most [`UNFINISHED_MAX`].
     pub len: usize,
-    /// The unfinished bytes, at the front. Those past them aren't looked at, and a call that takes bytes leaves zeros there.
+    /// The unfinished bytes, at the front. Those past them aren't looked at, but in the record of a refused opening, where all are 0; a call
+    /// that takes bytes leaves zeros there.
     pub buffer: [u8; BUFFER],
 }
 

@@ -1,8 +1,7 @@
 -- Where the entry of an update goes.
-use Prim.Native.Nat.{ℕ, _+_}
 use mathlib.Core.List.{List}
-use mathlib.Core.Bool.{Bool, true, false, cond, _&&_}
-use lib.Dec.{ltb, leb}
+use mathlib.Core.Bool.{Bool, true, false, _&&_}
+use lib.Dec.{leb}
 use Rattle.lists.specs.Lists.{firstPlace}
 use Rattle.store.specs.declared.Entry.{Entry}
 use Rattle.store.specs.Limits.{keyMax}
@@ -12,10 +11,6 @@ use Rattle.store.specs.declared.entries.Place.the-variants as place
 use Rattle.store.specs.Places.{placeOf}
 use Rattle.session.specs.declared.Commit.the-variants as commit
 use Rattle.message.specs.declared.commit.Target.{Target}
-
--- how many bytes a key of n bytes is looked up by
-unfoldable pub lookedUp : ℕ → ℕ
-lookedUp n = cond (ltb keyMax n) (keyMax + 1) n
 
 -- e is held with the table and the key of `entry`; none is where the length of that key is past the longest
 unfoldable pub keyedAs : Entry → Entry → Bool

@@ -7,14 +7,11 @@ use session::Answer;
 use session::Commit;
 use session::Connection;
 use session::Reply;
-use store::ENTRIES;
 use store::Entry;
-use store::KEY_MAX;
 use store::entries::Place;
-use store::entries::find_entry;
 ghost use mathlib.Core.Path.{_≡_};
 ghost use Rattle.session.specs.Answers.{replyOf};
-ghost use Rattle.message.specs.Targets.{lookedUp, goesTo, targetOf};
+ghost use Rattle.message.specs.Targets.{targetOf};
 ghost use Rattle.message.specs.Effects.{acknowledge, commitAt};
 ghost use Rattle.message.specs.Structs.{effectStruct, finished};
 
@@ -55,27 +52,6 @@ pub fn commit_at(connection: Connection, id: u32, entry: Entry, place: usize, ho
         connection: committed,
         change,
     }
-}
-
-// The bytes that a key is looked up by: a key longer than the longest is no entry's, as any key of one byte more.
-fn looked_up(key_len: usize) -> usize
-    ensures { λ r. ⌜ r ≡ lookedUp «key_len» ⌝ }
-{
-    if KEY_MAX < key_len {
-        return KEY_MAX + 1;
-    }
-    key_len
-}
-
-// Where an entry goes, by its table and its key.
-pub fn place_of(entries: [Entry; ENTRIES], entry: Entry) -> Place
-    ensures { λ r. ⌜ r ≡ goesTo entries entry ⌝ }
-{
-    let held = entry.key;
-    let mut key = [0u8; KEY_MAX + 1];
-    lists::pad(&mut key, &held);
-    let n = looked_up(entry.key_len);
-    find_entry(entries, entry.table, &key[..n])
 }
 
 // The place that an entry is put at, and how; `full` says that there is none.

@@ -5,7 +5,7 @@ use mathlib.Core.Path.{_≡_, refl, sym, ap, _∙_, subst}
 use mathlib.Core.Logic.{_⊎_, inl, inr, ⊎-elim}
 use mathlib.Core.Bool.{true}
 use mathlib.Core.List.{List, [], _∷_, _++_, map, map-append}
-use lib.ListN.{getD}
+use lib.ListN.{length, getD}
 use Rattle.store.specs.declared.Store.{Store}
 use Rattle.store.specs.Store.{noEntry}
 use Rattle.session.specs.declared.Session.{Session}
@@ -13,23 +13,26 @@ use Rattle.session.specs.declared.Commit.{Commit}
 use Rattle.session.specs.declared.Answer.{Answer}
 use Rattle.session.specs.declared.Answer.the-variants as answer
 use Rattle.session.specs.Answers.{answerNumber, answerValues, refusalReply}
-use Rattle.session.specs.Session.{unfinished, holding, closedWith}
+use Rattle.session.specs.Session.{unfinished, holding, closedWith, bindingAt}
 use Rattle.session.proofs.answers.OneToOne.{RefusedByte}
 use Rattle.session_soundness.specs.Sound.{sound}
+use Rattle.opening.specs.Opening.{Role, Opening, «open», openedOf, openRoom}
 use Rattle.receiver.specs.Model.{heldBy}
 use Rattle.receiver.specs.Promise.{Made, ReadPromise}
 use Rattle.receiver.specs.Ledger.{isAcknowledgement}
 use Rattle.receiver.specs.Demand3.{Chain, lastSession}
 use Rattle.receiver.specs.Corollaries.{EntryHeld, NothingChanged, OnlyClosed}
-use Rattle.receiver.proofs.Acknowledging.{refused-untouched, others-untouched, held-when-acknowledged}
+use Rattle.receiver.proofs.Acknowledging.{refused-untouched, others-untouched, held-when-acknowledged, refused-opening-untouched}
 use Rattle.receiver.proofs.Sharing.{other-records-sound, refused-byte}
-use Rattle.message_bytes.specs.MessageBytes.{UpdateMessage, tableAt}
+use Rattle.message_bytes.specs.MessageBytes.{UpdateMessage, DefinitionMessage, tableAt}
 use Rattle.message_bytes.specs.LastUpdates.{lastEntry, NoneUpdates, NeverUpdated, LastUpdate}
 use Rattle.message_bytes.proofs.LastUpdates.{bytes-of-every-entry}
-use Rattle.peers.specs.Numbers.{rawOutcome}
+use Rattle.message_bytes.proofs.DefinitionMessages.{bytes-of-definition}
+use Rattle.peers.specs.declared.numbers.RawOpened.{RawOpened}
+use Rattle.peers.specs.Numbers.{rawOutcome, rawOpened}
 use Rattle.peers.specs.Reading.{RawMade, RawPromise}
 use Rattle.peers.specs.ExportedDemand3.{RawChain, rawReply, rawTaken, rawLastSession, RawResult, rawCameTo, RawOffersTo}
-use Rattle.peers.specs.ExportedCorollaries.{RawSameByAnyDivision, RawAnyDivision, rawMessage, ToldUpdate, RawEntryHeld, RawHeldWhenAcknowledged, answering, rawLastEntry, RawNoneUpdates, RawNeverUpdated, RawLastUpdate, RawBytesOfEveryEntry, RawNothingChanged, RawOnlyClosed, RawRefusedCall, RawRefusedUntouched, RawUntouched, RawOthersUntouched, RawOtherRecordsSound}
+use Rattle.peers.specs.ExportedCorollaries.{RawSameByAnyDivision, RawAnyDivision, rawMessage, ToldUpdate, RawEntryHeld, RawHeldWhenAcknowledged, answering, rawLastEntry, RawNoneUpdates, RawNeverUpdated, RawLastUpdate, RawBytesOfEveryEntry, ToldTable, RawDefinition, RawBytesOfDefinition, RawNothingChanged, RawOnlyClosed, RawRefusedCall, RawRefusedUntouched, RawUntouched, RawOthersUntouched, RawRefusedOpening, RawRefusedOpeningUntouched, RawOtherRecordsSound}
 use Rattle.peers.proofs.AsMade.{rawOf, madeBy, made-promised, made-same, madesBy, mades-chain, mades-same, values-told, refused-is}
 use Rattle.peers.proofs.ExportedDemand3.{same-reply, same-taken, same-session, same-store, exported-demand-3}
 
@@ -225,6 +228,82 @@ module _ (s : Session) (t : Store) (ms : List Made) (place : ℕ) (c : Chain s t
       earlier = u .earlier;
       stood = stood-is;
     }
+
+-- ---- the bytes of a definition
+
+-- the number 265 is a definition's alone
+defines : (a : Answer) → RefusedByte a → answerNumber a ≡ 265 → (place : ℕ) × (a ≡ answer.Table place)
+unfolding answerNumber
+defines answer.More h e = absurd (omega (arith, e))
+defines (answer.Hello process relative) h e = absurd (omega (arith, e))
+defines answer.Status h e = absurd (omega (arith, e))
+defines answer.Request h e = absurd (omega (arith, e))
+defines answer.Finished h e = absurd (omega (arith, e))
+defines answer.Partial h e = absurd (omega (arith, e))
+defines answer.Confirmed h e = absurd (omega (arith, e))
+defines answer.Heartbeat h e = absurd (omega (arith, e))
+defines (answer.Error type) h e = absurd (omega (arith, e))
+defines (answer.Table place) h e = (place, refl)
+defines (answer.Switch place) h e = absurd (omega (arith, e))
+defines (answer.Update table id entry how) h e = absurd (omega (arith, e))
+defines (answer.Acknowledgement id update) h e = absurd (omega (arith, e))
+defines (answer.Skipped type) h e = absurd (omega (arith, e))
+defines (answer.Refused n) h e = let l = h n refl in absurd (omega (arith, l, e))
+
+module _ (s : Session) (t : Store) (m : Made) (place : ℕ) (a : m .outcome .answer ≡ answer.Table place) where
+  table-answered : m ≡ answering (answer.Table place) (rawOf m)
+  unfolding rawOutcome
+  table-answered = λ i. record {
+    piece = m .piece;
+    room = m .room;
+    outcome = record { taken = m .outcome .taken; «reply_len» = m .outcome .«reply_len»; answer = a i };
+    session = m .session;
+    store = m .store;
+    final = m .final;
+  }
+
+  told-table : ToldTable (rawOf m) place
+  unfolding rawOutcome answerNumber answerValues
+  told-table = record { number = ap answerNumber a; values = values-told m ∙ ap answerValues a }
+
+  defined : ReadPromise s t m → RawDefinition s t (rawOf m)
+  defined p = record {
+    place = place;
+    told = told-table;
+    message =
+        subst (λ (x : Made). DefinitionMessage s t x place (bindingAt (m .session .connection) place .id) (tableAt m place)) table-answered
+        (bytes-of-definition s t m place p a);
+  }
+
+pub raw-bytes-of-definition : RawBytesOfDefinition
+unfolding rawOutcome
+raw-bytes-of-definition s t m p =
+    by-made (λ (x : RawMade). x .outcome .number ≡ 265 → RawDefinition s t x) s t m p
+    (λ e.
+    let made = madeBy s t m in
+    let promised = made-promised s t m p in
+    let d = defines (made .outcome .answer) (refused-byte s t made promised) e in
+    defined s t made (d .0) (d .1) promised)
+
+-- ---- a refused opening
+
+module _ (role : Role) (local remote room final : List ℕ) where
+  abbrev opening : Opening
+  opening = «open» role local remote (length room)
+
+  refused-numbers : final ≡ openRoom role local remote room → answerNumber (opening .answer) < 256 → RawRefusedOpening (rawOpened (openedOf opening)) room final
+  unfolding rawOpened rawOutcome openedOf
+  refused-numbers f l =
+      let r = refused-opening-untouched role local remote room (answerNumber (opening .answer)) (refused-is (opening .answer) l) in
+      record { taken = refl; number = r .number; session = r .session; count = ap length (r .reply); room = f ∙ r .room }
+
+pub raw-refused-opening-untouched : RawRefusedOpeningUntouched
+unfolding rawOpened rawOutcome openedOf
+raw-refused-opening-untouched role local remote room final o e f l =
+    subst (λ (x : RawOpened). RawRefusedOpening x room final) (sym e)
+    (refused-numbers role local remote room final f (subst (λ (x : RawOpened). x .outcome .number < 256) e l))
+
+-- ---- the bytes of every entry, along the calls
 
 pub raw-bytes-of-every-entry : RawBytesOfEveryEntry
 raw-bytes-of-every-entry s t calls place c =

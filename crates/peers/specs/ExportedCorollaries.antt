@@ -18,7 +18,7 @@ use Rattle.session.specs.declared.Answer.the-variants as answer
 use Rattle.session.specs.Answers.{commitNumber, refusalReply}
 use Rattle.session.specs.Session.{unfinished, bindingAt, holding, closedWith}
 use Rattle.session_soundness.specs.Sound.{sound}
-use Rattle.opening.specs.Opening.{Role, «open», openedOf}
+use Rattle.opening.specs.Opening.{Role, «open», openedOf, openRoom, refusedOpening}
 use Rattle.body.specs.Fields.{got, spanIn}
 use Rattle.body.specs.Bodies.{Update}
 use Rattle.message.specs.Effects.{acknowledge}
@@ -26,7 +26,7 @@ use Rattle.receiver.specs.Model.{replyRoom, isByte}
 use Rattle.receiver.specs.Promise.{Made}
 use Rattle.receiver.specs.Ledger.{isAcknowledgement}
 use Rattle.receiver.specs.Corollaries.{fieldsOf, closes}
-use Rattle.message_bytes.specs.MessageBytes.{UpdateMessage}
+use Rattle.message_bytes.specs.MessageBytes.{UpdateMessage, DefinitionMessage}
 use Rattle.peers.specs.declared.numbers.RawOpened.{RawOpened}
 use Rattle.peers.specs.Numbers.{rawOpened}
 use Rattle.peers.specs.Reading.{RawMade, RawPromise}
@@ -151,6 +151,23 @@ abbrev pub RawBytesOfEveryEntry : Type 0
 RawBytesOfEveryEntry =
     (s : Session) (t : Store) (calls : List RawMade) (place : ℕ) → RawChain s t calls → RawNeverUpdated t calls place ⊎ RawLastUpdate s t calls place
 
+-- the answer of a definition: its number is 265, its value the table's place
+pub record ToldTable (m : RawMade) (place : ℕ) : Type 0 where
+  pub number : m .outcome .number ≡ 265
+  pub values : rawValues m ≡ place ∷ []
+
+-- the message that the call ended is a definition: its body is the encoding of the ID and of the table that the call left at the answered place,
+-- and then ignored bytes
+pub record RawDefinition (s : Session) (t : Store) (m : RawMade) : Type 0 where
+  pub place : ℕ
+  pub told : ToldTable m place
+  pub message : DefinitionMessage s t (answering (answer.Table place) m) place (bindingAt (m .session .connection) place .id)
+      (getD (m .store .tables) place noTable)
+
+-- every call that answered a table, on any record and store
+abbrev pub RawBytesOfDefinition : Type 0
+RawBytesOfDefinition = (s : Session) (t : Store) (m : RawMade) → RawPromise s t m → m .outcome .number ≡ 265 → RawDefinition s t m
+
 -- ---- any refused call, on any record and store, sound or not, leaves tables and entries and the room past the reply as they were
 
 -- "A call's 1, 4 and 2 take nothing and change nothing"
@@ -186,6 +203,22 @@ pub record RawUntouched (t : Store) (m : RawMade) : Type 0 where
 abbrev pub RawOthersUntouched : Type 0
 RawOthersUntouched =
     (s : Session) (t : Store) (m : RawMade) → RawPromise s t m → (m .outcome .number ≡ 265 → ⊥) → (m .outcome .number ≡ 267 → ⊥) → RawUntouched t m
+
+-- ---- a refused opening, in either role, with any names and any room
+
+-- "1 and 3 in opening return a closed record with that number, all else empty or zero, .. and write nothing"
+pub record RawRefusedOpening (o : RawOpened) (before after : List ℕ) : Type 0 where
+  pub taken : o .outcome .taken ≡ 0
+  pub number : (o .outcome .number ≡ 1) ⊎ (o .outcome .number ≡ 3)
+  pub session : o .session ≡ refusedOpening (o .outcome .number)
+  pub count : o .outcome .«reply_len» ≡ 0
+  pub room : after ≡ before
+
+-- the premises on o and `final` are what `peers_open_answerer` and `peers_open_caller` ensure
+abbrev pub RawRefusedOpeningUntouched : Type 0
+RawRefusedOpeningUntouched =
+    (role : Role) (local remote room final : List ℕ) (o : RawOpened) → o ≡ rawOpened (openedOf («open» role local remote (length room)))
+    → final ≡ openRoom role local remote room → o .outcome .number < 256 → RawRefusedOpening o room final
 
 -- ---- several records and one store
 

@@ -238,7 +238,7 @@ module _ (role : Role) (local remote room : List ℕ) where
   unfolding «open»
   opens-names a b = cond-false (ltb (length room) 101) _ _ a ∙ cond-false (nameOk local && nameOk remote) _ _ b
 
-  opens-accepted : ltb (length room) 101 ≡ false → (nameOk local && nameOk remote) ≡ true → opening ≡ accept role local remote
+  pub opens-accepted : ltb (length room) 101 ≡ false → (nameOk local && nameOk remote) ≡ true → opening ≡ accept role local remote
   unfolding «open»
   opens-accepted a b = cond-false (ltb (length room) 101) _ _ a ∙ cond-true (nameOk local && nameOk remote) _ _ b
 
@@ -250,6 +250,7 @@ module _ (role : Role) (local remote room : List ℕ) where
       record {
         number = subst (λ (j : ℕ). (j ≡ 1) ⊎ (j ≡ 3)) e h;
         session = ap (λ (x : Opening). x .session) q ∙ ap refusedOpening e;
+        reply = ap (λ (x : Opening). x .reply) q;
         room = ap (λ (x : Opening). front (x .reply) room) q ∙ no-front room;
       }
 

@@ -132,6 +132,7 @@ OthersUntouched =
 pub record RefusedOpening (role : Role) (local remote before : List ℕ) (n : ℕ) : Type 0 where
   pub number : (n ≡ 1) ⊎ (n ≡ 3)
   pub session : «open» role local remote (length before) .session ≡ refusedOpening n
+  pub reply : «open» role local remote (length before) .reply ≡ []
   pub room : openRoom role local remote before ≡ before
 
 abbrev pub RefusedOpeningUntouched : Type 0

@@ -17,7 +17,7 @@ use Rattle.session.specs.declared.Session.{Session}
 abbrev pub unfinishedMax : ℕ
 unfinishedMax = 1027
 
--- the bytes of a record's buffer, of which those past the limit are never used: with them the record has no padding
+-- the bytes of a record's buffer: those past the limit are never unfinished; with them the record has no padding
 abbrev pub bufferSize : ℕ
 bufferSize = 1032
 

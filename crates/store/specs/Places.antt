@@ -1,10 +1,6 @@
 -- Where an entry goes.
-use Prim.Native.Nat.{ℕ}
-use mathlib.Core.Bool.{cond}
-use lib.Dec.{eqb}
 use Rattle.lists.specs.declared.Found.{Found}
 use Rattle.lists.specs.declared.Found.the-variants as found
-use Rattle.store.specs.Limits.{entryPlaces}
 use Rattle.store.specs.declared.entries.Place.{Place}
 use Rattle.store.specs.declared.entries.Place.the-variants as place
 
@@ -17,12 +13,3 @@ freeOf found.Nothing = place.Full
 unfoldable pub placeOf : Found → Found → Place
 placeOf (found.At i) free = place.Held i
 placeOf found.Nothing free = freeOf free
-
--- ---- a lowest free place as a number, which is the count of places where there is none
-
--- with one place more, the place i
-unfoldable pub nextFree : ℕ → ℕ → ℕ → ℕ
-nextFree free held i = cond (eqb free entryPlaces) (cond (eqb held 0) i entryPlaces) free
-
-unfoldable pub freePlace : ℕ → Place
-freePlace free = cond (eqb free entryPlaces) place.Full (place.Free free)

@@ -1,6 +1,5 @@
-// A store's entries tested and looked up behind a reference. They are copied only where two hashes are equal.
+// A store's entries tested and looked up behind a reference. All of them are copied only where two hashes are equal.
 use lists::Found;
-use message::commit::place_of;
 use store::ENTRIES;
 use store::Entry;
 use store::KEY_MAX;
@@ -8,22 +7,22 @@ use store::Store;
 use store::TABLES;
 use store::Table;
 use store::entries::Place;
+use store::tables::entry_of;
 use store_soundness::codes::all_sound;
 use store_soundness::codes::code_place;
 use store_soundness::codes::entry_code;
 use store_soundness::hashes::HASH_END;
 use store_soundness::hashes::hashes_distinct;
 use store_soundness::hashes::held_hash;
-use store_soundness::keys::entry_keyed;
 use store_soundness::keys::keys_distinct;
 ghost use mathlib.Core.Path.{_≡_};
 ghost use mathlib.Core.List.{map};
 ghost use Rattle.lists.specs.Lists.{firstPlace};
 ghost use Rattle.store_soundness.specs.Hashes.{hashEnd};
 ghost use Rattle.store_soundness.specs.Codes.{entryCode, isCode};
-ghost use Rattle.store.specs.Places.{freeOf};
+ghost use Rattle.store.specs.Places.{freeOf, placeOf};
 ghost use Rattle.message.specs.Targets.{keyedAs};
-ghost use Rattle.store_scan.specs.Scan.{Scans, Candidates, ScansByHashes, ScansByKeys};
+ghost use Rattle.store_scan.specs.Scan.{Scans, Hashed, mayEqual, Coded, ScansByHashes, ScansByKeys};
 
 // What a scan is asked: the tables that the entries are tested with, and an entry whose place is looked for.
 pub struct Query {
@@ -31,10 +30,10 @@ pub struct Query {
     pub entry: Entry,
 }
 
-// Whether two hashes are equal, and a place that has the hash of the sought key if any place has it.
-struct Candidate {
-    hashes_equal: bool,
-    place: usize,
+// Whether two hashes are equal, and the hash of the sought key.
+struct KeyHashes {
+    equal: bool,
+    sought: u32,
 }
 
 // Whether all entries are sound and no two have one table and key; and if so, where the sought entry goes.
@@ -60,34 +59,59 @@ fn codes_of(store: &Store, tables: [Table; TABLES]) -> [u32; ENTRIES]
     codes
 }
 
-// Where the sought key stands, if it is held and no two hashes are equal.
-fn candidate_place(entry: Entry, codes: [u32; ENTRIES]) -> Candidate
-    ensures { λ r. ⌜ Candidates entry codes r ⌝ }
+// Whether two hashes are equal, and the hash of the sought key.
+fn key_hashes(entry: Entry, codes: [u32; ENTRIES]) -> KeyHashes
+    ensures { λ r. ⌜ Hashed entry codes r ⌝ }
 {
     let apart = hashes_distinct(codes);
-    let hash = held_hash(entry);
-    match code_place(codes, hash) {
-        Found::At(place) => Candidate {
-            hashes_equal: !apart,
-            place,
-        },
-        Found::Nothing => Candidate {
-            hashes_equal: !apart,
-            place: 0,
-        },
+    let sought = held_hash(entry);
+    KeyHashes {
+        equal: !apart,
+        sought,
     }
 }
 
-// Whether e is held with the table and key of an entry.
-fn keyed_as(entry: Entry, e: Entry) -> bool
-    ensures { λ r. ⌜ r ≡ keyedAs entry e ⌝ }
+// Whether e is held with the table of an entry and with a key as long as its key.
+fn may_equal(entry: Entry, e: Entry) -> bool
+    ensures { λ r. ⌜ r ≡ mayEqual entry e ⌝ }
 {
     let n = entry.key_len;
     if KEY_MAX < n {
         return false;
     }
+    entry_of(e, entry.table, n)
+}
+
+// The lowest place held with the table and the key of an entry. A place with another code than the key's hash is passed without a look
+// at its entry: each entry with the key has this code where the entries are sound.
+fn held_place(store: &Store, entry: Entry, hash: u32, codes: [u32; ENTRIES]) -> Found
+    ensures { λ r. ⌜ (Coded entry hash codes (now (store .entry) .entries) → r ≡ firstPlace (keyedAs entry) (now (store .entry) .entries)) ⌝ }
+{
+    let n = entry.key_len;
     let key = entry.key;
-    entry_keyed(e, entry.table, &key[..n])
+    let mut i = 0;
+    'entries: loop {
+        if ENTRIES <= i {
+            break 'entries Found::Nothing;
+        }
+        if codes[i] == hash {
+            let e = store.entries[i];
+            if may_equal(entry, e) {
+                let bytes = e.key;
+                let mut j = 0;
+                'bytes: loop {
+                    if n <= j {
+                        break 'entries Found::At(i);
+                    }
+                    if bytes[j] != key[j] {
+                        break 'bytes;
+                    }
+                    j += 1;
+                }
+            }
+        }
+        i += 1;
+    }
 }
 
 // The first place with the code of a free one.
@@ -100,28 +124,30 @@ fn lowest_free(codes: [u32; ENTRIES]) -> Place
     }
 }
 
-// Where no two hashes are equal: the sought entry is e, at the candidate place, or isn't held.
-fn by_hashes(query: Query, codes: [u32; ENTRIES], place: usize, e: Entry) -> Scanned
-    ensures { λ r. ⌜ ScansByHashes query codes place e r ⌝ }
+// Where the sought entry goes, which is found among the held ones or not.
+fn place_from(found: Found, codes: [u32; ENTRIES]) -> Place
+    ensures { λ r. ⌜ r ≡ placeOf found (firstPlace (isCode hashEnd) codes) ⌝ }
 {
-    let sound = all_sound(codes);
-    let entry = query.entry;
-    if keyed_as(entry, e) {
-        return Scanned {
-            sound,
-            place: Place::Held(place),
-        };
+    match found {
+        Found::At(i) => Place::Held(i),
+        Found::Nothing => lowest_free(codes),
     }
-    let free = lowest_free(codes);
-    Scanned { sound, place: free }
 }
 
-// Where two hashes are equal: all keys are compared.
-fn by_keys(query: Query, codes: [u32; ENTRIES], entries: [Entry; ENTRIES]) -> Scanned
-    ensures { λ r. ⌜ ScansByKeys query codes entries r ⌝ }
+// Where no two hashes are equal, no two keys are.
+fn by_hashes(codes: [u32; ENTRIES], found: Found) -> Scanned
+    ensures { λ r. ⌜ ScansByHashes codes found r ⌝ }
 {
-    let entry = query.entry;
-    let place = place_of(entries, entry);
+    let sound = all_sound(codes);
+    let place = place_from(found, codes);
+    Scanned { sound, place }
+}
+
+// Where two hashes are equal, all keys are compared.
+fn by_keys(codes: [u32; ENTRIES], found: Found, entries: [Entry; ENTRIES]) -> Scanned
+    ensures { λ r. ⌜ ScansByKeys codes found entries r ⌝ }
+{
+    let place = place_from(found, codes);
     if !all_sound(codes) {
         return Scanned {
             sound: false,
@@ -139,11 +165,11 @@ pub fn scan(store: &Store, query: Query) -> Scanned
     let tables = query.tables;
     let codes = codes_of(store, tables);
     let entry = query.entry;
-    let candidate = candidate_place(entry, codes);
-    if candidate.hashes_equal {
+    let hashes = key_hashes(entry, codes);
+    let found = held_place(store, entry, hashes.sought, codes);
+    if hashes.equal {
         let entries = store.entries;
-        return by_keys(query, codes, entries);
+        return by_keys(codes, found, entries);
     }
-    let e = store.entries[candidate.place];
-    by_hashes(query, codes, candidate.place, e)
+    by_hashes(codes, found)
 }

@@ -1,10 +1,11 @@
 -- The listing's stream, in any division, gives the listing; and it can be offered in every cutting.
-use Prim.Native.Nat.{ℕ}
+use Prim.Native.Nat.{ℕ, _≤_}
 use mathlib.Core.Path.{_≡_, refl, sym, ap, _∙_}
 use mathlib.Core.Bool.{true, false, _||_}
 use mathlib.Core.List.{List, [], _∷_, flatten}
 use lib.ListN.{length}
 use lib.Dec.{eqb}
+use borrow.Author.Tests.{le-ltb}
 use Rattle.lists.specs.Lists.{every}
 use Rattle.lists.proofs.Cases.{cond-false, and-first, and-second, and-intro}
 use Rattle.lists.proofs.Every.{every-nil, every-cons, every-append}
@@ -18,7 +19,7 @@ use Rattle.session.specs.declared.Answer.{Answer}
 use Rattle.session.specs.Session.{unfinished, isClosed, holding}
 use Rattle.session_soundness.specs.Sound.{sound}
 use Rattle.session_soundness.proofs.Records.{sound-both}
-use Rattle.opening.specs.Opening.{answerer, opened, newConnection}
+use Rattle.opening.specs.Opening.{answerer, openingRoom, Opening, «open», opened, newConnection}
 use Rattle.opening.proofs.SoundOpening.{opened-sound}
 use Rattle.opening.proofs.ShapedOpening.{opened-shape}
 use Rattle.streams.specs.Calls.{Result}
@@ -28,6 +29,7 @@ use Rattle.receiver.specs.Demand3.{Chain, OffersTo, cameTo}
 use Rattle.worked_cases.specs.Cases.{hello, east, west}
 use Rattle.worked_cases.specs.Listing.{listing, listedResult, listedState}
 use Rattle.worked_cases.specs.ListingCalls.{ListingCame, ListingByCalls, ListingOffered}
+use Rattle.receiver.proofs.Acknowledging.{opens-accepted}
 use Rattle.receiver.proofs.Demand3.{demand-3}
 use Rattle.worked_cases.proofs.ListingHolds.{listing-holds}
 
@@ -37,6 +39,11 @@ start = opened answerer east west
 names-ok : (nameOk east ≡ true) × (nameOk west ≡ true)
 unfolding nameOk within east west
 names-ok = (refl, refl)
+
+pub opening-accepted : (room : List ℕ) → openingRoom ≤ length room → «open» answerer east west (length room) .session ≡ start
+opening-accepted room l =
+    ap (λ (x : Opening). x .session)
+    (opens-accepted answerer east west room (le-ltb (length room) openingRoom l) (and-intro (nameOk east) (nameOk west) (names-ok .0) (names-ok .1)))
 
 start-sound : sound start emptyStore ≡ true
 start-sound = sound-both start emptyStore empty-sound (opened-sound (emptyStore .tables) answerer east west (names-ok .0) (names-ok .1))
@@ -80,7 +87,9 @@ cut-bytes (c ∷ cs) h =
     every-cons (every isByte) c cs
     ∙ and-intro (every isByte c) (every (every isByte) cs) (and-first (every isByte c) _ k) (cut-bytes cs (and-second (every isByte c) _ k))
 
+pub listing-cut : (cuts : List (List ℕ)) → flatten cuts ≡ listing → every (every isByte) cuts ≡ true
+listing-cut cuts e = cut-bytes cuts (ap (every isByte) e ∙ listing-bytes)
+
 pub listing-offered : ListingOffered
 unfolding Chain
-listing-offered cuts room e l =
-    demand-3 start emptyStore [] start-sound tt .exists start-shaped cuts room (cut-bytes cuts (ap (every isByte) e ∙ listing-bytes)) l
+listing-offered cuts room e l = demand-3 start emptyStore [] start-sound tt .exists start-shaped cuts room (listing-cut cuts e) l

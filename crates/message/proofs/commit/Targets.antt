@@ -1,29 +1,23 @@
 -- The place that an entry is committed at, and what was asked done: a law for each way to a result.
-use Prim.Native.Nat.{ℕ, _+_, _≤_, _<_}
-use native.Mathlib.Omega.{arith}
-use mathlib.Core.Path.{_≡_, refl, sym, ap, subst, _∙_}
-use mathlib.Core.Logic.{⊎-elim}
+use Prim.Native.Nat.{ℕ, _≤_}
+use mathlib.Core.Path.{_≡_, refl, sym, ap, _∙_}
 use mathlib.Core.Bool.{Bool, true, false, not, cond}
-use mathlib.Core.List.{List, [], _∷_}
-use lib.ListN.{length, getD, take}
-use lib.Seq.{length-take-le, take-take}
+use mathlib.Core.List.{List}
+use lib.ListN.{getD}
 use borrow.Author.Needs.{needs}
 use lib.Dec.{leb}
-use borrow.Author.Tests.{lt-ltb, le-ltb, le-leb, lt-leb, not-true, not-false}
+use borrow.Author.Tests.{le-leb, not-true, not-false}
 use Rattle.lists.specs.declared.Found.{Found}
-use Rattle.lists.specs.declared.Found.the-variants as found
-use Rattle.lists.specs.Lists.{firstFrom, firstPlace, padTo}
-use Rattle.lists.proofs.Cases.{by-test, never, cond-true, cond-false, and-true, and-false, lt-or-le}
-use Rattle.lists.proofs.Bytes.{pad-length, pad-take}
-use Rattle.lists.proofs.Every.{getD-any}
-use Rattle.lists.proofs.Places.{first-none, first-agree}
+use Rattle.lists.specs.Lists.{firstPlace}
+use Rattle.lists.proofs.Cases.{never, cond-true, cond-false, and-true}
+use Rattle.lists.proofs.Places.{first-agree}
 use Rattle.store.specs.declared.Entry.{Entry}
 use Rattle.store.specs.declared.Store.{Store}
-use Rattle.store.specs.Store.{entryKeyed, entryFree, keyOf, findEntry, freeEntry}
-use Rattle.store.proofs.Lookup.{blankEntry, long-key, Keys, array-keys}
+use Rattle.store.specs.Store.{entryKeyed, entryFree, keyOf}
+use Rattle.store.proofs.Lookup.{blankEntry}
 use Rattle.store.specs.declared.entries.Place.{Place}
 use Rattle.store.specs.declared.entries.Place.the-variants as place
-use Rattle.store.specs.Places.{freeOf, placeOf}
+use Rattle.store.specs.Places.{placeOf}
 use Rattle.session.specs.declared.Connection.{Connection}
 use Rattle.session.specs.declared.Commit.the-variants as commit
 use Rattle.message.specs.declared.Effect.{Effect as EffectStruct}
@@ -31,78 +25,14 @@ use Rattle.message.specs.declared.Asked.{Asked}
 use Rattle.message.specs.Effects.{Asks, does, commits, refuse, commitAt, commitEntry, done}
 use Rattle.message.specs.Structs.{effectStruct, asksNothing, asksCommit, asked, finished}
 use Rattle.message.specs.declared.commit.Target.{Target}
-use Rattle.message.specs.Targets.{lookedUp, keyedAs, goesTo, targetOf}
-
--- ---- the bytes that a key is looked up by
-
-module _ (n : ℕ) where
-  pub one-more : 64 < n → 65 ≡ lookedUp n
-  unfolding lookedUp
-  one-more l = sym (cond-true _ _ _ (lt-ltb 64 n l))
-
-  pub as-many : n ≤ 64 → n ≡ lookedUp n
-  unfolding lookedUp
-  as-many l = sym (cond-false _ _ _ (le-ltb 64 n l))
-
-  few : lookedUp n ≤ 65
-  few = ⊎-elim (λ l. omega (arith, one-more l)) (λ l. omega (arith, as-many l)) (lt-or-le 64 n)
+use Rattle.message.specs.Targets.{keyedAs, goesTo, targetOf}
 
 -- ---- the place
-
--- a key longer than any is no entry's
-long-none : (entries : List Entry) (table : ℕ) (key : List ℕ) → Keys entries → 64 < length key → firstPlace (entryKeyed table key) entries ≡ found.Nothing
-long-none entries table key h l =
-    first-none (entryKeyed table key) entries
-    (λ j d m.
-    let n : j < 128 = omega (arith, h .count) in
-    rw (getD-any entries j d blankEntry m) (long-key (getD entries j blankEntry) table key (omega (arith, h .long j n))))
 
 -- every entry's key has its length and its bytes
 keyed-short : (entry e : Entry) → entry .«key_len» ≤ 64 → keyedAs entry e ≡ entryKeyed (entry .table) (keyOf entry) e
 unfolding keyedAs
 keyed-short entry e l = and-true (leb (entry .«key_len») 64) _ (le-leb (entry .«key_len») 64 l)
-
-keyed-long : (entry e : Entry) → 64 < entry .«key_len» → keyedAs entry e ≡ false
-unfolding keyedAs
-keyed-long entry e l = and-false (leb (entry .«key_len») 64) _ (lt-leb (entry .«key_len») 64 l)
-
--- a key that is the entry's, or is as long as the entry's where that is longer than the longest
-found-by : (entries : List Entry) (entry : Entry) (key : List ℕ) → Keys entries → (entry .«key_len» ≤ 64 → keyOf entry ≡ key)
-    → (64 < entry .«key_len» → 64 < length key) → firstPlace (entryKeyed (entry .table) key) entries ≡ firstPlace (keyedAs entry) entries
-found-by entries entry key h short long =
-    ⊎-elim
-    (λ l.
-    long-none entries (entry .table) key h (long l)
-    ∙ sym (first-none (keyedAs entry) entries (λ j d m. keyed-long entry (getD entries j d) l)))
-    (λ l.
-    ap (λ (k : List ℕ). firstPlace (entryKeyed (entry .table) k) entries) (sym (short l))
-    ∙ first-agree (entryKeyed (entry .table) (keyOf entry)) (keyedAs entry) blankEntry blankEntry entries entries refl
-    (λ k m. sym (keyed-short entry (getD entries k blankEntry) l)))
-    (lt-or-le 64 (entry .«key_len»))
-
--- where m bytes of b are lent, b being 65 bytes with the entry's in front
-module _ (entries : List Entry) (e : Entry) (z : length (e .key) ≡ 64) (m : ℕ) (p : m ≡ lookedUp (e .«key_len»)) (b : List ℕ) (q : b ≡ padTo 65 (e .key)) where
-  pub prefix-inside : m ≤ length b
-  prefix-inside = omega (arith, p, few (e .«key_len»), ap length q ∙ pad-length 65 (e .key))
-
-  pub prefix-size : m ≡ length (take m b)
-  prefix-size = sym (length-take-le m b prefix-inside)
-
-  short-key : e .«key_len» ≤ 64 → keyOf e ≡ take m b
-  unfolding keyOf
-  short-key l =
-      let n : m ≡ e .«key_len» = p ∙ sym (as-many (e .«key_len») l) in
-      let held : take 64 (padTo 65 (e .key)) ≡ e .key = sym (ap (λ (k : ℕ). take k (padTo 65 (e .key))) z) ∙ pad-take 65 (e .key) (omega arith) in
-      ap (take (e .«key_len»)) (sym held) ∙ (take-take (e .«key_len») 64 (padTo 65 (e .key)) l ∙ sym (rw (n, q) refl))
-
-  long-key-length : 64 < e .«key_len» → 64 < length (take m b)
-  long-key-length l = let n : m ≡ 65 = p ∙ sym (one-more (e .«key_len») l) in omega (arith, prefix-size)
-
-  pub goes : Keys entries → (r : Place) → r ≡ placeOf (firstPlace (entryKeyed (e .table) (take m b)) entries) (firstPlace entryFree entries) → r ≡ goesTo entries e
-  unfolding goesTo
-  goes h r y = y ∙ ap (λ (f : Found). placeOf f (firstPlace entryFree entries)) (found-by entries e (take m b) h short-key long-key-length)
-
-pub ruleset placing = (needs, one-more, as-many, prefix-inside, prefix-size, array-keys, goes)
 
 -- where the entry of a table and a key goes
 pub goes-by-key : (entries : List Entry) (e : Entry) (table : ℕ) (key : List ℕ) → e .«key_len» ≤ 64 → e .table ≡ table → keyOf e ≡ key
