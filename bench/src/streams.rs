@@ -81,7 +81,7 @@ pub const BY_LENGTH: [(usize, u64); 3] = [(1, 200), (5, 1_000_000_000), (10, u64
 
 /// As `filling(1)`, where the table has bytes in and bytes out.
 pub fn traffic_filling(value: u64) -> Vec<u8> {
-    let mut body = vec![1, 1, b'a', 3, 64];
+    let mut body = vec![1, 1, b'a', KeyType::String.number(), 64];
     body.extend(int(1 << 13 | 1 << 15));
     [HELLO, &message(130, &body), &traffic(0, value)].concat()
 }
