@@ -61,11 +61,11 @@ static inline int peers_matches(void) { return peers_version() == PEERS_VERSION 
 
 /* The numbers that peers send, with the key lengths that a table of this type may have. */
 enum peers_key_type {
-    PEERS_KEY_INTEGER = 2, /* 4 */
-    PEERS_KEY_IPV4 = 4,    /* 4 */
-    PEERS_KEY_IPV6 = 5,    /* 16 */
-    PEERS_KEY_STRING = 6,  /* 1 to PEERS_KEY_MAX, the largest of its keys */
-    PEERS_KEY_BINARY = 7   /* 1 to PEERS_KEY_MAX */
+    PEERS_KEY_INTEGER = 2, /* keys of 4 bytes */
+    PEERS_KEY_IPV4 = 4,    /* of 4 */
+    PEERS_KEY_IPV6 = 5,    /* of 16 */
+    PEERS_KEY_STRING = 6,  /* of 1 to PEERS_KEY_MAX, the largest of its keys */
+    PEERS_KEY_BINARY = 7   /* of 1 to PEERS_KEY_MAX */
 };
 
 /* Data type t is bit t of a table's data types. */

@@ -32,7 +32,7 @@ pub record Shape : Type 0 where
   pub keyLength : ℕ
   pub dataTypes : ℕ
 
--- "0, 1, 3 and all above 7 are 24, in the key type's place"
+-- request 1: "0, 1, 3 and all above 7 are 24, in the key type's place"
 unfoldable pub isKeyType : ℕ → Bool
 isKeyType n = isKnown (keyKind n)
 

@@ -18,7 +18,7 @@ use Rattle.body.specs.Encodings.{messageBytes, bodyStart, eachBytes, key
 
 -- ---- definition
 
--- "The listing": `01 02 74 31 02 04 04 F0 97 1C`
+-- "The listing", with the key type of request 1: `01 02 74 31 02 04 04 F0 97 1C`
 abbrev listed : List ℕ
 listed = 0x01 ∷ 0x02 ∷ 0x74 ∷ 0x31 ∷ 0x02 ∷ 0x04 ∷ 0x04 ∷ 0xF0 ∷ 0x97 ∷ 0x1C ∷ []
 
@@ -232,7 +232,7 @@ tableT1 types timed expiry periods = record {
 }
 
 record EncodingExamples : Type 0 where
-  -- "The listing": `0A 82 0A 01 02 74 31 02 04 04 F0 97 1C`, `0A 80 0B FF FF FF FF 00 00 00 2A F4 94 01`, `0A 81 05 00 00 00 2A 05`
+  -- "The listing", with the key type of request 1: `0A 82 0A 01 02 74 31 02 04 04 F0 97 1C`, `0A 80 0B FF FF FF FF 00 00 00 2A F4 94 01`, `0A 81 05 00 00 00 2A 05`
   definition : messageBytes 130 (definitionBytes 1 (tableT1 4 1 60000 (replicate 8 0))) ≡ 0x0A ∷ 0x82 ∷ 0x0A ∷ listed
   update : messageBytes 128 (updateBytes (table 2 4 4) 4294967295 (entry42 (pos 0) (0 ∷ 4660 ∷ replicate 32 0))) ≡ 0x0A ∷ 0x80 ∷ 0x0B ∷ update
   incremental : messageBytes 129 (incrementalBytes (table 2 4 4) (entry42 (pos 0) (0 ∷ 5 ∷ replicate 32 0))) ≡ 0x0A ∷ 0x81 ∷ 0x05 ∷ keyed (0x05 ∷ [])

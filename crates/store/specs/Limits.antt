@@ -1,4 +1,4 @@
--- The numbers of document 01 that concern tables and entries, and the layout of an entry's values.
+-- The numbers of document 01, and of request 1 of document 02, that concern tables and entries, and the layout of an entry's values.
 use Prim.Native.Nat.{ℕ, _/_, _%_, _^_}
 use mathlib.Core.List.{List, [], _∷_, _++_}
 use mathlib.Core.Bool.{Bool, true, false, cond, _&&_}
@@ -32,7 +32,7 @@ valueCount = 34
 
 -- ---- key types
 
--- "send 2 for integer, 4 for IPv4, 5 for IPv6, 6 for string and 7 for binary. .. 0, 1, 3 and all above 7 are 24"
+-- request 1: "send 2 for integer, 4 for IPv4, 5 for IPv6, 6 for string and 7 for binary"; "0, 1, 3 and all above 7 are 24"
 unfoldable pub keyKind : ℕ → KeyKind
 keyKind n =
     cond (eqb n 2) Integer
@@ -41,7 +41,7 @@ keyKind n =
     (cond (eqb n 6) Str
     (cond (eqb n 7) Binary Unknown))))
 
--- the number of a kind; 0 is that of none
+-- the number of a kind; Unknown has 0, which is no key type
 unfoldable pub keyTypeOf : KeyKind → ℕ
 keyTypeOf Integer = 2
 keyTypeOf Ipv4 = 4

@@ -18,7 +18,7 @@ pub enum KeyKind {
     Unknown,
 }
 
-// The kind of a key type's number; no other function looks at the number.
+// The kind of a key type's number; no other function knows the numbers.
 pub fn key_kind(key_type: u32) -> KeyKind
     ensures { λ r. ⌜ r ≡ keyKind «key_type» ⌝ }
 {

@@ -1,4 +1,4 @@
--- The listing's stream of document 01, with its answers, replies and end state.
+-- The listing's stream of document 01, with the key type of request 1, and its answers, replies and end state.
 use Prim.Native.Nat.{ℕ}
 use mathlib.Core.List.{List, [], _∷_, _++_}
 use lib.ListN.{replicate}

@@ -20,7 +20,7 @@ use Rattle.body.proofs.FieldLaws.{same-integer, field-got}
 use Rattle.body.proofs.Taken.{integer-passed, between-high}
 
 -- ---- `is_key_type`
-pub no-type : (n : ℕ) → 255 < n → false ≡ isKeyType n
+pub no-type : (n : ℕ) → 0xffffffff < n → false ≡ isKeyType n
 unfolding isKeyType
 no-type n h = sym (not-passed (isKnown (keyKind n)) λ k. let z : ⊥ = omega (arith, known-small n k) in z)
 
