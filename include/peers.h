@@ -10,8 +10,11 @@
  * stack, an empty store by value 140 KB.
  *
  * No struct has padding: its bytes are those of its fields. So a record, a store, an outcome and what opening gives back can be compared
- * with memcmp, hashed, or saved as bytes and lent again to an archive of the same PEERS_LAYOUT. Bytes that have no meaning are compared
- * too: calls write zeros there, but a place that the host freed keeps what it held.
+ * with memcmp, hashed, or saved as bytes and lent again to an archive of the same PEERS_VERSION and PEERS_LAYOUT. Bytes that have no
+ * meaning are compared too: calls write zeros there, but a place that the host freed keeps what it held.
+ *
+ * A store that was kept from an older archive may be refused with 4 in every call, or its keys may be taken for another type: start with an
+ * empty store and resynchronise.
  */
 #ifndef PEERS_H
 #define PEERS_H
@@ -25,7 +28,7 @@ extern "C" {
 
 /* ---- version */
 
-#define PEERS_VERSION 1 /* of the calls: their names, parameters, numbers and meaning */
+#define PEERS_VERSION 2 /* of the calls: their names, parameters, numbers and meaning */
 #define PEERS_LAYOUT 2  /* of the structs: their fields, order and sizes */
 
 /* The archive's version times 65,536 plus its layout. */
@@ -56,12 +59,13 @@ static inline int peers_matches(void) { return peers_version() == PEERS_VERSION 
  * and give each connection that has it bound or updated a new record before the next call.
  */
 
+/* The numbers that peers send, with the key lengths that a table of this type may have. */
 enum peers_key_type {
-    PEERS_KEY_INTEGER = 0,
-    PEERS_KEY_IPV4 = 1,
-    PEERS_KEY_IPV6 = 2,
-    PEERS_KEY_STRING = 3,
-    PEERS_KEY_BINARY = 4
+    PEERS_KEY_INTEGER = 2, /* keys of 4 bytes */
+    PEERS_KEY_IPV4 = 4,    /* of 4 */
+    PEERS_KEY_IPV6 = 5,    /* of 16 */
+    PEERS_KEY_STRING = 6,  /* of 1 to PEERS_KEY_MAX, the largest of its keys */
+    PEERS_KEY_BINARY = 7   /* of 1 to PEERS_KEY_MAX */
 };
 
 /* Data type t is bit t of a table's data types. */

@@ -212,7 +212,7 @@ fn second_record(session: &peers::Session) -> Record {
 fn second_table(table: peers::Table) -> second::store::Table {
     second::store::Table {
         name: table.name().to_vec(),
-        key_type: table.key_type().map_or(u64::MAX, |t| t as u64),
+        key_type: table.key_type().map_or(u64::MAX, |t| t.number().into()),
         key_length: table.key_len() as u64,
         data_types: table
             .data_types()

@@ -1,5 +1,7 @@
 //! Streams to measure on.
 
+use peers::KeyType;
+
 /// The hello of `west` to `east`.
 pub const HELLO: &[u8] = b"HAProxyS 2.1\neast\nwest 7 0\n";
 
@@ -26,7 +28,7 @@ pub fn message(kind: u8, body: &[u8]) -> Vec<u8> {
 /// A definition of a table of strings with connection and request counters and rates, as rate limiting has it.
 pub fn definition(id: u32) -> Vec<u8> {
     let mut body = int(id.into());
-    body.extend([1, b'a' + id as u8, 3, 64]);
+    body.extend([1, b'a' + id as u8, KeyType::String.number(), 64]);
     body.extend(int(1 << 4 | 1 << 5 | 1 << 9 | 1 << 10));
     for time in [60_000, 5, 10_000, 10, 10_000] {
         body.extend(int(time));
@@ -79,7 +81,7 @@ pub const BY_LENGTH: [(usize, u64); 3] = [(1, 200), (5, 1_000_000_000), (10, u64
 
 /// As `filling(1)`, where the table has bytes in and bytes out.
 pub fn traffic_filling(value: u64) -> Vec<u8> {
-    let mut body = vec![1, 1, b'a', 3, 64];
+    let mut body = vec![1, 1, b'a', KeyType::String.number(), 64];
     body.extend(int(1 << 13 | 1 << 15));
     [HELLO, &message(130, &body), &traffic(0, value)].concat()
 }

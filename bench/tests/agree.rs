@@ -99,6 +99,20 @@ fn on_keys_of_which_two_have_one_mark() {
 }
 
 #[test]
+fn on_every_key_type_with_every_length() {
+    let numbers = (0..10).chain([239, 240, 255, 256 + 2, (1 << 32) + 2, u64::MAX]);
+    let lengths = || (0..70).chain([256 + 4, (1 << 32) + 4, u64::MAX]);
+    for (number, key_len) in numbers.flat_map(|n| lengths().map(move |len| (n, len))) {
+        let mut all = All::open(Role::Answerer);
+        all.take(HELLO);
+        let body = [&[1, 1, b't'], &int(number)[..], &int(key_len), &[0]].concat();
+        all.take(&message(130, &body));
+        // a string's key has its length in front, and no other has
+        all.call(&message(128, &[[0; 4].as_slice(), &[4; 5]].concat()), 12);
+    }
+}
+
+#[test]
 fn on_generated_scripts() {
     let calls: usize = (1..=1700).map(|seed| replay(&generate::stream(seed))).sum();
     assert!(calls > 40_000, "{calls} calls");

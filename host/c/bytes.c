@@ -61,7 +61,7 @@ struct piece {
 static const struct piece pieces[] = {
     {"HAProxyS 2.1\neast\nwe", 20, PEERS_MORE},
     {"st 7 0\n", 7, PEERS_HELLO},
-    {"\x0A\x82\x0A\x01\x02t1\x00\x04\x04\xF0\x97\x1C", 13, PEERS_TABLE},
+    {"\x0A\x82\x0A\x01\x02t1\x02\x04\x04\xF0\x97\x1C", 13, PEERS_TABLE},
     {"\x0A\x80\x09\x00\x00\x00\x09keyt\x07", 12, PEERS_UPDATE},
     {"\x0A\x81\x05", 3, PEERS_MORE},
     {"keyt\x08", 5, PEERS_UPDATE},

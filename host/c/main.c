@@ -9,6 +9,7 @@ int main(int argc, char **argv) {
         test_opening();
         test_bytes();
         test_listing();
+        test_definition();
         test_unsound();
         test_random();
         test_freeing();

@@ -59,7 +59,7 @@ static size_t stack_of(void *(*function)(void *), void *argument) {
 static void print_readings(struct state state, size_t thread) {
     struct reading readings[] = {
         {"hello", "HAProxyS 2.1\neast\nwest 7 0\n", 27, PEERS_HELLO, state},
-        {"definition", "\x0A\x82\x06\x01\x01t\x00\x04\x04", 9, PEERS_TABLE, state},
+        {"definition", "\x0A\x82\x06\x01\x01t\x02\x04\x04", 9, PEERS_TABLE, state},
         {"update", "\x0A\x80\x09\x00\x00\x00\x09keyt\x07", 12, PEERS_UPDATE, state},
         {"incremental", "\x0A\x81\x05keyt\x08", 8, PEERS_UPDATE, state},
     };

@@ -96,6 +96,16 @@ void offer(struct state state, const uint8_t *bytes, size_t len, void (*told)(co
     }
 }
 
+const struct key_lengths key_lengths[KEY_TYPES] = {
+    {PEERS_KEY_INTEGER, 4, 4}, {PEERS_KEY_IPV4, 4, 4}, {PEERS_KEY_IPV6, 16, 16}, {PEERS_KEY_STRING, 1, 64}, {PEERS_KEY_BINARY, 1, 64},
+};
+
+bool is_key_type(uint64_t number) {
+    for (size_t i = 0; i < KEY_TYPES; i++)
+        if (key_lengths[i].type == number) return true;
+    return false;
+}
+
 size_t put_int(uint8_t *to, uint64_t value) {
     size_t len = 1;
     if (value < 240) {

@@ -49,6 +49,15 @@ struct peers_outcome call(struct state state, const uint8_t *piece, size_t len, 
 /* Offers bytes until all are taken or the session is closed; every answer but "more wanted" goes to `told`. */
 void offer(struct state state, const uint8_t *bytes, size_t len, void (*told)(const struct peers_outcome *, const uint8_t *));
 
+/* Each key type with its least and its greatest key length. */
+struct key_lengths {
+    uint32_t type, least, most;
+};
+#define KEY_TYPES 5
+extern const struct key_lengths key_lengths[KEY_TYPES];
+
+bool is_key_type(uint64_t number);
+
 /* Messages. */
 size_t put_int(uint8_t *to, uint64_t value);
 size_t put_message(uint8_t *to, uint8_t kind, const uint8_t *body, size_t len);
@@ -61,6 +70,7 @@ void test_bytes(void);
 void test_texts(const char *file);
 void test_opening(void);
 void test_listing(void);
+void test_definition(void);
 void test_unsound(void);
 void test_random(void);
 void test_freeing(void);

@@ -130,19 +130,21 @@ static void tables(void) {
 }
 
 static void key_types(void) {
-    static const struct {
-        uint32_t type, least, most;
-    } types[] = {{0, 4, 4}, {1, 4, 4}, {2, 16, 16}, {3, 1, 64}, {4, 1, 64}};
-    for (size_t i = 0; i < 5; i++) {
-        SOUND(t->tables[4].key_type = types[i].type; t->tables[4].key_len = types[i].least);
-        SOUND(t->tables[4].key_type = types[i].type; t->tables[4].key_len = types[i].most);
-        FAULT(t->tables[4].key_type = types[i].type; t->tables[4].key_len = types[i].least - 1);
-        FAULT(t->tables[4].key_type = types[i].type; t->tables[4].key_len = types[i].most + 1);
-        FAULT(t->tables[4].key_type = types[i].type; t->tables[4].key_len = types[i].most + 256);
-        FAULT(t->tables[4].key_type = types[i].type; t->tables[4].key_len = UINT32_MAX);
+    for (size_t i = 0; i < KEY_TYPES; i++) {
+        const struct key_lengths *kind = &key_lengths[i];
+        SOUND(t->tables[4].key_type = kind->type; t->tables[4].key_len = kind->least);
+        SOUND(t->tables[4].key_type = kind->type; t->tables[4].key_len = kind->most);
+        FAULT(t->tables[4].key_type = kind->type; t->tables[4].key_len = kind->least - 1);
+        FAULT(t->tables[4].key_type = kind->type; t->tables[4].key_len = kind->most + 1);
+        FAULT(t->tables[4].key_type = kind->type; t->tables[4].key_len = kind->most + 256);
+        FAULT(t->tables[4].key_type = kind->type; t->tables[4].key_len = UINT32_MAX);
+        FAULT(t->tables[4].key_type = kind->type + 256; t->tables[4].key_len = kind->most);
     }
-    FAULT(t->tables[4].key_type = 5);
-    FAULT(t->tables[4].key_type = 256);
+    for (uint32_t type = 0; type < 300; type++) {
+        if (is_key_type(type)) continue;
+        FAULT(t->tables[4].key_type = type);
+        FAULT(t->tables[4].key_type = type; t->tables[4].key_len = 16);
+    }
     FAULT(t->tables[4].key_type = UINT32_MAX);
 }
 

@@ -2,30 +2,38 @@
 
 /// The type of a table's keys.
 #[derive(Clone, Copy, Debug, PartialEq, Eq, Hash)]
+#[repr(u8)]
 pub enum KeyType {
     /// A signed integer of 4 bytes.
-    Integer,
+    Integer = 2,
     /// An IPv4 address.
-    Ipv4,
+    Ipv4 = 4,
     /// An IPv6 address.
-    Ipv6,
+    Ipv6 = 5,
     /// A string.
-    String,
+    String = 6,
     /// Bytes.
-    Binary,
+    Binary = 7,
 }
 
 impl KeyType {
+    /// All key types, ascending.
+    pub const ALL: [KeyType; 5] = [
+        KeyType::Integer,
+        KeyType::Ipv4,
+        KeyType::Ipv6,
+        KeyType::String,
+        KeyType::Binary,
+    ];
+
+    /// The number on the wire and in a table.
+    pub const fn number(self) -> u8 {
+        self as u8
+    }
+
     /// The key type of a number, if there is one.
     pub fn of(number: u8) -> Option<KeyType> {
-        let types = [
-            KeyType::Integer,
-            KeyType::Ipv4,
-            KeyType::Ipv6,
-            KeyType::String,
-            KeyType::Binary,
-        ];
-        types.get(usize::from(number)).copied()
+        KeyType::ALL.into_iter().find(|t| t.number() == number)
     }
 }
 

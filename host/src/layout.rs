@@ -26,7 +26,7 @@ pub const BUFFER: usize = 1032;
 pub struct Table {
     /// 1 for a held table, 0 for a free place.
     pub held: u32,
-    /// The key type's number.
+    /// The key type's number, [`crate::KeyType::number`].
     pub key_type: u32,
     /// 1 where expiry and periods are known.
     pub timed: u32,

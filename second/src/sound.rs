@@ -80,7 +80,7 @@ pub fn names_are_within_limits(store: &Store) -> bool {
     tables(store).all(|table| (1..=NAME_LIMIT).contains(&table.name.len()))
 }
 
-/// A table's key type is 0 to 4.
+/// A table's key type is known.
 pub fn key_types_are_known(store: &Store) -> bool {
     tables(store).all(|table| key_lengths(table.key_type).is_some())
 }

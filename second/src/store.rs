@@ -12,15 +12,18 @@ pub const NAME_LIMIT: usize = 32;
 pub const KEY_LIMIT: usize = 64;
 
 /// Key type: integer.
-pub const INTEGER: u64 = 0;
+pub const INTEGER: u64 = 2;
 /// Key type: IPv4 address.
-pub const IPV4: u64 = 1;
+pub const IPV4: u64 = 4;
 /// Key type: IPv6 address.
-pub const IPV6: u64 = 2;
+pub const IPV6: u64 = 5;
 /// Key type: string.
-pub const STRING: u64 = 3;
+pub const STRING: u64 = 6;
 /// Key type: binary.
-pub const BINARY: u64 = 4;
+pub const BINARY: u64 = 7;
+
+/// All key types.
+pub const KEY_TYPES: [u64; 5] = [INTEGER, IPV4, IPV6, STRING, BINARY];
 
 /// The key lengths that a key type allows; `None` for an unknown type.
 pub fn key_lengths(key_type: u64) -> Option<RangeInclusive<u64>> {

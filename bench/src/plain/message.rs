@@ -1,6 +1,7 @@
 //! What each message does.
 
 use super::frame::{self, Frame};
+use super::key_type::KeyType;
 use super::wire::{write_int, Fault, Reader};
 use super::{Judged, Settled};
 use crate::layout::{Binding, Connection, Entry, Store, Table, KEY_MAX, NAME_MAX, RATES, VALUES};
@@ -26,16 +27,6 @@ pub fn has(types: u32, data_type: u8) -> bool {
 
 pub fn is_wide(data_type: u8) -> bool {
     matches!(data_type, 13 | 15)
-}
-
-/// Whether a key length is one of a key type.
-pub fn key_length_fits(key_type: u32, len: u32) -> bool {
-    match key_type {
-        0 | 1 => len == 4,
-        2 => len == 16,
-        3 | 4 => (1..=KEY_MAX as u32).contains(&len),
-        _ => false,
-    }
 }
 
 pub fn judge(connection: &mut Connection, store: &mut Store, bytes: &[u8]) -> Judged {
@@ -97,15 +88,15 @@ fn definition_fields(body: &[u8]) -> Result<Defined, Fault> {
     let id = reader.word()?;
     let name_len = reader.within(1, NAME_MAX as u64)? as usize;
     let name = reader.bytes(name_len)?;
-    let key_type = reader.within(0, 4)? as u32;
+    let key_type = KeyType::of(reader.int()?).ok_or(Fault::Range)?;
     let key_len = reader.int()?;
-    if key_len > KEY_MAX as u64 || !key_length_fits(key_type, key_len as u32) {
+    if !key_type.takes(key_len) {
         return Err(Fault::Range);
     }
     let data_types = reader.within(0, 0x7_ffff)? as u32;
     let mut table = Table {
         held: 1,
-        key_type,
+        key_type: key_type.number(),
         timed: 0,
         data_types,
         name_len,
@@ -196,8 +187,8 @@ struct Fields<'a> {
 }
 
 fn entry_fields<'a>(reader: &mut Reader<'a>, table: &Table) -> Result<Fields<'a>, Fault> {
-    let key_len = match table.key_type {
-        3 => reader.within(0, table.key_len.into())? as usize,
+    let key_len = match KeyType::of_table(table) {
+        Some(KeyType::String) => reader.within(0, table.key_len.into())? as usize,
         _ => table.key_len as usize,
     };
     let mut fields = Fields {

@@ -3,6 +3,7 @@
 
 mod frame;
 mod handshake;
+mod key_type;
 mod message;
 mod sound;
 mod wire;

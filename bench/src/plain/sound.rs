@@ -2,7 +2,8 @@
 
 use super::frame::{self, Frame};
 use super::handshake::{hello_waits, is_name};
-use super::message::{has, is_wide, key_length_fits, SLOT_TYPES};
+use super::key_type::KeyType;
+use super::message::{has, is_wide, SLOT_TYPES};
 use crate::layout::{
     Binding, Connection, Entry, Session, Store, Table, BUFFER, ENTRIES, NAME_MAX, TABLES,
     UNFINISHED_MAX,
@@ -27,7 +28,7 @@ fn table_is_sound(table: &Table) -> bool {
         0 => true,
         1 => {
             (1..=32).contains(&table.name_len)
-                && key_length_fits(table.key_type, table.key_len)
+                && KeyType::of_table(table).is_some_and(|t| t.takes(table.key_len.into()))
                 && table.data_types < 1 << 19
                 && table.timed <= 1
         }
@@ -56,8 +57,8 @@ fn entry_is_sound(store: &Store, entry: &Entry) -> bool {
 
 fn entry_fits(table: &Table, entry: &Entry) -> bool {
     let key_len = table.key_len as usize;
-    let length_fits = match table.key_type {
-        3 => entry.key_len <= key_len,
+    let length_fits = match KeyType::of_table(table) {
+        Some(KeyType::String) => entry.key_len <= key_len,
         _ => entry.key_len == key_len,
     };
     let slot_fits = |(&value, &t): (&u64, &u8)| {

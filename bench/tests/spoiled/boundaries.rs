@@ -1,8 +1,9 @@
 //! Each kind of fault by itself, and what stands next to it on the other side of its boundary.
 
-use crate::{five_tables, refused_opening, Both};
+use crate::{five_tables, refused_opening, Both, UNSOUND};
 use bench::layout::{Session, Store};
 use bench::receivers::Role;
+use peers::KeyType;
 
 /// A change of record and store.
 type Change = fn(&mut Session, &mut Store);
@@ -18,10 +19,6 @@ const BOUNDARIES: &[(Change, Change)] = &[
     (
         |_, t| t.tables[1].name_len = 1,
         |_, t| t.tables[1].name_len = 0,
-    ),
-    (
-        |_, t| t.tables[1].key_type = 0,
-        |_, t| t.tables[1].key_type = 5,
     ),
     (
         |_, t| t.tables[1].key_len = 4,
@@ -154,6 +151,15 @@ const OPENING_BOUNDARIES: &[(Change, Change)] = &[
     (NOTHING, |s, _| s.len = 1),
 ];
 
+/// Whether a table with such keys may have this key length.
+fn has_length(key_type: KeyType, len: u32) -> bool {
+    match key_type {
+        KeyType::Integer | KeyType::Ipv4 => len == 4,
+        KeyType::Ipv6 => len == 16,
+        KeyType::String | KeyType::Binary => (1..=64).contains(&len),
+    }
+}
+
 /// Both sides of each boundary.
 fn try_boundaries(base: &Both, boundaries: &[(Change, Change)]) {
     for (n, sides) in boundaries.iter().enumerate() {
@@ -169,6 +175,20 @@ fn try_boundaries(base: &Both, boundaries: &[(Change, Change)]) {
 fn of_a_record_with_five_tables() {
     let base = Both::after(Role::Answerer, &five_tables());
     try_boundaries(&base, BOUNDARIES);
+}
+
+#[test]
+fn of_key_types() {
+    let base = Both::after(Role::Answerer, &five_tables());
+    for number in (0..300).chain([(1 << 16) + 2, u32::MAX]) {
+        for key_len in [0, 1, 3, 4, 5, 15, 16, 17, 64, 65, 256 + 4, u32::MAX] {
+            let mut both = base.clone();
+            both.change(|_, t| (t.tables[1].key_type, t.tables[1].key_len) = (number, key_len));
+            let key_type = u8::try_from(number).ok().and_then(KeyType::of);
+            let sound = key_type.is_some_and(|t| has_length(t, key_len));
+            assert_eq!(both.call(b"", 12) != UNSOUND, sound, "{number}, {key_len}");
+        }
+    }
 }
 
 #[test]

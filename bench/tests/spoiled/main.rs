@@ -8,6 +8,7 @@ mod unfinished;
 use bench::layout::{Session, Store};
 use bench::receivers::{Library, Plain, Receiver, Role};
 use bench::streams::{filling, int, message, HELLO};
+use peers::KeyType;
 
 /// The answer to an unsound record or store.
 const UNSOUND: u32 = 4;
@@ -64,12 +65,9 @@ impl Both {
 
 // ---- states to start from
 
-fn define(id: u8, key_type: u8, key_len: u8, types: u32) -> Vec<u8> {
-    let types = int(types.into());
-    message(
-        130,
-        &[&[id, 1, b'a' + id, key_type, key_len], &types[..]].concat(),
-    )
+fn define(id: u8, key_type: KeyType, key_len: u8, types: u32) -> Vec<u8> {
+    let fields = [id, 1, b'a' + id, key_type.number(), key_len];
+    message(130, &[&fields, &int(types.into())[..]].concat())
 }
 
 fn update(key: &[u8], values: u8) -> Vec<u8> {
@@ -81,15 +79,15 @@ fn update(key: &[u8], values: u8) -> Vec<u8> {
 fn five_tables() -> Vec<u8> {
     [
         HELLO.to_vec(),
-        define(0, 0, 4, 1 << 2),
+        define(0, KeyType::Integer, 4, 1 << 2),
         update(b"int0", 1),
         update(b"int1", 1),
-        define(1, 1, 4, 0),
-        define(2, 2, 16, 0),
+        define(1, KeyType::Ipv4, 4, 0),
+        define(2, KeyType::Ipv6, 16, 0),
         update(&[6; 16], 0),
-        define(3, 4, 64, 0),
+        define(3, KeyType::Binary, 64, 0),
         update(&[7; 64], 0),
-        define(4, 3, 8, 0x7_FFFF),
+        define(4, KeyType::String, 8, 0x7_FFFF),
         update(b"\x02ab", 35),
         update(b"\x03abc", 35),
     ]

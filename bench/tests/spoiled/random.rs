@@ -17,7 +17,9 @@ impl Random {
 
     /// A byte, often one beside a boundary.
     fn byte(&mut self) -> u8 {
-        const NEAR: [u8; 16] = [0, 1, 2, 3, 4, 5, 8, 9, 10, 15, 16, 32, 33, 64, 65, 255];
+        const NEAR: [u8; 18] = [
+            0, 1, 2, 3, 4, 5, 6, 7, 8, 9, 10, 15, 16, 32, 33, 64, 65, 255,
+        ];
         match self.below(3) {
             0 => self.below(256) as u8,
             _ => NEAR[self.below(NEAR.len())],

@@ -32,7 +32,7 @@ pub record Shape : Type 0 where
   pub keyLength : ℕ
   pub dataTypes : ℕ
 
--- "Key types (002): 0 integer, 1 IPv4, 2 IPv6, 3 string, 4 binary"
+-- request 1: "0, 1, 3 and all above 7 are 24, in the key type's place"
 unfoldable pub isKeyType : ℕ → Bool
 isKeyType n = isKnown (keyKind n)
 

@@ -18,9 +18,9 @@ use Rattle.body.specs.Encodings.{messageBytes, bodyStart, eachBytes, key
 
 -- ---- definition
 
--- "The listing": `01 02 74 31 00 04 04 F0 97 1C`
+-- "The listing", with the key type of request 1: `01 02 74 31 02 04 04 F0 97 1C`
 abbrev listed : List ℕ
-listed = 0x01 ∷ 0x02 ∷ 0x74 ∷ 0x31 ∷ 0x00 ∷ 0x04 ∷ 0x04 ∷ 0xF0 ∷ 0x97 ∷ 0x1C ∷ []
+listed = 0x01 ∷ 0x02 ∷ 0x74 ∷ 0x31 ∷ 0x02 ∷ 0x04 ∷ 0x04 ∷ 0xF0 ∷ 0x97 ∷ 0x1C ∷ []
 
 -- ID 1 and name `t1`, and what follows
 abbrev named : List ℕ → List ℕ
@@ -31,7 +31,7 @@ abbrev defines : ℕ → Times → Definition
 defines types times = record {
   id = 1;
   name = record { start = 2; len = 2 };
-  keyType = 0;
+  keyType = 2;
   keyLength = 4;
   dataTypes = types;
   times = times;
@@ -53,23 +53,27 @@ record DefinitionExamples : Type 0 where
   cut-types : definitionFields (take 6 listed) ≡ short
   cut-expiry : definitionFields (take 9 listed) ≡ short
   -- rate types 3 and 5, with periods 10 and 11
-  rates : definitionFields (named (0x00 ∷ 0x04 ∷ 0x28 ∷ 0x07 ∷ 0x03 ∷ 0x0A ∷ 0x05 ∷ 0x0B ∷ []))
+  rates : definitionFields (named (0x02 ∷ 0x04 ∷ 0x28 ∷ 0x07 ∷ 0x03 ∷ 0x0A ∷ 0x05 ∷ 0x0B ∷ []))
       ≡ got (defines 0x28 (timed 7 (10 ∷ 11 ∷ replicate 6 0))) 12
-  cut-number : definitionFields (named (0x00 ∷ 0x04 ∷ 0x28 ∷ 0x07 ∷ 0x03 ∷ 0x0A ∷ [])) ≡ short
-  cut-period : definitionFields (named (0x00 ∷ 0x04 ∷ 0x28 ∷ 0x07 ∷ 0x03 ∷ [])) ≡ short
+  cut-number : definitionFields (named (0x02 ∷ 0x04 ∷ 0x28 ∷ 0x07 ∷ 0x03 ∷ 0x0A ∷ [])) ≡ short
+  cut-period : definitionFields (named (0x02 ∷ 0x04 ∷ 0x28 ∷ 0x07 ∷ 0x03 ∷ [])) ≡ short
   -- a pair's number out of order, at once
-  other-number : definitionFields (named (0x00 ∷ 0x04 ∷ 0x28 ∷ 0x07 ∷ 0x05 ∷ [])) ≡ outside
+  other-number : definitionFields (named (0x02 ∷ 0x04 ∷ 0x28 ∷ 0x07 ∷ 0x05 ∷ [])) ≡ outside
   -- name lengths 0 and 33
   no-name : definitionFields (0x01 ∷ 0x00 ∷ []) ≡ outside
   long-name : definitionFields (0x01 ∷ 0x21 ∷ []) ≡ outside
-  -- key type 5, key length 5 of an integer key, 0 and 65 of a string
-  no-key-type : definitionFields (named (0x05 ∷ [])) ≡ outside
-  other-length : definitionFields (named (0x00 ∷ 0x05 ∷ [])) ≡ outside
-  no-length : definitionFields (named (0x03 ∷ 0x00 ∷ [])) ≡ outside
-  long-key : definitionFields (named (0x03 ∷ 0x41 ∷ [])) ≡ outside
+  -- key types 0, 1, 3, 8 and 2^32 + 2, with nothing behind them; key length 5 of an integer key, 0 and 65 of a string
+  key-type-0 : definitionFields (named (0x00 ∷ [])) ≡ outside
+  key-type-1 : definitionFields (named (0x01 ∷ [])) ≡ outside
+  key-type-3 : definitionFields (named (0x03 ∷ [])) ≡ outside
+  key-type-8 : definitionFields (named (0x08 ∷ [])) ≡ outside
+  large-key-type : definitionFields (named (0xF2 ∷ 0xF1 ∷ 0xFE ∷ 0xFE ∷ 0x7E ∷ [])) ≡ outside
+  other-length : definitionFields (named (0x02 ∷ 0x05 ∷ [])) ≡ outside
+  no-length : definitionFields (named (0x06 ∷ 0x00 ∷ [])) ≡ outside
+  long-key : definitionFields (named (0x06 ∷ 0x41 ∷ [])) ≡ outside
   -- data types 2^19 - 1 and 2^19
-  all-types : definitionFields (named (0x00 ∷ 0x04 ∷ 0xFF ∷ 0xF0 ∷ 0xFE ∷ 0x00 ∷ [])) ≡ got (defines (2 ^ 19 - 1) noTimes) 10
-  more-types : definitionFields (named (0x00 ∷ 0x04 ∷ 0xF0 ∷ 0xF1 ∷ 0xFE ∷ 0x00 ∷ [])) ≡ outside
+  all-types : definitionFields (named (0x02 ∷ 0x04 ∷ 0xFF ∷ 0xF0 ∷ 0xFE ∷ 0x00 ∷ [])) ≡ got (defines (2 ^ 19 - 1) noTimes) 10
+  more-types : definitionFields (named (0x02 ∷ 0x04 ∷ 0xF0 ∷ 0xF1 ∷ 0xFE ∷ 0x00 ∷ [])) ≡ outside
 
 definition-examples : DefinitionExamples
 unfolding definitionFields restFields namedFields shapeFields isKeyType timesFields timesThere periodField pairField andThen forEach tested integer between integerOf bytes readInt readFirst withLater laterBytes before weighted fitting keyKind keyLengthOk dataTypesOk present rateTypes
@@ -90,7 +94,11 @@ definition-examples = record {
   other-number = refl;
   no-name = refl;
   long-name = refl;
-  no-key-type = refl;
+  key-type-0 = refl;
+  key-type-1 = refl;
+  key-type-3 = refl;
+  key-type-8 = refl;
+  large-key-type = refl;
   other-length = refl;
   no-length = refl;
   long-key = refl;
@@ -144,30 +152,30 @@ abbrev largest : List ℕ
 largest = 0xFF ∷ 0xF0 ∷ 0xFE ∷ 0xFE ∷ 0xFE ∷ 0xFE ∷ 0xFE ∷ 0xFE ∷ 0xFE ∷ 0x0E ∷ []
 
 record UpdateExamples : Type 0 where
-  whole : updateFields (table 0 4 4) update ≡ got (updates 4294967295 4 4 (pos 0) (0 ∷ 4660 ∷ replicate 32 0)) 11
-  behind : updateFields (table 0 4 4) (update ++ (0xFF ∷ [])) ≡ got (updates 4294967295 4 4 (pos 0) (0 ∷ 4660 ∷ replicate 32 0)) 11
-  incremental : incrementalFields (table 0 4 4) 0 (keyed (0x05 ∷ [])) ≡ got (updates 0 0 4 (pos 0) (0 ∷ 5 ∷ replicate 32 0)) 5
+  whole : updateFields (table 2 4 4) update ≡ got (updates 4294967295 4 4 (pos 0) (0 ∷ 4660 ∷ replicate 32 0)) 11
+  behind : updateFields (table 2 4 4) (update ++ (0xFF ∷ [])) ≡ got (updates 4294967295 4 4 (pos 0) (0 ∷ 4660 ∷ replicate 32 0)) 11
+  incremental : incrementalFields (table 2 4 4) 0 (keyed (0x05 ∷ [])) ≡ got (updates 0 0 4 (pos 0) (0 ∷ 5 ∷ replicate 32 0)) 5
   -- cut inside ID, key and value
-  cut-id : updateFields (table 0 4 4) (take 3 update) ≡ short
-  cut-key : updateFields (table 0 4 4) (take 7 update) ≡ short
-  cut-value : updateFields (table 0 4 4) (take 10 update) ≡ short
+  cut-id : updateFields (table 2 4 4) (take 3 update) ≡ short
+  cut-key : updateFields (table 2 4 4) (take 7 update) ≡ short
+  cut-value : updateFields (table 2 4 4) (take 10 update) ≡ short
   -- rate type 3 is three integers
-  rate : incrementalFields (table 0 4 8) 0 (keyed (0x07 ∷ 0x08 ∷ 0x09 ∷ []))
+  rate : incrementalFields (table 2 4 8) 0 (keyed (0x07 ∷ 0x08 ∷ 0x09 ∷ []))
       ≡ got (updates 0 0 4 (pos 0) (0 ∷ 0 ∷ 7 ∷ 8 ∷ 9 ∷ replicate 29 0)) 7
-  cut-rate : incrementalFields (table 0 4 8) 0 (keyed (0x07 ∷ 0x08 ∷ [])) ≡ short
+  cut-rate : incrementalFields (table 2 4 8) 0 (keyed (0x07 ∷ 0x08 ∷ [])) ≡ short
   -- types 13 and 15 take 64 bits, type 1 takes 32
-  bytes-in : incrementalFields (table 0 4 (2 ^ 13)) 0 (keyed largest)
+  bytes-in : incrementalFields (table 2 4 (2 ^ 13)) 0 (keyed largest)
       ≡ got (updates 0 0 4 (pos 0) (replicate 22 0 ++ ((2 ^ 64 - 1) ∷ replicate 11 0))) 14
-  bytes-out : incrementalFields (table 0 4 (2 ^ 15)) 0 (keyed largest)
+  bytes-out : incrementalFields (table 2 4 (2 ^ 15)) 0 (keyed largest)
       ≡ got (updates 0 0 4 (pos 0) (replicate 26 0 ++ ((2 ^ 64 - 1) ∷ replicate 7 0))) 14
-  over : incrementalFields (table 0 4 2) 0 (keyed largest) ≡ outside
-  server : incrementalFields (table 0 4 1) 0 (keyed largest) ≡ got (updates 0 0 4 (negsuc 0) (replicate 34 0)) 14
-  cut-server : incrementalFields (table 0 4 1) 0 (keyed []) ≡ short
+  over : incrementalFields (table 2 4 2) 0 (keyed largest) ≡ outside
+  server : incrementalFields (table 2 4 1) 0 (keyed largest) ≡ got (updates 0 0 4 (negsuc 0) (replicate 34 0)) 14
+  cut-server : incrementalFields (table 2 4 1) 0 (keyed []) ≡ short
   -- a string of 0 to 2 bytes
-  empty : incrementalFields (table 3 2 0) 0 (0x00 ∷ []) ≡ got (updates 0 1 0 (pos 0) (replicate 34 0)) 1
-  string : incrementalFields (table 3 2 0) 0 (0x02 ∷ 0x61 ∷ 0x62 ∷ []) ≡ got (updates 0 1 2 (pos 0) (replicate 34 0)) 3
-  long-string : incrementalFields (table 3 2 0) 0 (0x03 ∷ []) ≡ outside
-  cut-string : incrementalFields (table 3 2 0) 0 (0x02 ∷ 0x61 ∷ []) ≡ short
+  empty : incrementalFields (table 6 2 0) 0 (0x00 ∷ []) ≡ got (updates 0 1 0 (pos 0) (replicate 34 0)) 1
+  string : incrementalFields (table 6 2 0) 0 (0x02 ∷ 0x61 ∷ 0x62 ∷ []) ≡ got (updates 0 1 2 (pos 0) (replicate 34 0)) 3
+  long-string : incrementalFields (table 6 2 0) 0 (0x03 ∷ []) ≡ outside
+  cut-string : incrementalFields (table 6 2 0) 0 (0x02 ∷ 0x61 ∷ []) ≡ short
 
 update-examples : UpdateExamples
 unfolding updateFields incrementalFields entryFields keyField stringField dataFields serverField slotField andThen forEach tested integer between integerOf bytes number4 numberRead serverId serverRead readInt readFirst withLater laterBytes before weighted fitting readNumber numberOf readServerId serverOf serverBefore serverIdOf keyKind present isRate isWide among widthOf integersOf slotsFor slotTypes rateTypes
@@ -213,7 +221,7 @@ entryAb = entry 2 (0x61 ∷ 0x62 ∷ replicate 62 0) (pos 0)
 abbrev tableT1 : ℕ → ℕ → ℕ → List ℕ → Table
 tableT1 types timed expiry periods = record {
   held = 1;
-  «key_type» = 0;
+  «key_type» = 2;
   timed = timed;
   «data_types» = types;
   «name_len» = 2;
@@ -224,38 +232,38 @@ tableT1 types timed expiry periods = record {
 }
 
 record EncodingExamples : Type 0 where
-  -- "The listing": `0A 82 0A 01 02 74 31 00 04 04 F0 97 1C`, `0A 80 0B FF FF FF FF 00 00 00 2A F4 94 01`, `0A 81 05 00 00 00 2A 05`
+  -- "The listing", with the key type of request 1: `0A 82 0A 01 02 74 31 02 04 04 F0 97 1C`, `0A 80 0B FF FF FF FF 00 00 00 2A F4 94 01`, `0A 81 05 00 00 00 2A 05`
   definition : messageBytes 130 (definitionBytes 1 (tableT1 4 1 60000 (replicate 8 0))) ≡ 0x0A ∷ 0x82 ∷ 0x0A ∷ listed
-  update : messageBytes 128 (updateBytes (table 0 4 4) 4294967295 (entry42 (pos 0) (0 ∷ 4660 ∷ replicate 32 0))) ≡ 0x0A ∷ 0x80 ∷ 0x0B ∷ update
-  incremental : messageBytes 129 (incrementalBytes (table 0 4 4) (entry42 (pos 0) (0 ∷ 5 ∷ replicate 32 0))) ≡ 0x0A ∷ 0x81 ∷ 0x05 ∷ keyed (0x05 ∷ [])
+  update : messageBytes 128 (updateBytes (table 2 4 4) 4294967295 (entry42 (pos 0) (0 ∷ 4660 ∷ replicate 32 0))) ≡ 0x0A ∷ 0x80 ∷ 0x0B ∷ update
+  incremental : messageBytes 129 (incrementalBytes (table 2 4 4) (entry42 (pos 0) (0 ∷ 5 ∷ replicate 32 0))) ≡ 0x0A ∷ 0x81 ∷ 0x05 ∷ keyed (0x05 ∷ [])
   -- without expiry; with rate types 3 and 5, and periods 10 and 11
   no-times : definitionBytes 1 (tableT1 4 0 0 (replicate 8 0)) ≡ take 7 listed
-  rates : definitionBytes 1 (tableT1 0x28 1 7 (10 ∷ 11 ∷ replicate 6 0)) ≡ named (0x00 ∷ 0x04 ∷ 0x28 ∷ 0x07 ∷ 0x03 ∷ 0x0A ∷ 0x05 ∷ 0x0B ∷ [])
+  rates : definitionBytes 1 (tableT1 0x28 1 7 (10 ∷ 11 ∷ replicate 6 0)) ≡ named (0x02 ∷ 0x04 ∷ 0x28 ∷ 0x07 ∷ 0x03 ∷ 0x0A ∷ 0x05 ∷ 0x0B ∷ [])
   -- data types 0, 1 and 3: server ID -1, one integer, three integers
-  server : incrementalBytes (table 0 4 0x0B) (entry42 (negsuc 0) (6 ∷ 0 ∷ 7 ∷ 8 ∷ 9 ∷ replicate 29 0))
+  server : incrementalBytes (table 2 4 0x0B) (entry42 (negsuc 0) (6 ∷ 0 ∷ 7 ∷ 8 ∷ 9 ∷ replicate 29 0))
       ≡ keyed (largest ++ (0x06 ∷ 0x07 ∷ 0x08 ∷ 0x09 ∷ []))
   -- the second integer of data type 3 is in slot 3
-  start : slotStart (table 0 4 0x0B) (entry42 (negsuc 0) (6 ∷ 0 ∷ 7 ∷ 8 ∷ 9 ∷ replicate 29 0)) 3 ≡ 16
+  start : slotStart (table 2 4 0x0B) (entry42 (negsuc 0) (6 ∷ 0 ∷ 7 ∷ 8 ∷ 9 ∷ replicate 29 0)) 3 ≡ 16
   -- the server ID stands behind the key
-  server-start : serverStart (table 0 4 0x0B) (entry42 (negsuc 0) (6 ∷ 0 ∷ 7 ∷ 8 ∷ 9 ∷ replicate 29 0)) ≡ 4
+  server-start : serverStart (table 2 4 0x0B) (entry42 (negsuc 0) (6 ∷ 0 ∷ 7 ∷ 8 ∷ 9 ∷ replicate 29 0)) ≡ 4
   -- a body of 239 bytes stands behind class, type and one byte of length, one of 240 bytes behind two bytes of length
   body-start : bodyStart (replicate 239 0) ≡ 3
   long-body : bodyStart (replicate 240 0) ≡ 4
   -- server ID -2^31
-  least-server : incrementalBytes (table 0 4 1) (entry42 (negsuc (2 ^ 31 - 1)) (replicate 34 0)) ≡ keyed least
+  least-server : incrementalBytes (table 2 4 1) (entry42 (negsuc (2 ^ 31 - 1)) (replicate 34 0)) ≡ keyed least
   -- the last slot, 33, is the previous count of data type 18
-  last-slot : incrementalBytes (table 0 4 (2 ^ 18)) (entry42 (pos 0) (replicate 31 0 ++ (7 ∷ 8 ∷ 9 ∷ []))) ≡ keyed (0x07 ∷ 0x08 ∷ 0x09 ∷ [])
-  last-start : slotStart (table 0 4 (2 ^ 18)) (entry42 (pos 0) (replicate 31 0 ++ (7 ∷ 8 ∷ 9 ∷ []))) 33 ≡ 6
+  last-slot : incrementalBytes (table 2 4 (2 ^ 18)) (entry42 (pos 0) (replicate 31 0 ++ (7 ∷ 8 ∷ 9 ∷ []))) ≡ keyed (0x07 ∷ 0x08 ∷ 0x09 ∷ [])
+  last-start : slotStart (table 2 4 (2 ^ 18)) (entry42 (pos 0) (replicate 31 0 ++ (7 ∷ 8 ∷ 9 ∷ []))) 33 ≡ 6
   -- types 13 and 15 take 64 bits
-  bytes-in : incrementalBytes (table 0 4 (2 ^ 13)) (entry42 (pos 0) (replicate 22 0 ++ ((2 ^ 64 - 1) ∷ replicate 11 0))) ≡ keyed largest
-  bytes-out : incrementalBytes (table 0 4 (2 ^ 15)) (entry42 (pos 0) (replicate 26 0 ++ ((2 ^ 64 - 1) ∷ replicate 7 0))) ≡ keyed largest
+  bytes-in : incrementalBytes (table 2 4 (2 ^ 13)) (entry42 (pos 0) (replicate 22 0 ++ ((2 ^ 64 - 1) ∷ replicate 11 0))) ≡ keyed largest
+  bytes-out : incrementalBytes (table 2 4 (2 ^ 15)) (entry42 (pos 0) (replicate 26 0 ++ ((2 ^ 64 - 1) ∷ replicate 7 0))) ≡ keyed largest
   -- a string of 2 bytes, and of none
-  string : incrementalBytes (table 3 2 2) (entryAb (300 ∷ replicate 33 0)) ≡ 0x02 ∷ 0x61 ∷ 0x62 ∷ 0xFC ∷ 0x03 ∷ []
-  empty : incrementalBytes (table 3 2 2) (entry 0 (replicate 64 0) (pos 0) (5 ∷ replicate 33 0)) ≡ 0x00 ∷ 0x05 ∷ []
+  string : incrementalBytes (table 6 2 2) (entryAb (300 ∷ replicate 33 0)) ≡ 0x02 ∷ 0x61 ∷ 0x62 ∷ 0xFC ∷ 0x03 ∷ []
+  empty : incrementalBytes (table 6 2 2) (entry 0 (replicate 64 0) (pos 0) (5 ∷ replicate 33 0)) ≡ 0x00 ∷ 0x05 ∷ []
   -- the IPv6 key ::1, and a binary key of 3 bytes
-  address : incrementalBytes (table 2 16 2) (entry 16 (replicate 15 0 ++ (1 ∷ replicate 48 0)) (pos 0) (5 ∷ replicate 33 0))
+  address : incrementalBytes (table 5 16 2) (entry 16 (replicate 15 0 ++ (1 ∷ replicate 48 0)) (pos 0) (5 ∷ replicate 33 0))
       ≡ replicate 15 0 ++ (0x01 ∷ 0x05 ∷ [])
-  binary : incrementalBytes (table 4 3 2) (entry 3 (0xFF ∷ 0x00 ∷ 0xFE ∷ replicate 61 0) (pos 0) (5 ∷ replicate 33 0))
+  binary : incrementalBytes (table 7 3 2) (entry 3 (0xFF ∷ 0x00 ∷ 0xFE ∷ replicate 61 0) (pos 0) (5 ∷ replicate 33 0))
       ≡ 0xFF ∷ 0x00 ∷ 0xFE ∷ 0x05 ∷ []
 
 encoding-examples : EncodingExamples

@@ -25,7 +25,7 @@ pub enum ShapeRead {
 fn is_key_type(n: u64) -> bool
     ensures { λ r. ⌜ r ≡ isKeyType n ⌝ }
 {
-    if 255 < n {
+    if 0xffff_ffff < n {
         return false;
     }
     store::types::is_known(store::types::key_kind(n as u32))

@@ -151,7 +151,7 @@ fn show_entry(store: Store) {
 // An update of a table whose only data type is 0, and its entry.
 fn server_id(text: &[u8], update: &[u8]) {
     title(text);
-    let run = feed(greeted(), b"\x0a\x82\x06\x01\x01t\x00\x04\x01", false);
+    let run = feed(greeted(), b"\x0a\x82\x06\x01\x01t\x02\x04\x01", false);
     let r = feed(run, update, true);
     show_entry(r.store);
 }
@@ -290,12 +290,56 @@ fn handshakes() {
 
 // ---- messages
 
+// Each key type with the shortest and the longest key that it has.
+fn key_types() {
+    after_hello(
+        b"key types 2, 4 and 5",
+        b"\x0a\x82\x06\x01\x01a\x02\x04\x00\x0a\x82\x06\x02\x01b\x04\x04\x00\x0a\x82\x06\x03\x01c\x05\x10\x00",
+    );
+    after_hello(
+        b"key types 6 and 7",
+        b"\x0a\x82\x06\x01\x01a\x06\x01\x00\x0a\x82\x06\x02\x01b\x06\x40\x00\x0a\x82\x06\x03\x01c\x07\x01\x00\x0a\x82\x06\x04\x01d\x07\x40\x00",
+    );
+}
+
+// The numbers beside them, and the key length of another kind.
+fn other_key_types() {
+    after_hello(
+        b"refusal 24: key type 0",
+        b"\x0a\x82\x06\x01\x01t\x00\x04\x00",
+    );
+    after_hello(
+        b"refusal 24: key type 1",
+        b"\x0a\x82\x06\x01\x01t\x01\x04\x00",
+    );
+    after_hello(
+        b"refusal 24: key type 3",
+        b"\x0a\x82\x06\x01\x01t\x03\x04\x00",
+    );
+    after_hello(
+        b"refusal 24: key type 8",
+        b"\x0a\x82\x06\x01\x01t\x08\x04\x00",
+    );
+    after_hello(
+        b"refusal 24: key type 2^32 + 2, and no key length",
+        b"\x0a\x82\x08\x01\x01t\xf2\xf1\xfe\xfe\x7e",
+    );
+    after_hello(
+        b"refusal 24: an integer key of 16 bytes",
+        b"\x0a\x82\x06\x01\x01t\x02\x10\x00",
+    );
+    after_hello(
+        b"refusal 24: an IPv6 key of 4 bytes",
+        b"\x0a\x82\x06\x01\x01t\x05\x04\x00",
+    );
+}
+
 // Nine tables, with the names a to i.
 fn nine_tables() {
     title(b"refusal 26: a ninth table");
     let mut r = greeted();
     for i in 0u8..9 {
-        let message = [0x0a, 0x82, 6, i, 1, 97 + i, 0, 4, 0];
+        let message = [0x0a, 0x82, 6, i, 1, 97 + i, 2, 4, 0];
         r = feed(r, &message, true);
     }
 }
@@ -303,7 +347,7 @@ fn nine_tables() {
 // 129 entries of a table without data types; the last two updates are shown.
 fn many_entries() {
     title(b"refusal 29: a 129th entry, after the 128th");
-    let mut r = feed(greeted(), b"\x0a\x82\x06\x01\x01t\x00\x04\x00", false);
+    let mut r = feed(greeted(), b"\x0a\x82\x06\x01\x01t\x02\x04\x00", false);
     for i in 0u8..129 {
         let message = [0x0a, 0x80, 8, 0, 0, 0, i, 0, 0, 0, i];
         r = feed(r, &message, 127 <= i);
@@ -324,8 +368,10 @@ fn messages() {
     after_hello(b"refusal 24: a name of 33 bytes", b"\x0a\x82\x02\x01\x21");
     after_hello(
         b"refusal 25: another key type under a held name",
-        b"\x0a\x82\x06\x01\x01t\x00\x04\x00\x0a\x82\x06\x01\x01t\x01\x04\x00",
+        b"\x0a\x82\x06\x01\x01t\x02\x04\x00\x0a\x82\x06\x01\x01t\x04\x04\x00",
     );
+    key_types();
+    other_key_types();
     nine_tables();
     after_hello(b"refusal 27: no current table", b"\x0a\x80\x00");
     after_hello(
@@ -334,7 +380,7 @@ fn messages() {
     );
     after_hello(
         b"refusal 28: no previous ID",
-        b"\x0a\x82\x06\x01\x01t\x00\x04\x00\x0a\x81\x04\x00\x00\x00\x2a",
+        b"\x0a\x82\x06\x01\x01t\x02\x04\x00\x0a\x81\x04\x00\x00\x00\x2a",
     );
     many_entries();
     after_hello(b"the peer's error message", b"\x01\x01");

@@ -2,18 +2,18 @@
 use Prim.Native.Nat.{ℕ, _+_, _-_, _^_, _≤_, _<_}
 use native.Mathlib.Omega.{arith}
 use mathlib.Core.Path.{_≡_, refl, sym, ap, subst, _∙_}
-use mathlib.Core.Logic.{_⊎_, inl, inr, ⊎-elim}
+use mathlib.Core.Logic.{_⊎_, inl, inr}
 use mathlib.Core.List.{List}
-use mathlib.Core.Bool.{true, false, cond, _&&_, true≢false}
+use mathlib.Core.Bool.{true, false, cond, _&&_}
 use lib.ListN.{length, getD}
 use lib.Seq.{getD-set-same}
 use lib.IntN.{ℤ}
 use lib.Dec.{leb, eqb, lit<}
-use borrow.Author.Tests.{eqb-true, eq-eqb, ne-eqb, leb-true}
+use borrow.Author.Tests.{eqb-true, eq-eqb, leb-true}
 use Rattle.lists.specs.declared.Found.{Found}
 use Rattle.lists.specs.declared.Found.the-variants as found
 use Rattle.lists.specs.Lists.{firstPlace}
-use Rattle.lists.proofs.Cases.{by-test, and-first, and-second, cond-true, cond-false, lt-or-le}
+use Rattle.lists.proofs.Cases.{by-test, and-first, and-second, cond-true, cond-false}
 use Rattle.store.specs.declared.Definition.{Definition as Rules}
 use Rattle.store.specs.declared.Table.{Table}
 use Rattle.store.specs.declared.Entry.{Entry}
@@ -24,7 +24,7 @@ use Rattle.store.specs.declared.entries.Place.{Place}
 use Rattle.store.specs.Places.{freeOf, placeOf}
 use Rattle.store.specs.Sound.{entryKeyLengthOk, slotsOk, valuesOk}
 use Rattle.store.specs.Shape.{TableShape, EntryShape, StoreShape}
-use Rattle.store.proofs.Rules.{key-length-most}
+use Rattle.store.proofs.Rules.{known-small, key-length-most}
 use Rattle.store.proofs.Facts.{TableFacts, EntryFacts, SoundStore}
 use Rattle.store.proofs.Kept.{table-found, table-missing, entry-missing, table-place, free-not-held, only-table, only-entry, put-table-shape, put-entry-shape, made-entry-shape, made-table-shape}
 use Rattle.store.proofs.Ruled.{Agrees, put-entry-facts, put-table-facts, made-key, made-rest, made-name}
@@ -48,20 +48,6 @@ use Rattle.message.specs.Changes.{noChange, tableChange, entryChange, ch
 use Rattle.message.specs.Targets.{goesTo}
 use Rattle.message.specs.Effects
 use Rattle.message.proofs.commit.Targets.{goes-by-key}
-
--- a known key type is below 256
-key-type-small : (n : ℕ) → isKnown (keyKind n) ≡ true → n < 2 ^ 8
-unfolding keyKind
-key-type-small n h =
-    ⊎-elim
-    (λ l. l)
-    (λ l.
-    absurd
-    (true≢false
-    (sym h
-    ∙ rw (ne-eqb n 0 (λ e. let z : ⊥ = omega arith in z), ne-eqb n 1 (λ e. let z : ⊥ = omega arith in z), ne-eqb n 2 (λ e. let z : ⊥ = omega arith in z), ne-eqb n 3 (λ e. let z : ⊥ = omega arith in z), ne-eqb n 4 (λ e. let z : ⊥ = omega arith in z))
-    refl)))
-    (lt-or-le n 256)
 
 -- a key is no longer than its table's
 key-at-most : (t : Table) (n : ℕ) → cond (isString (keyKind (t .«key_type»))) (leb n (t .«key_len»)) (eqb n (t .«key_len»)) ≡ true → n ≤ t .«key_len»
@@ -268,7 +254,7 @@ module _ (c : Connection) (s : Store) (h : Held c s) where
       (made-facts name r (omega (arith, n, w .nameLeast)) (omega (arith, n, w .nameMost)) (w .keyType) (w .keyLength) (w .dataTypes) (w .timed))
       (made-table-shape name r (omega (arith, n, w .nameMost)) (span-bytes body (d .name) (w .nameEnd) bytes .byte)
       (record {
-        keyType = let small = key-type-small (d .keyType) (w .keyType) in omega arith;
+        keyType = omega (arith, known-small (d .keyType) (w .keyType));
         keyLength = omega arith;
         dataTypes = omega (arith, w .dataTypes);
         timed = omega (arith, w .timed);

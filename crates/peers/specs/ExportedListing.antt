@@ -1,4 +1,4 @@
--- The listing of document 01 through the exported calls, in the numbers that a host has.
+-- The listing of document 01, with the key type of request 1, through the exported calls, in the numbers that a host has.
 use Prim.Native.Nat.{ℕ, _≤_}
 use mathlib.Core.Path.{_≡_}
 use mathlib.Core.List.{List, [], _∷_, flatten}

@@ -25,7 +25,7 @@ withPrevious = record { bound = 0; updated = 1; id = 0; previous = 4 }
 abbrev held : Table
 held = record {
   held = 1;
-  «key_type» = 0;
+  «key_type» = 2;
   timed = 0;
   «data_types» = 4;
   «name_len» = 2;

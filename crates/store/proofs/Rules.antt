@@ -2,22 +2,56 @@
 use Prim.Native.Nat.{ℕ, _-_, _/_, _%_, _^_, _≤_, _<_}
 use native.Mathlib.Omega.{arith}
 use native.Mathlib.Nat.{div-eq-of-lt, pow-le-pow-right}
-use mathlib.Core.Path.{_≡_, refl, sym, subst}
+use mathlib.Core.Path.{_≡_, refl, sym, ap, _∙_, subst}
 use mathlib.Core.Bool.{Bool, true, false, _&&_}
 use mathlib.Core.List.{List, [], _∷_}
 use lib.ListN.{length, getD, List·getD-eq-default}
 use lib.Dec.{leb, eqb, lit<}
 use borrow.Author.Tests.{eqb-true, ne-eqb, leb-true, le-leb, lt-leb}
 use Rattle.lists.specs.Lists.{every, upTo, among}
-use Rattle.lists.proofs.Cases.{never, and-second, and-true, and-false}
+use Rattle.lists.proofs.Cases.{by-test, never, and-second, and-true, and-false}
 use Rattle.lists.proofs.Every.{every-at, up-at, up-length}
 use Rattle.store.specs.declared.types.KeyKind.{KeyKind}
 use Rattle.store.specs.declared.types.KeyKind.the-variants.{Integer, Ipv4, Ipv6, Str, Binary, Unknown}
-use Rattle.store.specs.Limits.{keyMax, keyKind, keyLengthFits, keyLengthOk, present, isRate, rateTypes, slotTypes, slotsFor, integersOf}
+use Rattle.store.specs.Limits.{keyMax, keyKind, keyTypeOf, isKnown, keyLengthFits, keyLengthOk, present, isRate, rateTypes, slotTypes, slotsFor, integersOf}
 
-pub kind-unknown : (n : ℕ) → (n ≡ 0 → ⊥) → (n ≡ 1 → ⊥) → (n ≡ 2 → ⊥) → (n ≡ 3 → ⊥) → (n ≡ 4 → ⊥) → Unknown ≡ keyKind n
+pub kind-unknown : (n : ℕ) → (n ≡ 2 → ⊥) → (n ≡ 4 → ⊥) → (n ≡ 5 → ⊥) → (n ≡ 6 → ⊥) → (n ≡ 7 → ⊥) → Unknown ≡ keyKind n
 unfolding keyKind
-kind-unknown n a b c d e = rw (ne-eqb n 0 a, ne-eqb n 1 b, ne-eqb n 2 c, ne-eqb n 3 d, ne-eqb n 4 e)
+kind-unknown n a b c d e = rw (ne-eqb n 2 a, ne-eqb n 4 b, ne-eqb n 5 c, ne-eqb n 6 d, ne-eqb n 7 e)
+
+-- the number of a kind is of that kind, and a known kind has one number
+pub kind-of-number : (k : KeyKind) → keyKind (keyTypeOf k) ≡ k
+unfolding keyKind keyTypeOf
+kind-of-number Integer = refl
+kind-of-number Ipv4 = refl
+kind-of-number Ipv6 = refl
+kind-of-number Str = refl
+kind-of-number Binary = refl
+kind-of-number Unknown = refl
+
+number-at : (n m : ℕ) → keyTypeOf (keyKind m) ≡ m → eqb n m ≡ true → n ≡ keyTypeOf (keyKind n)
+number-at n m q h = let e = eqb-true n m h in e ∙ sym q ∙ ap (λ (k : ℕ). keyTypeOf (keyKind k)) (sym e)
+
+pub number-of-kind : (n : ℕ) → isKnown (keyKind n) ≡ true → n ≡ keyTypeOf (keyKind n)
+unfolding keyKind keyTypeOf
+number-of-kind n h =
+    by-test (eqb n 2) (number-at n 2 refl) λ a.
+    by-test (eqb n 4) (number-at n 4 refl) λ b.
+    by-test (eqb n 5) (number-at n 5 refl) λ c.
+    by-test (eqb n 6) (number-at n 6 refl) λ d.
+    by-test (eqb n 7) (number-at n 7 refl) λ e. never h (rw (a, b, c, d, e) refl)
+
+number-small : (k : KeyKind) → keyTypeOf k < 8
+unfolding keyTypeOf
+number-small Integer = omega arith
+number-small Ipv4 = omega arith
+number-small Ipv6 = omega arith
+number-small Str = omega arith
+number-small Binary = omega arith
+number-small Unknown = omega arith
+
+pub known-small : (n : ℕ) → isKnown (keyKind n) ≡ true → n < 8
+known-small n h = omega (arith, number-of-kind n h, number-small (keyKind n))
 
 -- a right key length fits the key's bytes
 fits-most : (kind : KeyKind) (n : ℕ) → keyLengthFits keyMax kind n ≡ true → n ≤ keyMax

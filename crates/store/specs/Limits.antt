@@ -1,4 +1,4 @@
--- The numbers of document 01 that concern tables and entries, and the layout of an entry's values.
+-- The numbers of document 01, and of request 1 of document 02, that concern tables and entries, and the layout of an entry's values.
 use Prim.Native.Nat.{ℕ, _/_, _%_, _^_}
 use mathlib.Core.List.{List, [], _∷_, _++_}
 use mathlib.Core.Bool.{Bool, true, false, cond, _&&_}
@@ -19,7 +19,7 @@ entryPlaces = 128
 abbrev pub nameMax : ℕ
 nameMax = 32
 
--- "1 to 64 for 3 and 4"
+-- "1 to 64 for" strings and binary keys
 abbrev pub keyMax : ℕ
 keyMax = 64
 
@@ -32,14 +32,23 @@ valueCount = 34
 
 -- ---- key types
 
--- "Key types (002): 0 integer, 1 IPv4, 2 IPv6, 3 string, 4 binary"
+-- request 1: "send 2 for integer, 4 for IPv4, 5 for IPv6, 6 for string and 7 for binary"; "0, 1, 3 and all above 7 are 24"
 unfoldable pub keyKind : ℕ → KeyKind
 keyKind n =
-    cond (eqb n 0) Integer
-    (cond (eqb n 1) Ipv4
-    (cond (eqb n 2) Ipv6
-    (cond (eqb n 3) Str
-    (cond (eqb n 4) Binary Unknown))))
+    cond (eqb n 2) Integer
+    (cond (eqb n 4) Ipv4
+    (cond (eqb n 5) Ipv6
+    (cond (eqb n 6) Str
+    (cond (eqb n 7) Binary Unknown))))
+
+-- the number of a kind; Unknown has 0, which is no key type
+unfoldable pub keyTypeOf : KeyKind → ℕ
+keyTypeOf Integer = 2
+keyTypeOf Ipv4 = 4
+keyTypeOf Ipv6 = 5
+keyTypeOf Str = 6
+keyTypeOf Binary = 7
+keyTypeOf Unknown = 0
 
 abbrev pub isKnown : KeyKind → Bool
 isKnown Integer = true
@@ -57,7 +66,7 @@ isString Str = true
 isString Binary = false
 isString Unknown = false
 
--- "Key length is 4 for types 0 and 1, 16 for 2, and 1 to 64 for 3 and 4", where the longest key has `most` bytes
+-- "Key length is 4 for" integers and IPv4, "16 for" IPv6, "and 1 to 64 for" strings and binary keys, where the longest key has `most` bytes
 abbrev pub keyLengthFits : ℕ → KeyKind → ℕ → Bool
 keyLengthFits most Integer n = eqb n 4
 keyLengthFits most Ipv4 n = eqb n 4

@@ -18,16 +18,16 @@ pub enum KeyKind {
     Unknown,
 }
 
-// The kind of a key type's number; no other function looks at the number.
+// The kind of a key type's number; no other function knows the numbers.
 pub fn key_kind(key_type: u32) -> KeyKind
     ensures { λ r. ⌜ r ≡ keyKind «key_type» ⌝ }
 {
     match key_type {
-        0 => KeyKind::Integer,
-        1 => KeyKind::Ipv4,
-        2 => KeyKind::Ipv6,
-        3 => KeyKind::Str,
-        4 => KeyKind::Binary,
+        2 => KeyKind::Integer,
+        4 => KeyKind::Ipv4,
+        5 => KeyKind::Ipv6,
+        6 => KeyKind::Str,
+        7 => KeyKind::Binary,
         _ => KeyKind::Unknown,
     }
 }

@@ -1,4 +1,4 @@
--- The listing's stream of document 01, with its answers, replies and end state.
+-- The listing's stream of document 01, with the key type of request 1, and its answers, replies and end state.
 use Prim.Native.Nat.{ℕ}
 use mathlib.Core.List.{List, [], _∷_, _++_}
 use lib.ListN.{replicate}
@@ -17,7 +17,7 @@ use Rattle.worked_cases.specs.Cases.{hello}
 unfoldable pub listing : List ℕ
 listing =
     hello
-    ++ (0x0A ∷ 0x82 ∷ 0x0A ∷ 0x01 ∷ 0x02 ∷ 0x74 ∷ 0x31 ∷ 0x00 ∷ 0x04 ∷ 0x04 ∷ 0xF0 ∷ 0x97 ∷ 0x1C
+    ++ (0x0A ∷ 0x82 ∷ 0x0A ∷ 0x01 ∷ 0x02 ∷ 0x74 ∷ 0x31 ∷ 0x02 ∷ 0x04 ∷ 0x04 ∷ 0xF0 ∷ 0x97 ∷ 0x1C
     ∷ 0x0A ∷ 0x80 ∷ 0x0B ∷ 0xFF ∷ 0xFF ∷ 0xFF ∷ 0xFF ∷ 0x00 ∷ 0x00 ∷ 0x00 ∷ 0x2A ∷ 0xF4 ∷ 0x94 ∷ 0x01
     ∷ 0x0A ∷ 0x81 ∷ 0x05 ∷ 0x00 ∷ 0x00 ∷ 0x00 ∷ 0x2A ∷ 0x05
     ∷ 0x00 ∷ 0x01 ∷ [])
@@ -32,12 +32,12 @@ listed =
     ∷ record { answer = answer.Finished; reply = 0x00 ∷ 0x03 ∷ [] }
     ∷ []
 
--- one table, `t1`: key type 0, key length 4, data types 4 (the bit of type 2), expiry 60000; the other places are free
+-- one table, `t1`: key type 2, key length 4, data types 4 (the bit of type 2), expiry 60000; the other places are free
 unfoldable pub listedTables : List Table
 listedTables =
     record {
       held = 1;
-      «key_type» = 0;
+      «key_type» = 2;
       timed = 1;
       «data_types» = 4;
       «name_len» = 2;

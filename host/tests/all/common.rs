@@ -1,6 +1,6 @@
 //! Messages to send, and sessions to send them to.
 
-use peers::{Answer, Session, Store, READING_ROOM};
+use peers::{Answer, KeyType, Session, Store, READING_ROOM};
 
 /// The content of a room before a call.
 pub const FILL: u8 = 0xAA;
@@ -8,11 +8,20 @@ pub const FILL: u8 = 0xAA;
 /// The hello of `west` to `east`.
 pub const HELLO: &[u8] = b"HAProxyS 2.1\neast\nwest 7 0\n";
 
+/// Each key type with its least and its greatest key length.
+pub const KEY_LENGTHS: [(KeyType, u32, u32); 5] = [
+    (KeyType::Integer, 4, 4),
+    (KeyType::Ipv4, 4, 4),
+    (KeyType::Ipv6, 16, 16),
+    (KeyType::String, 1, 64),
+    (KeyType::Binary, 1, 64),
+];
+
 /// The stream of the listing.
 pub fn listing() -> Vec<u8> {
     let mut bytes = HELLO.to_vec();
     bytes.extend([
-        0x0A, 0x82, 0x0A, 1, 2, 0x74, 0x31, 0, 4, 4, 0xF0, 0x97, 0x1C,
+        0x0A, 0x82, 0x0A, 1, 2, 0x74, 0x31, 2, 4, 4, 0xF0, 0x97, 0x1C,
     ]);
     bytes.extend([
         0x0A, 0x80, 0x0B, 0xFF, 0xFF, 0xFF, 0xFF, 0, 0, 0, 0x2A, 0xF4, 0x94, 1,
@@ -46,17 +55,21 @@ pub fn message(kind: u8, body: &[u8]) -> Vec<u8> {
 pub fn define(
     id: u32,
     name: &[u8],
-    key_type: u8,
+    key_type: KeyType,
     key_len: u8,
     types: u32,
     times: &[u64],
 ) -> Vec<u8> {
+    let fields = [key_type.number().into(), key_len.into(), types.into()];
+    define_of(id, name, &[&fields, times].concat())
+}
+
+/// A definition with any integers after the name.
+pub fn define_of(id: u32, name: &[u8], fields: &[u64]) -> Vec<u8> {
     let mut body = int(id.into());
     body.push(name.len() as u8);
     body.extend(name);
-    body.extend([key_type, key_len]);
-    body.extend(int(types.into()));
-    body.extend(times.iter().flat_map(|&time| int(time)));
+    body.extend(fields.iter().flat_map(|&field| int(field)));
     message(130, &body)
 }
 

@@ -1,12 +1,15 @@
 //! Freeing entries and tables between calls.
 
 use crate::common::{define, message, update, State, HELLO};
-use peers::{Answer, Commit, DataType, Refusal, Session, Value};
+use peers::{Answer, Commit, DataType, KeyType, Refusal, Session, Value};
 
 /// An established record with table `t` at place 0, and one entry.
 fn one_entry() -> State {
     let mut state = State::established();
-    state.accept(&[define(1, b"t", 0, 4, 4, &[]), update(1, b"keyt", &[5])]);
+    state.accept(&[
+        define(1, b"t", KeyType::Integer, 4, 4, &[]),
+        update(1, b"keyt", &[5]),
+    ]);
     state
 }
 
@@ -51,7 +54,7 @@ fn a_table_that_a_record_uses() {
     // once it is taken the update goes to the wrong table, and is acknowledged
     let old = state.session.clone();
     reconnect(&mut state);
-    state.accept(&[define(7, b"other", 0, 4, 4, &[])]);
+    state.accept(&[define(7, b"other", KeyType::Integer, 4, 4, &[])]);
     state.session = old;
     let told = state.offer(&incremental());
     assert_eq!(told[0].1, [10, 133, 5, 1, 0, 0, 0, 2]);
@@ -61,16 +64,19 @@ fn a_table_that_a_record_uses() {
 #[test]
 fn a_table_that_no_record_uses() {
     let mut state = one_entry();
-    state.accept(&[define(2, b"u", 0, 4, 4, &[]), update(1, b"keyu", &[6])]);
+    state.accept(&[
+        define(2, b"u", KeyType::Integer, 4, 4, &[]),
+        update(1, b"keyu", &[6]),
+    ]);
     reconnect(&mut state);
     assert!(!state.session.uses(0) && !state.session.uses(1));
     assert!(state.store.free_table(0));
     let names: Vec<_> = state.store.entries().map(|e| e.table().name()).collect();
     assert_eq!(names, [b"u"]);
     state.accept(&[
-        define(1, b"v", 0, 4, 4, &[]),
+        define(1, b"v", KeyType::Integer, 4, 4, &[]),
         update(1, b"keyt", &[5]),
-        define(2, b"u", 0, 4, 4, &[]),
+        define(2, b"u", KeyType::Integer, 4, 4, &[]),
     ]);
     let places: Vec<_> = state
         .store

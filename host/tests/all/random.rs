@@ -2,7 +2,7 @@
 //! changes anything where it refuses with 1, 2 or 4.
 
 use crate::common::{define, listing, message, update, State, FILL};
-use peers::{Answer, Refusal};
+use peers::{Answer, KeyType, Refusal};
 use std::mem::size_of;
 
 /// A small generator (xorshift).
@@ -108,9 +108,9 @@ fn some_bytes_changed() {
     let mut random = Random(0xFEDC_BA98_7654_3211);
     let mut base = State::established();
     base.accept(&[
-        define(1, b"t", 0, 4, 4, &[60_000]),
+        define(1, b"t", KeyType::Integer, 4, 4, &[60_000]),
         update(1, b"keys", &[5]),
-        define(2, b"u", 3, 20, 0x7_FFFF, &[]),
+        define(2, b"u", KeyType::String, 20, 0x7_FFFF, &[]),
         update(9, b"\x03abc", &(0..35).collect::<Vec<_>>()),
         update(9, b"\x03abd", &(0..35).collect::<Vec<_>>()),
     ]);

@@ -40,8 +40,8 @@ fn the_peers_error() {
 fn switch_acknowledgement_skipped() {
     let mut state = State::established();
     state.accept(&[
-        define(300, b"a", 0, 4, 0, &[]),
-        define(2, b"b", 0, 4, 0, &[]),
+        define(300, b"a", KeyType::Integer, 4, 0, &[]),
+        define(2, b"b", KeyType::Integer, 4, 0, &[]),
     ]);
     assert_eq!(
         state.offer(&message(131, &int(300)))[0].0,
@@ -74,7 +74,7 @@ fn every_data_type() {
     let mut values = vec![u64::MAX - 1];
     values.extend(1000..1034);
     state.accept(&[
-        define(9, b"all", 3, 64, ALL, &times),
+        define(9, b"all", KeyType::String, 64, ALL, &times),
         update(1, b"\x03key", &values),
     ]);
     let entry = state.store.entry(0).expect("an entry is held");
@@ -109,7 +109,7 @@ fn every_data_type() {
 #[test]
 fn a_full_store() {
     let mut state = State::established();
-    state.accept(&[define(1, b"t", 0, 4, 0, &[])]);
+    state.accept(&[define(1, b"t", KeyType::Integer, 4, 0, &[])]);
     for key in 0..128u32 {
         let told = state.offer(&update(key, &key.to_be_bytes(), &[]));
         let expected = Answer::Update {
@@ -173,35 +173,36 @@ fn handshake_refusals() {
     refused(State::caller(), b"200\r", 15, b"");
 }
 
+/// A session with these tables of integer keys, with IDs from 0 on.
+fn with_tables(names: &[&[u8]]) -> State {
+    let mut state = State::established();
+    for (id, name) in (0..).zip(names) {
+        state.accept(&[define(id, name, KeyType::Integer, 4, 4, &[])]);
+    }
+    state
+}
+
 #[test]
 fn message_refusals() {
     let open = State::established;
-    let with_table = || {
-        let mut state = open();
-        state.accept(&[define(1, b"t", 0, 4, 4, &[])]);
-        state
-    };
-    let with_tables = || {
-        let mut state = open();
-        for place in 0..8 {
-            state.accept(&[define(place, &[b'a' + place as u8], 0, 4, 4, &[])]);
-        }
-        state
-    };
+    let overflow = [&[10, 128, 0xFF][..], &[0xFF; 9]].concat();
     refused(open(), &[0, 5], 20, &[1, 0]);
-    refused(
-        open(),
-        &[&[10, 128, 0xFF][..], &[0xFF; 9]].concat(),
-        21,
-        &[1, 0],
-    );
+    refused(open(), &overflow, 21, &[1, 0]);
     refused(open(), &[10, 128, 0xF1, 0x31], 22, &[1, 1]);
     refused(open(), &message(131, &[]), 23, &[1, 0]);
     refused(open(), &message(131, &int(1 << 32)), 24, &[1, 0]);
-    refused(with_table(), &define(2, b"t", 0, 4, 6, &[]), 25, &[1, 0]);
-    refused(with_tables(), &define(9, b"i", 0, 4, 4, &[]), 26, &[1, 1]);
     refused(open(), &[0x0A, 0x80, 0], 27, &[1, 0]);
-    refused(with_table(), &message(129, b"keys\x05"), 28, &[1, 0]);
+    let update = message(129, b"keys\x05");
+    refused(with_tables(&[b"t"]), &update, 28, &[1, 0]);
+}
+
+#[test]
+fn definition_refusals() {
+    let other = define(2, b"t", KeyType::Integer, 4, 6, &[]);
+    refused(with_tables(&[b"t"]), &other, 25, &[1, 0]);
+    let eight: [&[u8]; 8] = [b"a", b"b", b"c", b"d", b"e", b"f", b"g", b"h"];
+    let ninth = define(9, b"i", KeyType::Integer, 4, 4, &[]);
+    refused(with_tables(&eight), &ninth, 26, &[1, 1]);
 }
 
 #[test]

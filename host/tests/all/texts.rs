@@ -1,7 +1,7 @@
 //! Texts of numbers, entries and tables, and the archive's version.
 
 use crate::common::{define, update, State};
-use peers::{archive_version, Answer, Commit, Refusal, VERSION};
+use peers::{archive_version, Answer, Commit, KeyType, Refusal, VERSION};
 
 /// Lines of `texts.txt`, which the C test reads too.
 fn texts() -> impl Iterator<Item = (u32, &'static str)> {
@@ -71,7 +71,7 @@ fn answers() {
 fn an_entry_shows_its_key_and_present_values() {
     let mut state = State::established();
     state.accept(&[
-        define(1, b"t", 0, 4, 0b1100, &[60_000, 3, 1000]),
+        define(1, b"t", KeyType::Integer, 4, 0b1100, &[60_000, 3, 1000]),
         update(1, &[0, 0, 0, 42], &[5, 1, 2, 3]),
     ]);
     let entry = state.store.entry(0).unwrap();

@@ -1,9 +1,9 @@
 //! Each kind of fault of a record or a store, one at a time, and what stands next to it on the other side of its boundary.
 //! A fault is refused with 4; a call on either side that takes nothing leaves every byte as it was.
 
-use crate::common::{define, message, update, State};
+use crate::common::{define, message, update, State, KEY_LENGTHS};
 use peers::layout::{Entry, Session, Store, Table};
-use peers::{Answer, Refusal};
+use peers::{Answer, KeyType, Refusal};
 
 /// A change of the record and the store.
 type Change = fn(&mut Session, &mut Store);
@@ -28,24 +28,24 @@ fn eight_tables() -> State {
         define(
             10,
             b"integers",
-            0,
+            KeyType::Integer,
             4,
             1 << 2 | 1 << 3 | 1 << 13 | 1 << 15,
             &[],
         ),
         update(1, &[0, 0, 0, 1], &[1, 2, 3, 4, 5, 6]),
         update(2, &[0, 0, 0, 2], &[1, 2, 3, 4, 5, 6]),
-        define(11, b"strings", 3, 8, ALL, &[]),
+        define(11, b"strings", KeyType::String, 8, ALL, &[]),
         update(3, b"\x02ab", &all),
         update(4, b"\x03abc", &all),
-        define(12, b"addresses", 2, 16, 0, &[]),
+        define(12, b"addresses", KeyType::Ipv6, 16, 0, &[]),
         update(5, &[6; 16], &[]),
-        define(13, b"cookies", 4, 64, 0, &[]),
+        define(13, b"cookies", KeyType::Binary, 64, 0, &[]),
         update(6, &[7; 64], &[]),
-        define(14, b"a", 0, 4, 0, &[]),
-        define(15, b"b", 0, 4, 0, &[]),
-        define(16, b"c", 0, 4, 0, &[]),
-        define(17, b"last", 3, 64, 0, &[]),
+        define(14, b"a", KeyType::Integer, 4, 0, &[]),
+        define(15, b"b", KeyType::Integer, 4, 0, &[]),
+        define(16, b"c", KeyType::Integer, 4, 0, &[]),
+        define(17, b"last", KeyType::String, 64, 0, &[]),
         update(7, &[&[64][..], &[8; 64]].concat(), &[]),
     ]);
     state
@@ -54,7 +54,7 @@ fn eight_tables() -> State {
 /// One table and 128 entries.
 fn full() -> State {
     let mut state = State::established();
-    state.accept(&[define(1, b"t", 3, 64, 0, &[])]);
+    state.accept(&[define(1, b"t", KeyType::String, 64, 0, &[])]);
     for key in 0..128 {
         state.accept(&[update(key, &[2, key as u8, 1], &[])]);
     }
@@ -181,40 +181,41 @@ fn name_length() {
     );
 }
 
+/// A change of table 4, which has no entries.
+fn with_keys(key_type: u32, key_len: u32) -> State {
+    let mut state = eight_tables();
+    let table = &mut state.store.layout_mut().tables[4];
+    (table.key_type, table.key_len) = (key_type, key_len);
+    state
+}
+
 #[test]
-fn key_type_and_key_length() {
-    sound(
-        &eight_tables(),
-        &[
-            |_, t| (t.tables[4].key_type, t.tables[4].key_len) = (0, 4),
-            |_, t| (t.tables[4].key_type, t.tables[4].key_len) = (1, 4),
-            |_, t| (t.tables[4].key_type, t.tables[4].key_len) = (2, 16),
-            |_, t| (t.tables[4].key_type, t.tables[4].key_len) = (3, 1),
-            |_, t| (t.tables[4].key_type, t.tables[4].key_len) = (3, 64),
-            |_, t| (t.tables[4].key_type, t.tables[4].key_len) = (4, 1),
-            |_, t| (t.tables[4].key_type, t.tables[4].key_len) = (4, 64),
-        ],
-    );
-    faults(
-        &eight_tables(),
-        &[
-            |_, t| (t.tables[4].key_type, t.tables[4].key_len) = (0, 3),
-            |_, t| (t.tables[4].key_type, t.tables[4].key_len) = (0, 5),
-            |_, t| (t.tables[4].key_type, t.tables[4].key_len) = (1, 3),
-            |_, t| (t.tables[4].key_type, t.tables[4].key_len) = (1, 5),
-            |_, t| (t.tables[4].key_type, t.tables[4].key_len) = (2, 15),
-            |_, t| (t.tables[4].key_type, t.tables[4].key_len) = (2, 17),
-            |_, t| (t.tables[4].key_type, t.tables[4].key_len) = (3, 0),
-            |_, t| (t.tables[4].key_type, t.tables[4].key_len) = (3, 65),
-            |_, t| (t.tables[4].key_type, t.tables[4].key_len) = (4, 0),
-            |_, t| (t.tables[4].key_type, t.tables[4].key_len) = (4, 65),
-            |_, t| (t.tables[4].key_type, t.tables[4].key_len) = (4, 256 + 64),
-            |_, t| (t.tables[4].key_type, t.tables[4].key_len) = (4, u32::MAX),
-            |_, t| (t.tables[4].key_type, t.tables[4].key_len) = (5, 4),
-            |_, t| (t.tables[4].key_type, t.tables[4].key_len) = (256, 4),
-            |_, t| (t.tables[4].key_type, t.tables[4].key_len) = (u32::MAX, 4),
-        ],
-    );
+fn key_type() {
+    for number in (0..300).chain([(1 << 16) + 2, (1 << 31) + 6, u32::MAX]) {
+        for key_len in [4, 16] {
+            let state = with_keys(number, key_len);
+            let fits = KEY_LENGTHS.iter().any(|&(key_type, least, most)| {
+                u32::from(key_type.number()) == number && (least..=most).contains(&key_len)
+            });
+            match fits {
+                true => sound(&state, &[|_, _| {}]),
+                false => faults(&state, &[|_, _| {}]),
+            }
+        }
+    }
+}
+
+#[test]
+fn key_length() {
+    for (key_type, least, most) in KEY_LENGTHS {
+        let number = key_type.number().into();
+        for key_len in [least, most] {
+            sound(&with_keys(number, key_len), &[|_, _| {}]);
+        }
+        for key_len in [least - 1, most + 1, 256 + most, u32::MAX] {
+            faults(&with_keys(number, key_len), &[|_, _| {}]);
+        }
+    }
 }
 
 #[test]
@@ -344,7 +345,10 @@ fn table_of_an_entry() {
     );
     // the table isn't held, and the record marks it nowhere
     let mut base = State::established();
-    base.accept(&[define(1, b"t", 0, 4, 0, &[]), update(1, b"keys", &[])]);
+    base.accept(&[
+        define(1, b"t", KeyType::Integer, 4, 0, &[]),
+        update(1, b"keys", &[]),
+    ]);
     sound(&base, &[|_, t| t.entries[0].table = 0]);
     faults(
         &base,
@@ -590,7 +594,7 @@ fn marks_of_a_binding() {
 #[test]
 fn bound_and_previous_ids_of_a_table_that_is_not_held() {
     let mut base = State::established();
-    base.accept(&[define(1, b"t", 0, 4, 0, &[])]);
+    base.accept(&[define(1, b"t", KeyType::Integer, 4, 0, &[])]);
     sound(
         &base,
         &[
@@ -651,7 +655,7 @@ fn current_table() {
         ],
     );
     let mut base = State::established();
-    base.accept(&[define(1, b"t", 0, 4, 0, &[])]);
+    base.accept(&[define(1, b"t", KeyType::Integer, 4, 0, &[])]);
     faults(
         &base,
         &[
@@ -807,7 +811,7 @@ fn record_of_a_refused_opening() {
 #[test]
 fn methods_on_what_is_not_sound() {
     let mut state = eight_tables();
-    state.store.layout_mut().tables[0].key_type = 256;
+    state.store.layout_mut().tables[0].key_type = 256 + 2;
     assert_eq!(state.store.table(0).unwrap().key_type(), None);
     let record = state.session.layout_mut();
     (record.connection.closed, record.connection.number) = (1, 256 + 10);

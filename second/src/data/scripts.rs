@@ -4,16 +4,17 @@ use crate::datatype;
 use crate::generate::values::Shape;
 use crate::generate::wire::{self, table_message, Message};
 use crate::integer::encode;
+use crate::message::DEFINITION;
 use crate::record::Role;
 use crate::replay::Command;
-use crate::store::{Times, ENTRIES, TABLES};
+use crate::store::{Times, BINARY, ENTRIES, INTEGER, IPV4, IPV6, STRING, TABLES};
 
 /// An accepted hello.
 pub const HELLO: &[u8] = b"HAProxyS 2.1\neast\nwest 7 0\n";
 
 /// The messages of the listing's example.
 pub const EXAMPLE: &[u8] = &[
-    0x0A, 0x82, 0x0A, 0x01, 0x02, 0x74, 0x31, 0x00, 0x04, 0x04, 0xF0, 0x97, 0x1C, // table
+    0x0A, 0x82, 0x0A, 0x01, 0x02, 0x74, 0x31, 0x02, 0x04, 0x04, 0xF0, 0x97, 0x1C, // table
     0x0A, 0x80, 0x0B, 0xFF, 0xFF, 0xFF, 0xFF, 0x00, 0x00, 0x00, 0x2A, 0xF4, 0x94,
     0x01, // update
     0x0A, 0x81, 0x05, 0x00, 0x00, 0x00, 0x2A, 0x05, // incremental update
@@ -21,7 +22,7 @@ pub const EXAMPLE: &[u8] = &[
 ];
 
 /// A definition of a table with a server ID: name `s`, integer keys.
-const SERVER_TABLE: &[u8] = &[0x0A, 0x82, 0x06, 0x01, 0x01, 0x73, 0x00, 0x04, 0x01];
+const SERVER_TABLE: &[u8] = &[0x0A, 0x82, 0x06, 0x01, 0x01, 0x73, 0x02, 0x04, 0x01];
 
 /// All scripts with their names.
 pub fn all() -> Vec<(&'static str, Vec<u8>)> {
@@ -29,6 +30,7 @@ pub fn all() -> Vec<(&'static str, Vec<u8>)> {
         ("divisions", divisions()),
         ("cases", cases()),
         ("fields", fields()),
+        ("key-types", key_types()),
         ("headers", headers()),
         ("hellos", hellos()),
         ("statuses", statuses()),
@@ -189,19 +191,30 @@ fn fields() -> Vec<u8> {
     script.0
 }
 
+/// Each key type with its smallest and largest key length.
+const KEYS: [(u64, u64); 7] = [
+    (INTEGER, 4),
+    (IPV4, 4),
+    (IPV6, 16),
+    (STRING, 64),
+    (BINARY, 64),
+    (STRING, 1),
+    (BINARY, 1),
+];
+
 /// Messages, each with those that go before it.
 fn field_messages() -> Vec<(Vec<Vec<u8>>, Message)> {
     let times = Times {
         expiry: 60000,
         periods: vec![1000, 4294967295],
     };
-    let rates = shape(3, 10, 1 << 3 | 1 << 18);
+    let rates = shape(STRING, 10, 1 << 3 | 1 << 18);
     let mut list = vec![
         (vec![], wire::definition(300, b"name", rates, Some(&times))),
         (vec![], wire::acknowledgement(300, 7)),
         (vec![EXAMPLE[..13].to_vec()], wire::switch(1)),
     ];
-    for (key_type, key_length) in [(0, 4), (1, 4), (2, 16), (3, 64), (4, 64), (3, 1), (4, 1)] {
+    for (key_type, key_length) in KEYS {
         let shape = shape(key_type, key_length, 0);
         let definition = wire::definition(1, b"k", shape, None);
         let update = wire::update(Some(9), &vec![7; key_length as usize], shape, &[]);
@@ -209,7 +222,7 @@ fn field_messages() -> Vec<(Vec<Vec<u8>>, Message)> {
         list.push((vec![definition.bytes()], update));
     }
     for data_type in 0..datatype::COUNT {
-        let shape = shape(3, 2, datatype::bit(data_type));
+        let shape = shape(STRING, 2, datatype::bit(data_type));
         let values = vec![240; datatype::values(shape.data_types).len()];
         let definition = wire::definition(1, b"d", shape, None).bytes();
         let update = |id| wire::update(id, b"k", shape, &values);
@@ -229,6 +242,25 @@ fn shape(key_type: u64, key_length: u64, data_types: u64) -> Shape {
         key_length,
         data_types,
     }
+}
+
+/// Definitions with key types in and out of range, each at the end of the body
+/// and with key lengths next to every limit.
+fn key_types() -> Vec<u8> {
+    let mut script = Script::default();
+    let mut numbers: Vec<u64> = (0..=9).collect();
+    numbers.extend([16, 127, 128, 239, 240, 258, 65538, u64::MAX]);
+    numbers.extend((0..=8).map(|number| (1 << 32) + number));
+    for number in numbers {
+        let start = [&[1, 1, b'k'], &encode(number)[..]].concat();
+        script.after(&[], &table_message(DEFINITION, &start));
+        for length in [0, 1, 3, 4, 5, 15, 16, 17, 63, 64, 65, (1 << 32) + 4] {
+            let body = [&start[..], &encode(length), &[0]].concat();
+            script.after(&[], &table_message(DEFINITION, &body));
+            script.add(Command::Dump);
+        }
+    }
+    script.0
 }
 
 /// Headers next to those that are known.
@@ -429,7 +461,7 @@ fn full() -> Vec<u8> {
 
 /// The shape of the tables of the full store.
 fn full_shape() -> Shape {
-    shape(4, 1, 1 << 2 | 1 << 4)
+    shape(BINARY, 1, 1 << 2 | 1 << 4)
 }
 
 /// The definition of a table of the full store; its ID is its place.
@@ -451,7 +483,7 @@ fn full_endings() -> Vec<(usize, Vec<u8>)> {
         let other = full_update(Some(9), place as u8 + 1);
         let ninth = wire::definition(9, b"ninth", full_shape(), None);
         let held = wire::definition(9, b"c", full_shape(), None);
-        let disagreeing = wire::definition(9, b"c", shape(4, 2, 1 << 2 | 1 << 4), None);
+        let disagreeing = wire::definition(9, b"c", shape(BINARY, 2, 1 << 2 | 1 << 4), None);
         let incremental = full_update(None, 200);
         for message in [known, new, other, ninth, held, disagreeing, incremental] {
             endings.extend(variants(&message).into_iter().map(|bytes| (place, bytes)));

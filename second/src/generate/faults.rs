@@ -3,11 +3,12 @@
 use super::builder::Builder;
 use super::profile::Operation;
 use super::values::{shape, table_id, update_id, Shape};
-use super::wire::{self, overflows, Message};
+use super::wire::{self, overflows, Message, KEY_TYPE};
 use crate::datatype;
 use crate::frame::TABLE_CLASS;
 use crate::integer::encode;
 use crate::record::Record;
+use crate::store::{BINARY, INTEGER, IPV4, STRING};
 
 /// A message that is refused in most cases.
 pub fn fault(builder: &mut Builder) -> Vec<u8> {
@@ -28,7 +29,7 @@ fn choose(builder: &mut Builder) -> usize {
     if builder.store.free_table().is_none() && builder.random.chance(400) {
         return 6;
     }
-    builder.random.weighted(&[2, 2, 2, 5, 6, 4, 1, 4, 4, 1])
+    builder.random.weighted(&[2, 2, 2, 5, 9, 4, 1, 4, 4, 1])
 }
 
 /// A message for the refusal with this number plus 20, if the state has one.
@@ -38,6 +39,7 @@ fn numbered(builder: &mut Builder, number: usize) -> Option<Vec<u8>> {
         1 => Some(overflowing_length(builder)),
         2 => Some(large_length(builder)),
         3 => Some(base(builder).cut(builder.random)),
+        4 if builder.random.chance(350) => Some(bad_key(builder)),
         4 => base(builder).out_of_range(builder.random),
         5 => disagreeing(builder).map(|message| spoiled(builder, &message)),
         6 => ninth_table(builder).map(|message| spoiled(builder, &message)),
@@ -140,6 +142,13 @@ fn base(builder: &mut Builder) -> Message {
     other.unwrap_or_else(|| builder.message(operation))
 }
 
+/// A definition whose key type or key length is out of range.
+fn bad_key(builder: &mut Builder) -> Vec<u8> {
+    let message = builder.message(Operation::Define);
+    let place = builder.random.pick(&[KEY_TYPE, KEY_TYPE + 1]);
+    message.with_bad_field(place, builder.random)
+}
+
 /// A definition of a new name with any data types.
 fn any_definition(builder: &mut Builder) -> Message {
     let name = builder.new_name();
@@ -161,13 +170,26 @@ fn other_shape(builder: &mut Builder, held: Shape) -> Shape {
     let random = &mut *builder.random;
     let mut other = held;
     match random.below(3) {
-        0 => other.key_type = [1, 0, 2, 4, 3][held.key_type as usize],
-        1 if held.key_type >= 3 => other.key_length = held.key_length % 64 + 1,
+        0 => other.key_type = of_like_length(held.key_type),
+        1 if matches!(held.key_type, STRING | BINARY) => {
+            other.key_length = held.key_length % 64 + 1
+        }
         _ => other.data_types ^= random.pick(&datatype::BITS),
     }
     match other == held {
         true => shape_unlike(builder, held),
         false => other,
+    }
+}
+
+/// Another key type that allows the same key lengths, where there is one.
+fn of_like_length(key_type: u64) -> u64 {
+    match key_type {
+        INTEGER => IPV4,
+        IPV4 => INTEGER,
+        STRING => BINARY,
+        BINARY => STRING,
+        _ => key_type,
     }
 }
 

@@ -2,7 +2,7 @@
 
 use super::random::Random;
 use crate::datatype::{self, from_server_id};
-use crate::store::{Table, KEY_LIMIT, STRING};
+use crate::store::{Table, INTEGER, IPV4, IPV6, KEY_LIMIT, KEY_TYPES, STRING};
 
 /// Values next to a change of the encoding or of a limit.
 pub const EDGES: [u64; 47] = [
@@ -176,7 +176,7 @@ impl Shape {
 
 /// A shape with few or many data types.
 pub fn shape(random: &mut Random, wide: bool) -> Shape {
-    let key_type = random.below(5) as u64;
+    let key_type = random.pick(&KEY_TYPES);
     let key_length = key_length(random, key_type);
     let data_types = match wide {
         true => wide_data_types(random),
@@ -192,8 +192,8 @@ pub fn shape(random: &mut Random, wide: bool) -> Shape {
 /// A key length of a key type.
 fn key_length(random: &mut Random, key_type: u64) -> u64 {
     match key_type {
-        0 | 1 => 4,
-        2 => 16,
+        INTEGER | IPV4 => 4,
+        IPV6 => 16,
         _ => random.pick(&[1, 2, 3, 4, 5, 8, 16, 63, 64]),
     }
 }

@@ -6,7 +6,7 @@ use crate::datatype;
 use crate::frame::TABLE_CLASS;
 use crate::integer::encode;
 use crate::message::{ACKNOWLEDGEMENT, DEFINITION, INCREMENTAL, SWITCH, UPDATE};
-use crate::store::{Times, STRING};
+use crate::store::{Times, INTEGER, IPV4, IPV6, STRING};
 
 /// A field of a body.
 #[derive(Clone, Debug)]
@@ -77,6 +77,10 @@ pub fn overflows() -> Vec<Vec<u8>> {
     ]
 }
 
+/// The place of the key type among the fields of a definition; the key length
+/// follows it.
+pub const KEY_TYPE: usize = 3;
+
 /// A table message.
 #[derive(Clone, Debug)]
 pub struct Message {
@@ -114,9 +118,14 @@ impl Message {
     pub fn out_of_range(&self, random: &mut Random) -> Option<Vec<u8>> {
         let places = (0..self.fields.len()).filter(|&n| self.fields[n].can_be_bad());
         let place = random.pick_any(&places.collect::<Vec<_>>())?;
+        Some(self.with_bad_field(place, random))
+    }
+
+    /// The message with this field out of range; all of it or up to there.
+    pub fn with_bad_field(&self, place: usize, random: &mut Random) -> Vec<u8> {
         let bad = self.fields[place].bad(random);
         let whole = !random.chance(300);
-        Some(self.with_field(place, bad, whole))
+        self.with_field(place, bad, whole)
     }
 
     /// The message with other bytes in place of a field; whole or up to it.
@@ -145,7 +154,7 @@ pub fn definition(id: u64, name: &[u8], shape: Shape, times: Option<&Times>) -> 
         Field::integer_32(id),
         Field::integer(name.len() as u64, &[0, 33], &[34, 239, 240, u64::MAX]),
         Field::raw(name),
-        Field::integer(shape.key_type, &[5], &[6, 239, 240, u64::MAX]),
+        key_type(shape.key_type),
         Field::integer(shape.key_length, near, far),
         Field::integer(shape.data_types, &[1 << 19], &[1 << 20, 1 << 32, u64::MAX]),
     ];
@@ -163,12 +172,28 @@ pub fn definition(id: u64, name: &[u8], shape: Shape, times: Option<&Times>) -> 
     }
 }
 
+/// The key type of a definition; numbers between and next to the known ones
+/// are out of range, and so are larger ones that end in the same bits.
+fn key_type(number: u64) -> Field {
+    let near = [0, 1, 3, 8];
+    let far = [
+        9,
+        239,
+        240,
+        256 + number,
+        (1 << 32) + number,
+        (1 << 32) + 2,
+        u64::MAX,
+    ];
+    Field::integer(number, &near, &far)
+}
+
 /// Key lengths that a key type doesn't allow, near and far.
 fn bad_key_lengths(key_type: u64) -> (&'static [u64], &'static [u64]) {
     match key_type {
-        0 | 1 => (&[3, 5], &[0, 16, u64::MAX]),
-        2 => (&[15, 17], &[0, 4, 64, u64::MAX]),
-        _ => (&[0, 65], &[66, 240, u64::MAX]),
+        INTEGER | IPV4 => (&[3, 5, 16], &[0, 1, 64, (1 << 32) + 4, u64::MAX]),
+        IPV6 => (&[15, 17, 4], &[0, 1, 64, (1 << 32) + 16, u64::MAX]),
+        _ => (&[0, 65], &[66, 240, (1 << 32) + 1, u64::MAX]),
     }
 }
 

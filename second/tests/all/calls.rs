@@ -79,7 +79,7 @@ fn room_of_11_and_12() {
 
 #[test]
 fn the_longest_reply_fits_the_room() {
-    let mut session = Session::with_tables(&[&definition(4294967295, b"t", [0, 4, 0])]);
+    let mut session = Session::with_tables(&[&definition(4294967295, b"t", [2, 4, 0])]);
     let bytes = message(128, &update(1, b"kkkk", &[]));
     let (outcome, reply) = call(&mut session, &bytes, 12);
     assert_eq!(outcome.reply, 12);

@@ -5,6 +5,7 @@ use second::call::read;
 use second::datatype;
 use second::generate::values::EDGES;
 use second::generate::{capture, script, stream};
+use second::integer::{decode, Decoded};
 use second::long::Figures;
 use second::record::{Phase, Record, Role};
 use second::replay::{command, replay, session, Command};
@@ -28,6 +29,8 @@ struct Seen {
     times_dropped: u32,
     reconnections: u32,
     key_types: BTreeSet<u64>,
+    bad_key_types: BTreeSet<u64>,
+    bad_key_lengths: BTreeMap<u64, BTreeSet<u64>>,
     key_lengths: BTreeSet<usize>,
     data_types: BTreeSet<u32>,
     server_ids: BTreeSet<i32>,
@@ -139,7 +142,7 @@ impl Seen {
     /// Looks at one call.
     fn look(&mut self, step: &Step) {
         match step.outcome.answer {
-            Answer::Refused { number } => *self.refusals.entry(number).or_default() += 1,
+            Answer::Refused { number } => self.refused(step, number),
             Answer::Table { place } => self.definition(step, place),
             Answer::Update {
                 table, id, entry, ..
@@ -147,6 +150,35 @@ impl Seen {
             Answer::More => self.more(step.record),
             _ => {}
         }
+    }
+
+    /// Looks at a refusal.
+    fn refused(&mut self, step: &Step, number: u8) {
+        *self.refusals.entry(number).or_default() += 1;
+        let message = [
+            &step.before.unfinished[..],
+            &step.piece[..step.outcome.taken],
+        ];
+        if let (24, [10, 130, rest @ ..]) = (number, &message.concat()[..]) {
+            self.refused_key(rest);
+        }
+    }
+
+    /// Looks at the key type and the key length of a definition that is out
+    /// of range, if they are there.
+    fn refused_key(&mut self, bytes: &[u8]) -> Option<()> {
+        let mut rest = bytes;
+        let (_length, _id) = (integer(&mut rest)?, integer(&mut rest)?);
+        let name = integer(&mut rest)? as usize;
+        rest = rest.get(name..)?;
+        let key_type = integer(&mut rest)?;
+        if !(2..=7).contains(&key_type) || key_type == 3 {
+            self.bad_key_types.insert(key_type);
+            return None;
+        }
+        let lengths = self.bad_key_lengths.entry(key_type).or_default();
+        lengths.insert(integer(&mut rest)?);
+        None
     }
 
     /// Looks at an accepted definition.
@@ -206,6 +238,17 @@ impl Seen {
     }
 }
 
+/// Takes an encoded integer from the front of some bytes.
+fn integer(bytes: &mut &[u8]) -> Option<u64> {
+    match decode(bytes) {
+        Decoded::Value { value, length } => {
+            *bytes = &bytes[length..];
+            Some(value)
+        }
+        _ => None,
+    }
+}
+
 /// The number of held tables with times.
 fn times(store: &Store) -> usize {
     let tables = store.tables.iter().flatten();
@@ -239,12 +282,13 @@ fn the_streams_reach_all_rules() {
     assert!(seen.redefined > 500 && seen.rebound > 500 && seen.times_dropped > 50);
     assert!(seen.reconnections > 200);
     reaches_all_values(&seen);
+    reaches_all_bad_keys(&seen);
     reaches_all_divisions(&seen);
 }
 
 /// All key types and data types and all edge values are reached.
 fn reaches_all_values(seen: &Seen) {
-    assert_eq!(seen.key_types, (0..5).collect());
+    assert_eq!(seen.key_types, [2, 4, 5, 6, 7].into());
     assert_eq!(seen.data_types, (0..19).collect());
     let lengths = [0, 1, 2, 3, 4, 5, 8, 16, 63, 64];
     assert!(lengths.iter().all(|n| seen.key_lengths.contains(n)));
@@ -253,6 +297,23 @@ fn reaches_all_values(seen: &Seen) {
     assert!(EDGES.iter().all(|value| seen.wide_values.contains(value)));
     let mut small = EDGES.iter().take_while(|&&value| value <= datatype::MAX_32);
     assert!(small.all(|value| seen.bound_ids.contains(value)));
+}
+
+/// Key types and key lengths next to the known ones are refused.
+fn reaches_all_bad_keys(seen: &Seen) {
+    let types = [0, 1, 3, 8, (1 << 32) + 2, u64::MAX];
+    assert!(types.iter().all(|n| seen.bad_key_types.contains(n)));
+    let lengths: [(u64, &[u64]); 5] = [
+        (2, &[3, 5, 16]),
+        (4, &[3, 5, 16]),
+        (5, &[4, 15, 17]),
+        (6, &[0, 65]),
+        (7, &[0, 65]),
+    ];
+    for (key_type, lengths) in lengths {
+        let found = &seen.bad_key_lengths[&key_type];
+        assert!(lengths.iter().all(|n| found.contains(n)), "{key_type}");
+    }
 }
 
 /// Pieces end after every byte of short messages, in all rooms.

@@ -144,12 +144,12 @@ fn last_dump(script: &[u8]) -> String {
 fn a_dump_with_all_lines() {
     let rates = 1 << 3 | 1 << 5;
     let messages = [
-        message(130, &timed(300, b"a", [0, 4, 1 | 1 << 13], &[60000])),
+        message(130, &timed(300, b"a", [2, 4, 1 | 1 << 13], &[60000])),
         message(128, &update(5, &[0, 0, 0, 42], &[u64::MAX, u64::MAX])),
-        message(130, &timed(1, b"b", [3, 8, rates], &[7, 3, 8, 5, 9])),
+        message(130, &timed(1, b"b", [6, 8, rates], &[7, 3, 8, 5, 9])),
         message(128, &[0, 0, 0, 9, 0, 1, 2, 3, 4, 5, 6]),
         message(129, &[2, b'A', b'B', 1, 2, 3, 4, 5, 6]),
-        message(130, &definition(4, b"c", [4, 2, 0])),
+        message(130, &definition(4, b"c", [7, 2, 0])),
         vec![10, 128, 5, 0xAB],
     ];
     let mut script = open();
@@ -165,9 +165,9 @@ previous 0 5
 bound 1 1
 previous 1 10
 bound 2 4
-table 0 61 0 4 8193 60000
-table 1 62 3 8 40 7 8 9
-table 2 63 4 2 0 -
+table 0 61 2 4 8193 60000
+table 1 62 6 8 40 7 8 9
+table 2 63 7 2 0 -
 entry 0 0 0000002A -1 18446744073709551615
 entry 1 1 - 1 2 3 4 5 6
 entry 2 1 4142 1 2 3 4 5 6
@@ -188,7 +188,7 @@ unfinished -
 current 0
 bound 0 1
 previous 0 4294967295
-table 0 7431 0 4 4 60000
+table 0 7431 2 4 4 60000
 entry 0 0 0000002A 4660
 end
 ";
@@ -205,7 +205,7 @@ fn a_reconnection_keeps_the_store() {
     let expected = "session handshake
 unfinished -
 current -
-table 0 7431 0 4 4 60000
+table 0 7431 2 4 4 60000
 entry 0 0 0000002A 4660
 end
 ";

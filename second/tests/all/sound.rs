@@ -11,9 +11,9 @@ const RATES: u64 = 1 << 3 | 1 << 18;
 /// A session with three tables and entries of each.
 fn base() -> Session {
     let mut session = Session::with_tables(&[
-        &timed(1, b"a", [0, 4, 1 | 1 << 2 | 1 << 13], &[5]),
-        &timed(2, b"b", [3, 10, RATES], &[5, 3, 6, 18, 7]),
-        &definition(3, b"c", [4, 64, 0]),
+        &timed(1, b"a", [2, 4, 1 | 1 << 2 | 1 << 13], &[5]),
+        &timed(2, b"b", [6, 10, RATES], &[5, 3, 6, 18, 7]),
+        &definition(3, b"c", [7, 64, 0]),
     ]);
     session.one(128, &update(9, &[7; 64], &[]));
     session.one(131, &[2]);
@@ -88,22 +88,26 @@ fn table_names() {
 
 #[test]
 fn table_shapes() {
-    table_case(&["key type"], |table| table.key_type = 5);
-    table_case(&["key type"], |table| table.key_type = u64::MAX);
-    table_case(&[], |table| table.key_type = 1);
-    table_case(&["key length"], |table| table.key_type = 2);
+    for key_type in [0, 1, 3, 8, 255, (1 << 32) + 2, u64::MAX] {
+        table_case(&["key type"], |table| table.key_type = key_type);
+    }
+    table_case(&[], |table| table.key_type = 4);
+    table_case(&["key length"], |table| table.key_type = 5);
     for (key_type, length, good) in [
-        (0, 3, false),
-        (1, 5, false),
-        (2, 16, true),
-        (2, 15, false),
-        (3, 0, false),
-        (3, 1, true),
-        (3, 64, true),
-        (3, 65, false),
-        (4, 0, false),
-        (4, 64, true),
-        (4, 65, false),
+        (2, 3, false),
+        (2, 16, false),
+        (4, 5, false),
+        (4, 16, false),
+        (5, 16, true),
+        (5, 15, false),
+        (5, 4, false),
+        (6, 0, false),
+        (6, 1, true),
+        (6, 64, true),
+        (6, 65, false),
+        (7, 0, false),
+        (7, 64, true),
+        (7, 65, false),
     ] {
         let rows: &[&str] = if good { &[] } else { &["key length"] };
         table_case(rows, |table| {
@@ -204,7 +208,7 @@ fn distinct_entries() {
         store.entries[90] = Some(Entry::new(1, b"key\0", vec![0; 6]));
     });
     store_case(&[], |store| {
-        store.tables[5] = Some(table(b"f", [0, 4, 0], None));
+        store.tables[5] = Some(table(b"f", [2, 4, 0], None));
         store.entries[127] = Some(Entry::new(5, &[1, 2, 3, 4], vec![]));
     });
 }

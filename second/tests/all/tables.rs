@@ -10,13 +10,13 @@ const MAX: u64 = 4294967295;
 #[test]
 fn a_new_table() {
     let mut session = Session::open();
-    let body = timed(5, b"t1", [0, 4, 4], &[60000]);
+    let body = timed(5, b"t1", [2, 4, 4], &[60000]);
     let response = session.respond(&crate::common::message(130, &body));
     assert_eq!(response.answer, Answer::Table { place: 0 });
     assert_eq!(response.reply, []);
     assert_eq!(
         session.tables(),
-        [&table(b"t1", [0, 4, 4], Some((60000, &[])))]
+        [&table(b"t1", [2, 4, 4], Some((60000, &[])))]
     );
     assert_eq!(session.record.bound[0], Some(5));
     assert_eq!(session.record.previous, [None; 8]);
@@ -28,14 +28,14 @@ fn a_new_table() {
 fn eight_tables_and_a_ninth() {
     let mut session = Session::open();
     for place in 0..8 {
-        let body = definition(100 + place as u64, &[place as u8], [0, 4, 0]);
+        let body = definition(100 + place as u64, &[place as u8], [2, 4, 0]);
         assert_eq!(session.one(130, &body), Answer::Table { place });
         assert_eq!(session.record.current, Some(place));
     }
     let held = session.clone();
     let response = session.respond(&crate::common::message(
         130,
-        &definition(1, b"x", [0, 4, 0]),
+        &definition(1, b"x", [2, 4, 0]),
     ));
     assert_eq!(response.answer, refused(26));
     assert_eq!(response.reply, [1, 1]);
@@ -43,7 +43,7 @@ fn eight_tables_and_a_ninth() {
     assert_eq!(session.store, held.store);
     assert_eq!(session.record.bound, held.record.bound);
     let mut session = held;
-    let again = definition(1, &[3], [0, 4, 0]);
+    let again = definition(1, &[3], [2, 4, 0]);
     assert_eq!(session.one(130, &again), Answer::Table { place: 3 });
 }
 
@@ -56,12 +56,12 @@ fn defined(body: &[u8]) -> Answer {
 fn ids() {
     for id in [0, 1, 239, 240, MAX] {
         assert_eq!(
-            defined(&definition(id, b"t", [0, 4, 0])),
+            defined(&definition(id, b"t", [2, 4, 0])),
             Answer::Table { place: 0 }
         );
     }
     for id in [MAX + 1, u64::MAX] {
-        assert_eq!(defined(&definition(id, b"t", [0, 4, 0])), refused(24));
+        assert_eq!(defined(&definition(id, b"t", [2, 4, 0])), refused(24));
         assert_eq!(defined(&encode(id)), refused(24));
     }
 }
@@ -69,11 +69,11 @@ fn ids() {
 #[test]
 fn name_lengths() {
     for length in [1, 2, 31, 32] {
-        let body = definition(1, &vec![0; length], [0, 4, 0]);
+        let body = definition(1, &vec![0; length], [2, 4, 0]);
         assert_eq!(defined(&body), Answer::Table { place: 0 });
     }
     for length in [0, 33, 64, 300] {
-        let body = definition(1, &vec![b'n'; length], [0, 4, 0]);
+        let body = definition(1, &vec![b'n'; length], [2, 4, 0]);
         assert_eq!(defined(&body), refused(24), "{length}");
         let start = encoded(&[1, length as u64]);
         assert_eq!(defined(&start), refused(24), "{length}");
@@ -82,13 +82,13 @@ fn name_lengths() {
 
 #[test]
 fn key_types_and_lengths() {
-    for key_type in 0..8 {
+    for key_type in 0..12 {
         for key_length in 0..70 {
             let body = definition(1, b"t", [key_type, key_length, 0]);
             let good = match key_type {
-                0 | 1 => key_length == 4,
-                2 => key_length == 16,
-                3 | 4 => (1..=64).contains(&key_length),
+                2 | 4 => key_length == 4,
+                5 => key_length == 16,
+                6 | 7 => (1..=64).contains(&key_length),
                 _ => false,
             };
             let expected = match good {
@@ -98,36 +98,45 @@ fn key_types_and_lengths() {
             assert_eq!(defined(&body), expected, "{key_type} {key_length}");
         }
     }
-    assert_eq!(defined(&definition(1, b"t", [u64::MAX, 4, 0])), refused(24));
-    assert_eq!(defined(&definition(1, b"t", [3, u64::MAX, 0])), refused(24));
+    for key_type in [255, 258, 1 << 32, (1 << 32) + 2, u64::MAX] {
+        assert_eq!(defined(&definition(1, b"t", [key_type, 4, 0])), refused(24));
+    }
+    for key_length in [260, (1 << 32) + 4, u64::MAX] {
+        let body = definition(1, b"t", [6, key_length, 0]);
+        assert_eq!(defined(&body), refused(24));
+    }
 }
 
 #[test]
 fn a_wrong_key_type_is_refused_before_the_next_field() {
-    let start = encoded(&[1, 1, b't'.into(), 5]);
-    assert_eq!(defined(&start), refused(24));
-    let start = encoded(&[1, 1, b't'.into(), 4]);
-    assert_eq!(defined(&start), refused(23));
+    for key_type in [0, 1, 3, 8, 9, 240, (1 << 32) + 2] {
+        let start = encoded(&[1, 1, b't'.into(), key_type]);
+        assert_eq!(defined(&start), refused(24), "{key_type}");
+    }
+    for key_type in [2, 4, 5, 6, 7] {
+        let start = encoded(&[1, 1, b't'.into(), key_type]);
+        assert_eq!(defined(&start), refused(23), "{key_type}");
+    }
 }
 
 #[test]
 fn data_types() {
     for bit in powers().take(19) {
-        let body = definition(1, b"t", [0, 4, bit]);
+        let body = definition(1, b"t", [2, 4, bit]);
         assert_eq!(defined(&body), Answer::Table { place: 0 });
     }
-    let all = definition(1, b"t", [0, 4, (1 << 19) - 1]);
+    let all = definition(1, b"t", [2, 4, (1 << 19) - 1]);
     assert_eq!(defined(&all), Answer::Table { place: 0 });
     for types in [1 << 19, 1 << 31, 1 << 32, u64::MAX] {
-        assert_eq!(defined(&definition(1, b"t", [0, 4, types])), refused(24));
+        assert_eq!(defined(&definition(1, b"t", [2, 4, types])), refused(24));
     }
 }
 
 #[test]
 fn every_cut_of_a_definition() {
     let rates = 1 << 3 | 1 << 5;
-    let body = timed(300, b"name", [3, 10, rates], &[60000, 3, 10000, 5, MAX]);
-    let types_end = definition(300, b"name", [3, 10, rates]).len();
+    let body = timed(300, b"name", [6, 10, rates], &[60000, 3, 10000, 5, MAX]);
+    let types_end = definition(300, b"name", [6, 10, rates]).len();
     for length in 0..body.len() {
         let expected = match length == types_end {
             true => Answer::Table { place: 0 },
@@ -140,7 +149,7 @@ fn every_cut_of_a_definition() {
 
 #[test]
 fn a_byte_after_the_data_types_begins_the_expiry() {
-    let mut body = definition(1, b"t", [0, 4, 1 << 3]);
+    let mut body = definition(1, b"t", [2, 4, 1 << 3]);
     body.push(9);
     assert_eq!(defined(&body), refused(23));
     body.extend([3]);
@@ -156,7 +165,7 @@ fn a_byte_after_the_data_types_begins_the_expiry() {
 
 #[test]
 fn expiry_and_periods_are_32_bit() {
-    let shape = [0, 4, 1 << 18];
+    let shape = [2, 4, 1 << 18];
     let good = timed(1, b"t", shape, &[MAX, 18, MAX]);
     assert_eq!(defined(&good), Answer::Table { place: 0 });
     assert_eq!(
@@ -177,7 +186,7 @@ fn pairs_go_in_ascending_order() {
     let mut times = vec![1];
     times.extend(rates.iter().flat_map(|&rate| [rate, 1000 + rate]));
     let mut session = Session::open();
-    let body = timed(1, b"t", [0, 4, types], &times);
+    let body = timed(1, b"t", [2, 4, types], &times);
     assert_eq!(session.one(130, &body), Answer::Table { place: 0 });
     let periods: Vec<u64> = rates.iter().map(|rate| 1000 + rate).collect();
     assert_eq!(session.tables()[0].times.as_ref().unwrap().periods, periods);
@@ -189,20 +198,20 @@ fn pairs_go_in_ascending_order() {
                 true => Answer::Table { place: 0 },
                 false => refused(24),
             };
-            assert_eq!(defined(&timed(1, b"t", [0, 4, types], &other)), expected);
+            assert_eq!(defined(&timed(1, b"t", [2, 4, types], &other)), expected);
         }
     }
 }
 
 #[test]
 fn a_wrong_pair_number_is_refused_before_its_period() {
-    let body = timed(1, b"t", [0, 4, 1 << 8], &[1, 5]);
+    let body = timed(1, b"t", [2, 4, 1 << 8], &[1, 5]);
     assert_eq!(defined(&body), refused(24));
 }
 
 #[test]
 fn types_that_are_no_rates_have_no_pairs() {
-    let shape = [0, 4, 1 | 1 << 2 | 1 << 13];
+    let shape = [2, 4, 1 | 1 << 2 | 1 << 13];
     let mut session = Session::open();
     let body = timed(1, b"t", shape, &[12, 99, 98]);
     assert_eq!(session.one(130, &body), Answer::Table { place: 0 });
@@ -211,14 +220,14 @@ fn types_that_are_no_rates_have_no_pairs() {
 
 #[test]
 fn a_held_name_must_agree() {
-    let base = Session::with_tables(&[&definition(1, b"t", [3, 10, 4])]);
+    let base = Session::with_tables(&[&definition(1, b"t", [6, 10, 4])]);
     let disagreeing = [
-        [4, 10, 4],
-        [3, 9, 4],
-        [3, 11, 4],
-        [3, 10, 5],
-        [3, 10, 0],
-        [0, 4, 4],
+        [7, 10, 4],
+        [6, 9, 4],
+        [6, 11, 4],
+        [6, 10, 5],
+        [6, 10, 0],
+        [2, 4, 4],
     ];
     for shape in disagreeing {
         let mut session = base.clone();
@@ -229,15 +238,15 @@ fn a_held_name_must_agree() {
         expected.record.phase = Phase::Closed(25);
         assert_eq!(session, expected);
     }
-    let agreeing = definition(2, b"t", [3, 10, 4]);
+    let agreeing = definition(2, b"t", [6, 10, 4]);
     assert_eq!(base.would(130, &agreeing), Answer::Table { place: 0 });
-    let other_name = definition(2, b"t\0", [3, 11, 4]);
+    let other_name = definition(2, b"t\0", [6, 11, 4]);
     assert_eq!(base.would(130, &other_name), Answer::Table { place: 1 });
 }
 
 #[test]
 fn expiry_and_periods_are_replaced() {
-    let shape = [0, 4, 1 << 3];
+    let shape = [2, 4, 1 << 3];
     let mut session = Session::with_tables(&[&timed(1, b"t", shape, &[7, 3, 8])]);
     session.one(130, &timed(1, b"t", shape, &[9, 3, 10]));
     assert_eq!(session.tables(), [&table(b"t", shape, Some((9, &[10])))]);
@@ -249,9 +258,9 @@ fn expiry_and_periods_are_replaced() {
 
 /// Two tables with IDs 1 and 2 and one entry each; the second is current.
 fn two_tables() -> Session {
-    let mut session = Session::with_tables(&[&definition(1, b"a", [0, 4, 0])]);
+    let mut session = Session::with_tables(&[&definition(1, b"a", [2, 4, 0])]);
     session.one(128, &update(10, &[0; 4], &[]));
-    session.one(130, &definition(2, b"b", [0, 4, 0]));
+    session.one(130, &definition(2, b"b", [2, 4, 0]));
     session.one(128, &update(20, &[0; 4], &[]));
     session
 }
@@ -260,7 +269,7 @@ fn two_tables() -> Session {
 fn a_redefinition_changes_the_id_and_keeps_the_rest() {
     let mut session = two_tables();
     let before = session.clone();
-    let answer = session.one(130, &definition(7, b"a", [0, 4, 0]));
+    let answer = session.one(130, &definition(7, b"a", [2, 4, 0]));
     assert_eq!(answer, Answer::Table { place: 0 });
     let mut expected = before;
     expected.record.bound[0] = Some(7);
@@ -274,14 +283,14 @@ fn a_redefinition_changes_the_id_and_keeps_the_rest() {
 fn an_id_taken_from_another_table() {
     let mut session = two_tables();
     let before = session.clone();
-    session.one(130, &definition(2, b"a", [0, 4, 0]));
+    session.one(130, &definition(2, b"a", [2, 4, 0]));
     let mut expected = before;
     expected.record.bound = [Some(2), None, None, None, None, None, None, None];
     expected.record.current = Some(0);
     assert_eq!(session, expected);
     assert_eq!(session.would(131, &encode(1)), refused(27));
     assert_eq!(session.would(131, &encode(2)), Answer::Switch { place: 0 });
-    session.one(130, &definition(1, b"b", [0, 4, 0]));
+    session.one(130, &definition(1, b"b", [2, 4, 0]));
     assert_eq!(session.record.previous[1], Some(20));
     assert_eq!(session.record.bound[..2], [Some(2), Some(1)]);
 }
@@ -289,7 +298,7 @@ fn an_id_taken_from_another_table() {
 #[test]
 fn a_new_table_takes_an_id_from_another() {
     let mut session = two_tables();
-    session.one(130, &definition(1, b"c", [0, 4, 0]));
+    session.one(130, &definition(1, b"c", [2, 4, 0]));
     assert_eq!(session.record.bound[..3], [None, Some(2), Some(1)]);
     assert_eq!(session.record.current, Some(2));
 }
@@ -324,9 +333,9 @@ fn a_reconnection_finds_the_tables_and_no_ids() {
     session.send(b"200\n");
     assert_eq!(session.would(131, &encode(1)), refused(27));
     assert_eq!(session.would(128, &update(1, &[0; 4], &[])), refused(27));
-    let answer = session.one(130, &definition(9, b"b", [0, 4, 0]));
+    let answer = session.one(130, &definition(9, b"b", [2, 4, 0]));
     assert_eq!(answer, Answer::Table { place: 1 });
     assert_eq!(session.would(129, &[0; 4]), refused(28));
-    let disagreeing = definition(9, b"a", [1, 4, 0]);
+    let disagreeing = definition(9, b"a", [4, 4, 0]);
     assert_eq!(session.would(130, &disagreeing), refused(25));
 }

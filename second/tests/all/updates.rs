@@ -35,7 +35,7 @@ fn replaced(table: usize, id: u32, entry: usize) -> Answer {
 
 #[test]
 fn an_update_is_held_and_acknowledged() {
-    let mut session = with_shape([0, 4, 4]);
+    let mut session = with_shape([2, 4, 4]);
     let response = session.respond(&message(128, &update(0x01020304, b"key0", &[4660])));
     assert_eq!(response.answer, new(0, 0x01020304, 0));
     assert_eq!(response.reply, [10, 133, 5, 1, 1, 2, 3, 4]);
@@ -46,7 +46,7 @@ fn an_update_is_held_and_acknowledged() {
 #[test]
 fn acknowledgements_have_the_bound_id() {
     for (id, length) in [(0, 8), (239, 8), (240, 9), (2288, 10), (MAX, 12)] {
-        let mut session = Session::with_tables(&[&definition(id, b"t", [0, 4, 0])]);
+        let mut session = Session::with_tables(&[&definition(id, b"t", [2, 4, 0])]);
         let response = session.respond(&message(128, &update(MAX as u32, &[0; 4], &[])));
         let body = [&encode(id)[..], &[0xFF; 4]].concat();
         let expected = [&[10, 133, body.len() as u8], &body[..]].concat();
@@ -57,7 +57,7 @@ fn acknowledgements_have_the_bound_id() {
 
 #[test]
 fn a_known_key_is_replaced() {
-    let mut session = with_shape([0, 4, 4]);
+    let mut session = with_shape([2, 4, 4]);
     session.one(128, &update(1, b"aaaa", &[1]));
     session.one(128, &update(2, b"bbbb", &[2]));
     assert_eq!(
@@ -77,8 +77,8 @@ fn a_known_key_is_replaced() {
 
 #[test]
 fn one_key_in_two_tables() {
-    let one = definition(1, b"a", [0, 4, 0]);
-    let two = definition(2, b"b", [0, 4, 0]);
+    let one = definition(1, b"a", [2, 4, 0]);
+    let two = definition(2, b"b", [2, 4, 0]);
     let mut session = Session::with_tables(&[&one, &two]);
     assert_eq!(session.one(128, &update(5, b"kkkk", &[])), new(1, 5, 0));
     session.one(131, &[1]);
@@ -91,7 +91,7 @@ fn one_key_in_two_tables() {
 
 #[test]
 fn an_entry_takes_the_lowest_free_place() {
-    let mut session = with_shape([0, 4, 0]);
+    let mut session = with_shape([2, 4, 0]);
     for key in 0..4 {
         session.one(128, &update(key, &key.to_be_bytes(), &[]));
     }
@@ -104,18 +104,18 @@ fn an_entry_takes_the_lowest_free_place() {
 
 #[test]
 fn a_table_takes_the_lowest_free_place() {
-    let one = definition(1, b"a", [0, 4, 0]);
-    let two = definition(2, b"b", [0, 4, 0]);
+    let one = definition(1, b"a", [2, 4, 0]);
+    let two = definition(2, b"b", [2, 4, 0]);
     let mut session = Session::with_tables(&[&one, &two]);
     session.store.tables[0] = None;
     session.record.bound[0] = None;
-    let answer = session.one(130, &definition(3, b"c", [0, 4, 0]));
+    let answer = session.one(130, &definition(3, b"c", [2, 4, 0]));
     assert_eq!(answer, Answer::Table { place: 0 });
 }
 
 #[test]
 fn a_full_store() {
-    let mut session = with_shape([0, 4, 0]);
+    let mut session = with_shape([2, 4, 0]);
     for key in 0..ENTRIES as u32 {
         let answer = session.one(128, &update(key, &key.to_be_bytes(), &[]));
         assert_eq!(answer, new(0, key, key as usize));
@@ -131,13 +131,13 @@ fn a_full_store() {
     assert_eq!(session, expected);
     assert_eq!(full.would(129, b"none"), refused(29));
     assert_eq!(full.would(128, &update(1, b"non", &[])), refused(23));
-    let define = definition(4, b"u", [0, 4, 0]);
+    let define = definition(4, b"u", [2, 4, 0]);
     assert_eq!(full.would(130, &define), Answer::Table { place: 1 });
 }
 
 #[test]
 fn fixed_keys() {
-    for (key_type, length) in [(0, 4), (1, 4), (2, 16), (4, 1), (4, 7), (4, 64)] {
+    for (key_type, length) in [(2, 4), (4, 4), (5, 16), (7, 1), (7, 7), (7, 64)] {
         let mut session = with_shape([key_type, length, 2]);
         let key: Vec<u8> = (1..=length as u8).collect();
         assert_eq!(session.one(128, &update(1, &key, &[9])), new(0, 1, 0));
@@ -149,7 +149,7 @@ fn fixed_keys() {
 
 #[test]
 fn string_keys() {
-    let mut session = with_shape([3, 10, 2]);
+    let mut session = with_shape([6, 10, 2]);
     for (n, length) in [0, 1, 9, 10].into_iter().enumerate() {
         let key = vec![b'k'; length];
         let body = [&[0, 0, 0, 1, length as u8], &key[..], &[7]].concat();
@@ -167,7 +167,7 @@ fn string_keys() {
 
 #[test]
 fn string_keys_differ_by_length() {
-    let mut session = with_shape([3, 4, 0]);
+    let mut session = with_shape([6, 4, 0]);
     let keys: [&[u8]; 4] = [b"", b"\0", b"a", b"a\0"];
     for (n, key) in keys.iter().enumerate() {
         let body = [&[0, 0, 0, 1, key.len() as u8], *key].concat();
@@ -179,7 +179,7 @@ fn string_keys_differ_by_length() {
 #[test]
 fn all_data_types() {
     let rates = [3, 5, 8, 10, 12, 14, 16, 18];
-    let mut session = with_shape([0, 4, (1 << 19) - 1]);
+    let mut session = with_shape([2, 4, (1 << 19) - 1]);
     let mut values = Vec::new();
     for number in 0..19 {
         match number {
@@ -206,7 +206,7 @@ fn widths_of_each_data_type() {
     for (number, bit) in powers().take(19).enumerate() {
         let rate = [3, 5, 8, 10, 12, 14, 16, 18].contains(&number);
         let count = if rate { 3 } else { 1 };
-        let session = with_shape([0, 4, bit]);
+        let session = with_shape([2, 4, bit]);
         for place in 0..count {
             for value in [0, 239, 240, (1 << 31) - 1, MAX, MAX + 1, u64::MAX] {
                 let mut values = vec![1; count];
@@ -237,7 +237,7 @@ fn server_ids() {
         (u64::MAX - (1 << 31) + 1, i32::MIN),
     ];
     for (value, id) in good {
-        let mut session = with_shape([0, 4, 1]);
+        let mut session = with_shape([2, 4, 1]);
         assert_eq!(
             session.one(128, &update(1, b"kkkk", &[value])),
             new(0, 1, 0)
@@ -247,7 +247,7 @@ fn server_ids() {
         assert_eq!(second::datatype::from_server_id(id), value);
     }
     for value in [1 << 31, MAX, MAX + 1, 1 << 63, u64::MAX - (1 << 31)] {
-        let session = with_shape([0, 4, 1]);
+        let session = with_shape([2, 4, 1]);
         let answer = session.would(128, &update(1, b"kkkk", &[value]));
         assert_eq!(answer, refused(24), "{value}");
     }
@@ -255,7 +255,7 @@ fn server_ids() {
 
 #[test]
 fn server_id_minus_1_as_bytes() {
-    let mut session = with_shape([0, 4, 1]);
+    let mut session = with_shape([2, 4, 1]);
     let bytes = [0xFF, 0xF0, 0xFE, 0xFE, 0xFE, 0xFE, 0xFE, 0xFE, 0xFE, 0x0E];
     let body = [&[0, 0, 0, 1, 0, 0, 0, 0], &bytes[..]].concat();
     assert_eq!(session.one(128, &body), new(0, 1, 0));
@@ -267,7 +267,7 @@ fn server_id_minus_1_as_bytes() {
 
 #[test]
 fn incremental_updates() {
-    let mut session = with_shape([0, 4, 0]);
+    let mut session = with_shape([2, 4, 0]);
     session.one(128, &update(MAX as u32 - 1, b"kkkk", &[]));
     for id in [MAX as u32, 0, 1] {
         let response = session.respond(&message(129, b"kkkk"));
@@ -279,8 +279,8 @@ fn incremental_updates() {
 
 #[test]
 fn previous_ids_are_per_table() {
-    let one = definition(1, b"a", [0, 4, 0]);
-    let two = definition(2, b"b", [0, 4, 0]);
+    let one = definition(1, b"a", [2, 4, 0]);
+    let two = definition(2, b"b", [2, 4, 0]);
     let mut session = Session::with_tables(&[&one, &two]);
     session.one(128, &update(100, b"kkkk", &[]));
     session.one(131, &[1]);
@@ -294,9 +294,9 @@ fn previous_ids_are_per_table() {
 
 #[test]
 fn a_redefinition_keeps_the_previous_id() {
-    let mut session = with_shape([0, 4, 0]);
+    let mut session = with_shape([2, 4, 0]);
     session.one(128, &update(41, b"kkkk", &[]));
-    session.one(130, &definition(300, b"t", [0, 4, 0]));
+    session.one(130, &definition(300, b"t", [2, 4, 0]));
     let response = session.respond(&message(129, b"kkkk"));
     assert_eq!(response.answer, replaced(0, 42, 0));
     assert_eq!(response.reply, [10, 133, 6, 0xFC, 3, 0, 0, 0, 42]);
@@ -304,7 +304,7 @@ fn a_redefinition_keeps_the_previous_id() {
 
 #[test]
 fn refused_updates_leave_the_rest() {
-    let base = with_shape([0, 4, 4]);
+    let base = with_shape([2, 4, 4]);
     let cut = update(1, b"kkkk", &[]);
     let over = update(1, b"kkkk", &[MAX + 1]);
     for (kind, body, number) in [(128, cut, 23), (128, over, 24), (129, vec![], 28)] {
@@ -325,7 +325,7 @@ fn order_of_update_refusals() {
         assert_eq!(none.would(128, body), refused(27));
         assert_eq!(none.would(129, body), refused(27));
     }
-    let mut session = with_shape([0, 4, 4]);
+    let mut session = with_shape([2, 4, 4]);
     for body in [&[][..], &[0; 3], &[0xFF; 30]] {
         assert_eq!(session.would(129, body), refused(28));
     }
@@ -346,7 +346,7 @@ fn an_update_before_any_definition() {
 
 #[test]
 fn a_body_of_1024_bytes() {
-    let mut session = with_shape([0, 4, 4]);
+    let mut session = with_shape([2, 4, 4]);
     let mut body = update(1, b"kkkk", &[1]);
     body.resize(1024, 0xFF);
     assert_eq!(session.one(128, &body), new(0, 1, 0));
@@ -357,7 +357,7 @@ fn a_body_of_1024_bytes() {
 
 #[test]
 fn bodies_are_judged_when_whole() {
-    let session = with_shape([0, 4, 4]);
+    let session = with_shape([2, 4, 4]);
     let none = Session::open();
     let body = [0xFF; 30];
     for kind in [128, 129, 130, 131, 133] {
@@ -379,16 +379,16 @@ fn bodies_are_judged_when_whole() {
 fn order_of_definition_refusals() {
     let mut session = Session::open();
     for place in 0..8u8 {
-        session.one(130, &definition(u64::from(place), &[place], [0, 4, 1 << 3]));
+        session.one(130, &definition(u64::from(place), &[place], [2, 4, 1 << 3]));
     }
     // A new name with 8 tables, cut or out of range.
-    let ninth = definition(1, b"x", [0, 4, 1 << 3]);
+    let ninth = definition(1, b"x", [2, 4, 1 << 3]);
     assert_eq!(session.would(130, &ninth), refused(26));
     assert_eq!(session.would(130, &ninth[..4]), refused(23));
     let over = [&ninth[..], &encode(MAX + 1)].concat();
     assert_eq!(session.would(130, &over), refused(24));
     // A held name that disagrees, cut or out of range.
-    let other = definition(1, &[3], [1, 4, 1 << 3]);
+    let other = definition(1, &[3], [4, 4, 1 << 3]);
     assert_eq!(session.would(130, &other), refused(25));
     assert_eq!(session.would(130, &other[..4]), refused(23));
     let over = [&other[..], &encode(MAX + 1)].concat();

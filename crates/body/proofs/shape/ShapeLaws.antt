@@ -5,13 +5,13 @@ use mathlib.Core.Path.{_≡_, sym, _∙_}
 use mathlib.Core.List.{List}
 use mathlib.Core.Bool.{Bool, true, false}
 use borrow.Author.Needs.{needs}
-use borrow.Author.Tests.{lt-ltb, le-ltb, lt-leb, le-leb, ne-eqb}
-use Rattle.lists.proofs.Cases.{lt-or-le, split, never}
+use borrow.Author.Tests.{lt-ltb, le-ltb, lt-leb, le-leb}
+use Rattle.lists.proofs.Cases.{lt-or-le, split, not-passed}
 use Rattle.wire.specs.declared.values.Field.{Field}
 use Rattle.wire.specs.declared.values.Field.the-variants as field
 use Rattle.store.specs.declared.types.KeyKind.{KeyKind}
 use Rattle.store.specs.Limits.{keyKind, isKnown, dataTypesOk, keyLengthOk}
-use Rattle.store.proofs.Rules.{key-length-most}
+use Rattle.store.proofs.Rules.{known-small, key-length-most}
 use Rattle.body.specs.Fields.{andThen, integer, between}
 use Rattle.body.specs.Bodies.{isKeyType, shapeFields}
 use Rattle.body.specs.Results.{fieldRead, shapeRead}
@@ -20,10 +20,9 @@ use Rattle.body.proofs.FieldLaws.{same-integer, field-got}
 use Rattle.body.proofs.Taken.{integer-passed, between-high}
 
 -- ---- `is_key_type`
-pub no-type : (n : ℕ) → 255 < n → false ≡ isKeyType n
-unfolding isKeyType keyKind
-no-type n h =
-    rw (ne-eqb n 0 (omega arith), ne-eqb n 1 (omega arith), ne-eqb n 2 (omega arith), ne-eqb n 3 (omega arith), ne-eqb n 4 (omega arith))
+pub no-type : (n : ℕ) → 0xffffffff < n → false ≡ isKeyType n
+unfolding isKeyType
+no-type n h = sym (not-passed (isKnown (keyKind n)) λ k. let z : ⊥ = omega (arith, known-small n k) in z)
 
 pub a-type : (n : ℕ) (kind : KeyKind) (r : Bool) → kind ≡ keyKind n → r ≡ isKnown kind → r ≡ isKeyType n
 unfolding isKeyType
@@ -40,8 +39,9 @@ types-between n =
     (λ l. rw (le-leb 0 n (omega arith), le-leb n 0x7ffff l, lt-ltb n (2 ^ 19) (omega arith)))
 
 -- ---- `read_shape`, where f, g and h are what was read of key type, key length and data types
-small-type : (n : ℕ) → isKeyType n ≡ true → n < 256
-small-type n t = split (lt-or-le n 256) (λ l. l) (λ l. never t (sym (no-type n (omega arith))))
+small-type : (n : ℕ) → isKeyType n ≡ true → n < 8
+unfolding isKeyType
+small-type n t = known-small n t
 
 module _ (s : List ℕ) (at : ℕ) (f : Field) (p : fieldRead f ≡ integer isKeyType s at) where
   pub type-short : f ≡ field.Short → shapeRead shape-read.Short ≡ shapeFields s at

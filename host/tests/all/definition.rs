@@ -1,0 +1,125 @@
+//! Fields of a definition, on each side of each boundary.
+
+use crate::common::{define, define_of, int, message, State, KEY_LENGTHS};
+use peers::{Answer, KeyType, Refusal};
+
+/// A definition is taken, and makes the table at place 0.
+fn taken(bytes: &[u8]) -> State {
+    let mut state = State::established();
+    let told = state.offer(bytes);
+    assert_eq!(told, [(Answer::Table { place: 0 }, vec![])], "{bytes:?}");
+    state
+}
+
+/// A message is refused, and closes the session with this number.
+fn refused(mut state: State, bytes: &[u8], refusal: Refusal) {
+    let store = state.store.clone();
+    let told = state.offer(bytes);
+    assert_eq!(told, [(Answer::Refused(refusal), vec![1, 0])], "{bytes:?}");
+    assert_eq!(state.session.closed_with(), Some(refusal.number()));
+    assert!(state.store == store, "the store changed");
+}
+
+fn out_of_range(fields: &[u64]) {
+    let bytes = define_of(1, b"t", fields);
+    refused(State::established(), &bytes, Refusal::Range);
+}
+
+#[test]
+fn numbers_of_key_types() {
+    assert_eq!(KeyType::ALL.map(KeyType::number), [2, 4, 5, 6, 7]);
+    for number in 0..=255 {
+        let found = KeyType::ALL.into_iter().find(|t| t.number() == number);
+        assert_eq!(KeyType::of(number), found);
+    }
+}
+
+#[test]
+fn a_key_type_that_peers_send() {
+    for (key_type, _, key_len) in KEY_LENGTHS {
+        let state = taken(&define(1, b"t", key_type, key_len as u8, 0, &[]));
+        let table = state.store.table(0).unwrap();
+        assert_eq!(table.key_type(), Some(key_type));
+        let held = state.store.layout().tables[0].key_type;
+        assert_eq!(held, u32::from(key_type.number()));
+    }
+}
+
+#[test]
+fn another_key_type() {
+    let low = (0..300).filter(|n| ![2, 4, 5, 6, 7].contains(n));
+    let high = [1 << 8, 1 << 16, 1 << 32, 1 << 63];
+    let high = high
+        .into_iter()
+        .flat_map(|high: u64| (0..8).map(move |n| high + n));
+    for number in low.chain(high).chain([u64::MAX]) {
+        // with a key length of each kind, and before the key length is looked at
+        out_of_range(&[number, 4, 0]);
+        out_of_range(&[number, 16, 0]);
+        out_of_range(&[number, 0, 0]);
+        out_of_range(&[number]);
+    }
+}
+
+#[test]
+fn a_body_that_ends_at_the_key_type() {
+    // the name isn't whole, the key type isn't there, the key length isn't there
+    for body in [&[1, 2, b't'][..], &[1, 1, b't'], &[1, 1, b't', 2]] {
+        refused(State::established(), &message(130, body), Refusal::Cut);
+    }
+    // the key type itself ends inside
+    refused(
+        State::established(),
+        &message(130, &[1, 1, b't', 0xF0]),
+        Refusal::Cut,
+    );
+}
+
+#[test]
+fn key_lengths() {
+    for (key_type, least, most) in KEY_LENGTHS {
+        let number = key_type.number().into();
+        for key_len in (0..=70).chain([239, 240]) {
+            if (least..=most).contains(&key_len) {
+                let state = taken(&define_of(1, b"t", &[number, key_len.into(), 0]));
+                assert_eq!(state.store.table(0).unwrap().key_len(), key_len as usize);
+            } else {
+                out_of_range(&[number, key_len.into(), 0]);
+            }
+        }
+        for high in [1 << 8, 1 << 32, 1 << 63] {
+            out_of_range(&[number, high + u64::from(most), 0]);
+        }
+        out_of_range(&[number, u64::MAX, 0]);
+    }
+}
+
+/// A key goes by its type: a string's has its length in front.
+#[test]
+fn keys() {
+    for (key_type, _, key_len) in KEY_LENGTHS {
+        let len = key_len as usize;
+        let key = vec![7; len];
+        let sent = match key_type {
+            KeyType::String => [int(len as u64), key.clone()].concat(),
+            _ => key.clone(),
+        };
+        let mut state = taken(&define(1, b"t", key_type, key_len as u8, 0, &[]));
+        let short = message(128, &[&[0, 0, 0, 9], &sent[..sent.len() - 1]].concat());
+        refused(state.clone(), &short, Refusal::Cut);
+        state.accept(&[message(128, &[&[0, 0, 0, 9], &sent[..]].concat())]);
+        assert_eq!(state.store.entry(0).unwrap().key(), key);
+    }
+}
+
+/// A held table of another key type with the same lengths is another.
+#[test]
+fn a_held_key_type() {
+    use KeyType::{Binary, Integer, Ipv4, String};
+    for (held, other) in [(Integer, Ipv4), (Ipv4, Binary), (String, Binary)] {
+        for (a, b) in [(held, other), (other, held)] {
+            let state = taken(&define(1, b"t", a, 4, 0, &[]));
+            refused(state, &define(1, b"t", b, 4, 0, &[]), Refusal::Disagrees);
+        }
+    }
+}
