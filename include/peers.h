@@ -28,7 +28,7 @@ extern "C" {
 
 /* ---- version */
 
-#define PEERS_VERSION 2 /* of the calls: their names, parameters, numbers and meaning */
+#define PEERS_VERSION 3 /* of the calls: their names, parameters, numbers and meaning */
 #define PEERS_LAYOUT 2  /* of the structs: their fields, order and sizes */
 
 /* The archive's version times 65,536 plus its layout. */
@@ -135,7 +135,7 @@ struct peers_table {
     uint32_t key_len;    /* for strings the largest */
     uint32_t expiry;     /* milliseconds */
     uint32_t periods[PEERS_RATES]; /* milliseconds, of the rates among the data types */
-    uint8_t name[PEERS_NAME_MAX];
+    uint8_t name[PEERS_NAME_MAX]; /* the first `name_len`: letters and digits of ASCII, . _ - / and : */
 };
 
 struct peers_entry {
@@ -228,7 +228,8 @@ enum peers_refusal {
     PEERS_REFUSED_TABLES = 26,    /* a new name, and all table places are held */
     PEERS_REFUSED_UNBOUND = 27,   /* no current table, or a switch to an unbound ID */
     PEERS_REFUSED_PREVIOUS = 28,  /* an incremental update without a previous ID */
-    PEERS_REFUSED_ENTRIES = 29    /* a new key, and all entry places are held */
+    PEERS_REFUSED_ENTRIES = 29,   /* a new key, and all entry places are held */
+    PEERS_REFUSED_TABLE_NAME = 30 /* a table name with a byte that isn't a letter, a digit or one of . _ - / : */
 };
 
 /* What a call gives back. */
@@ -299,6 +300,7 @@ static inline const char *peers_refusal_text(uint32_t number) {
     case PEERS_REFUSED_UNBOUND: return "no current table, or a switch to an unbound ID";
     case PEERS_REFUSED_PREVIOUS: return "an incremental update without a previous ID";
     case PEERS_REFUSED_ENTRIES: return "a new key, and all entry places are held";
+    case PEERS_REFUSED_TABLE_NAME: return "a table name with a byte that isn't a letter, a digit or one of . _ - / :";
     default: return "no refusal has this number";
     }
 }

@@ -112,6 +112,27 @@ fn on_every_key_type_with_every_length() {
     }
 }
 
+/// Names with a byte of each value, and bodies that end at each place from the name on.
+#[test]
+fn on_every_byte_of_a_name() {
+    let fields = [peers::KeyType::Integer.number(), 4, 0];
+    for byte in 0..=255 {
+        for name in [
+            vec![byte],
+            vec![byte, b'a'],
+            [&[b'a'; 31][..], &[byte]].concat(),
+        ] {
+            for cut in 0..=fields.len() + 1 {
+                let mut body = [&[1, name.len() as u8], &name[..], &fields].concat();
+                body.truncate(body.len() - cut);
+                let mut all = All::open(Role::Answerer);
+                all.take(HELLO);
+                all.take(&message(130, &body));
+            }
+        }
+    }
+}
+
 #[test]
 fn on_generated_scripts() {
     let calls: usize = (1..=1700).map(|seed| replay(&generate::stream(seed))).sum();

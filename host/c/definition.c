@@ -1,30 +1,41 @@
 /* Fields of a definition, on each side of each boundary. */
 #include "test.h"
 
-/* The body of a definition of table `t` with these integers after the name; its answer on a new record and store. */
-static struct peers_outcome defined(struct state state, const uint64_t *fields, size_t count) {
-    uint8_t body[100] = {1, 1, 't'}, message[110], reply[12];
-    size_t len = 3;
-    for (size_t i = 0; i < count; i++) len += put_int(body + len, fields[i]);
+/* Offers a definition of this body to a new record and store, and checks its answer's number and what is left. */
+static void judged(struct state state, const uint8_t *body, size_t len, uint32_t number) {
+    uint8_t message[200], reply[12];
     size_t whole = put_message(message, 130, body, len);
     establish(state);
     struct peers_outcome outcome = call(state, message, whole, 12, reply);
-    CHECK(outcome.taken == whole);
-    CHECK(outcome.reply_len == (outcome.number < PEERS_MORE ? 2 : 0));
-    if (outcome.number < PEERS_MORE) CHECK(memcmp(reply, "\1\0", 2) == 0);
-    return outcome;
+    CHECK(outcome.number == number && outcome.taken == whole && state.session->len == 0);
+    if (number == PEERS_TABLE) {
+        CHECK(outcome.reply_len == 0 && state.session->connection.closed == 0 && state.store->tables[0].held == 1);
+        return;
+    }
+    CHECK(outcome.reply_len == 2 && memcmp(reply, "\1\0", 2) == 0);
+    CHECK(state.session->connection.closed == 1 && state.session->connection.number == number);
+    CHECK(all_zero(state.store, sizeof *state.store));
+    CHECK(call(state, message, whole, 12, reply).number == PEERS_REFUSED_CLOSED);
 }
 
+/* The same of a definition with this name and these integers after it. */
+static void defined(struct state state, const uint8_t *name, size_t name_len, const uint64_t *fields, size_t count, uint32_t number) {
+    uint8_t body[150] = {1, (uint8_t)name_len};
+    size_t len = 2 + name_len;
+    memcpy(body + 2, name, name_len);
+    for (size_t i = 0; i < count; i++) len += put_int(body + len, fields[i]);
+    judged(state, body, len, number);
+}
+
+/* ---- key types */
+
 static void taken(struct state state, uint64_t type, uint64_t key_len) {
-    CHECK(defined(state, (const uint64_t[]){type, key_len, 0}, 3).number == PEERS_TABLE);
-    CHECK(state.store->tables[0].held == 1 && state.store->tables[0].key_type == type && state.store->tables[0].key_len == key_len);
-    CHECK(state.session->connection.closed == 0);
+    defined(state, (const uint8_t *)"t", 1, (const uint64_t[]){type, key_len, 0}, 3, PEERS_TABLE);
+    CHECK(state.store->tables[0].key_type == type && state.store->tables[0].key_len == key_len);
 }
 
 static void refused(struct state state, const uint64_t *fields, size_t count, uint32_t number) {
-    CHECK(defined(state, fields, count).number == number);
-    CHECK(state.session->connection.closed == 1 && state.session->connection.number == number);
-    CHECK(all_zero(state.store, sizeof *state.store));
+    defined(state, (const uint8_t *)"t", 1, fields, count, number);
 }
 
 static void refused_keys(struct state state, uint64_t type, uint64_t key_len) {
@@ -68,10 +79,59 @@ static void held_key_type(struct state state) {
     CHECK(call(state, ipv4, sizeof ipv4, 12, reply).number == PEERS_TABLE);
 }
 
+/* ---- names */
+
+/* The byte as a whole name, and first and last of longer ones; whole definitions, and such that end after the name. */
+static void byte_of_a_name(struct state state, uint8_t byte) {
+    static const uint64_t fields[] = {PEERS_KEY_INTEGER, 4, 0};
+    static const struct {
+        size_t len, at;
+    } places[] = {{1, 0}, {2, 0}, {2, 1}, {32, 0}, {32, 31}};
+    for (size_t i = 0; i < sizeof places / sizeof *places; i++) {
+        uint8_t name[32];
+        size_t len = places[i].len;
+        memset(name, 'a', sizeof name);
+        name[places[i].at] = byte;
+        defined(state, name, len, fields, 3, is_plain(byte) ? PEERS_TABLE : PEERS_REFUSED_TABLE_NAME);
+        if (is_plain(byte)) continue;
+        defined(state, name, len, fields, 0, PEERS_REFUSED_TABLE_NAME);
+        defined(state, name, len, (const uint64_t[]){3}, 1, PEERS_REFUSED_TABLE_NAME);
+        defined(state, name, len, (const uint64_t[]){UINT64_MAX}, 1, PEERS_REFUSED_TABLE_NAME);
+    }
+}
+
+/* What comes before a name decides first. */
+static void before_a_name(struct state state) {
+    static const uint8_t cut[] = {1, 2, '\n'}, empty[] = {1, 0, '\n'};
+    uint8_t body[40] = {1, 33}, id[10];
+    memset(body + 2, '\n', sizeof body - 2);
+    judged(state, cut, sizeof cut, PEERS_REFUSED_CUT);
+    judged(state, empty, sizeof empty, PEERS_REFUSED_RANGE);
+    judged(state, body, sizeof body, PEERS_REFUSED_RANGE);
+    body[1] = 32;
+    judged(state, body, 33, PEERS_REFUSED_CUT);
+    judged(state, body, 34, PEERS_REFUSED_TABLE_NAME);
+    size_t len = put_int(id, UINT64_C(1) << 32);
+    memcpy(id + len, "\1\n", 2);
+    judged(state, id, len + 2, PEERS_REFUSED_RANGE);
+}
+
+/* With all table places held, and a held name in front. */
+static void name_before_places(struct state state) {
+    static const uint8_t message[] = {10, 130, 7, 9, 2, 'a', '\n', PEERS_KEY_INTEGER, 4, 0};
+    uint8_t reply[12];
+    establish(state);
+    for (uint32_t i = 0; i < PEERS_TABLES; i++) define(state, i, (const char[]){(char)('a' + i), 0}, PEERS_KEY_INTEGER, 4, 0);
+    CHECK(call(state, message, sizeof message, 12, reply).number == PEERS_REFUSED_TABLE_NAME);
+}
+
 void test_definition(void) {
     struct state state = lend_state();
     key_types(state);
     for (size_t i = 0; i < KEY_TYPES; i++) key_lengths_of_a_type(state, &key_lengths[i]);
     held_key_type(state);
+    for (int byte = 0; byte < 256; byte++) byte_of_a_name(state, (uint8_t)byte);
+    before_a_name(state);
+    name_before_places(state);
     give_back_state(state);
 }

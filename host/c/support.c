@@ -106,6 +106,10 @@ bool is_key_type(uint64_t number) {
     return false;
 }
 
+bool is_plain(uint8_t byte) {
+    return byte != 0 && strchr("ABCDEFGHIJKLMNOPQRSTUVWXYZabcdefghijklmnopqrstuvwxyz0123456789._-/:", byte) != NULL;
+}
+
 size_t put_int(uint8_t *to, uint64_t value) {
     size_t len = 1;
     if (value < 240) {

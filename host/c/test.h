@@ -58,6 +58,9 @@ extern const struct key_lengths key_lengths[KEY_TYPES];
 
 bool is_key_type(uint64_t number);
 
+/* Whether a table's name may have this byte. */
+bool is_plain(uint8_t byte);
+
 /* Messages. */
 size_t put_int(uint8_t *to, uint64_t value);
 size_t put_message(uint8_t *to, uint8_t kind, const uint8_t *body, size_t len);

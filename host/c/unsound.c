@@ -110,10 +110,10 @@ static void full(struct state state) {
 
 static void tables(void) {
     SOUND((void)0);
-    SOUND(t->tables[4].name_len = 32);
+    SOUND(memset(t->tables[4].name, 'x', 32); t->tables[4].name_len = 32);
     SOUND(t->tables[7].name_len = 1);
     SOUND(t->tables[7].name[4] = 255);
-    FAULT(t->tables[4].name_len = 33);
+    FAULT(memset(t->tables[4].name, 'x', 32); t->tables[4].name_len = 33);
     FAULT(t->tables[7].name_len = 0);
     FAULT(t->tables[0].name_len = SIZE_MAX);
     FAULT(t->tables[0].held = 2);
@@ -155,6 +155,11 @@ static void names(void) {
     FAULT(t->tables[6].name[0] = 'a');
     FAULT(memcpy(t->tables[0].name, t->tables[7].name, 32); t->tables[0].name_len = t->tables[7].name_len);
     FAULT(t->tables[4].name[0] = 'b'; t->tables[5].name[1] = 9);
+    for (int byte = 0; byte < 256; byte++) {
+        if (is_plain((uint8_t)byte)) SOUND(t->tables[7].name[3] = (uint8_t)byte);
+        else FAULT(t->tables[7].name[3] = (uint8_t)byte);
+        SOUND(t->tables[7].name[4] = t->tables[7].name[31] = (uint8_t)byte);
+    }
 }
 
 /* ---- entries */
@@ -229,7 +234,7 @@ static void connection(void) {
     }
     FAULT(c->phase = UINT32_MAX);
     for (uint32_t number = 0; number < 300; number++) {
-        bool closes = number == 0 || number == 1 || number == 3 || (10 <= number && number <= 15) || (20 <= number && number <= 29);
+        bool closes = number == 0 || number == 1 || number == 3 || (10 <= number && number <= 15) || (20 <= number && number <= 30);
         if (closes) SOUND(c->closed = 1; c->number = number);
         else FAULT(c->closed = 1; c->number = number);
         if (number > 0) FAULT(c->number = number);

@@ -124,11 +124,13 @@ pub enum Refusal {
     Previous = 28,
     /// A new key, and all entry places are held.
     Entries = 29,
+    /// A table name with a byte that isn't a letter, a digit or one of `.`, `_`, `-`, `/` and `:`.
+    TableName = 30,
 }
 
 impl Refusal {
     /// All refusals, ascending.
-    pub const ALL: [Refusal; 20] = [
+    pub const ALL: [Refusal; 21] = [
         Refusal::Room,
         Refusal::Closed,
         Refusal::Name,
@@ -149,6 +151,7 @@ impl Refusal {
         Refusal::Unbound,
         Refusal::Previous,
         Refusal::Entries,
+        Refusal::TableName,
     ];
 
     /// Its number.
@@ -184,6 +187,9 @@ impl Refusal {
             Refusal::Unbound => "no current table, or a switch to an unbound ID",
             Refusal::Previous => "an incremental update without a previous ID",
             Refusal::Entries => "a new key, and all entry places are held",
+            Refusal::TableName => {
+                "a table name with a byte that isn't a letter, a digit or one of . _ - / :"
+            }
         }
     }
 }

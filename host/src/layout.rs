@@ -40,7 +40,7 @@ pub struct Table {
     pub expiry: u32,
     /// The periods in milliseconds, by rate.
     pub periods: [u32; RATES],
-    /// The name, at the front.
+    /// The name, at the front: letters and digits of ASCII, `.`, `_`, `-`, `/` and `:`.
     pub name: [u8; NAME_MAX],
 }
 

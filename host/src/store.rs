@@ -198,7 +198,7 @@ impl<'a> Table<'a> {
         self.place
     }
 
-    /// Its name.
+    /// Its name; a sound store's tables have letters and digits of ASCII, `.`, `_`, `-`, `/` and `:` in it.
     pub fn name(&self) -> &'a [u8] {
         front(&self.table.name, self.table.name_len)
     }

@@ -3,7 +3,7 @@
 use crate::datatype::{self, MAX_32};
 use crate::fields::Fields;
 use crate::refusal;
-use crate::store::{key_lengths, Table, Times, NAME_LIMIT, STRING};
+use crate::store::{is_plain, key_lengths, Table, Times, NAME_LIMIT, STRING};
 
 /// The body of a definition.
 #[derive(Clone, Debug, PartialEq, Eq)]
@@ -20,6 +20,9 @@ pub fn definition(body: &[u8]) -> Result<Definition, u8> {
     let id = fields.integer(0..=MAX_32)?;
     let name_length = fields.integer(1..=NAME_LIMIT as u64)?;
     let name = fields.bytes(name_length as usize)?.to_vec();
+    if !is_plain(&name) {
+        return Err(refusal::NOT_PLAIN);
+    }
     let key_type = fields.integer(0..=u64::MAX)?;
     let lengths = key_lengths(key_type).ok_or(refusal::RANGE)?;
     let key_length = fields.integer(lengths)?;

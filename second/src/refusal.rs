@@ -40,6 +40,8 @@ pub const UNBOUND: u8 = 27;
 pub const PREVIOUS: u8 = 28;
 /// A new key, and all entry places are held.
 pub const ENTRIES: u8 = 29;
+/// A table name has a byte that isn't plain.
+pub const NOT_PLAIN: u8 = 30;
 
 /// The reply that goes with a refusal.
 pub fn reply(number: u8) -> &'static [u8] {
@@ -49,12 +51,12 @@ pub fn reply(number: u8) -> &'static [u8] {
         ADDRESSED => b"503\n",
         SENDER => b"504\n",
         SIZE | TABLES | ENTRIES => &[1, 1],
-        HEADER | LENGTH | CUT | RANGE | DISAGREES | UNBOUND | PREVIOUS => &[1, 0],
+        HEADER | LENGTH | CUT | RANGE | DISAGREES | UNBOUND | PREVIOUS | NOT_PLAIN => &[1, 0],
         _ => &[],
     }
 }
 
 /// Whether a closed record may hold this number.
 pub fn closes(number: u8) -> bool {
-    matches!(number, 0 | ROOM | NAME | 10..=15 | 20..=29)
+    matches!(number, 0 | ROOM | NAME | 10..=15 | 20..=30)
 }

@@ -9,7 +9,7 @@ use crate::handshake::is_name;
 use crate::model::greet;
 use crate::record::{Phase, Record};
 use crate::refusal;
-use crate::store::{key_lengths, Entry, Store, Table, KEY_LIMIT, NAME_LIMIT, STRING};
+use crate::store::{is_plain, key_lengths, Entry, Store, Table, KEY_LIMIT, NAME_LIMIT, STRING};
 
 /// Whether the record and the store are sound.
 pub fn is_sound(record: &Record, store: &Store) -> bool {
@@ -19,6 +19,7 @@ pub fn is_sound(record: &Record, store: &Store) -> bool {
 /// Whether the store is sound.
 pub fn store_is_sound(store: &Store) -> bool {
     names_are_within_limits(store)
+        && names_are_plain(store)
         && key_types_are_known(store)
         && key_lengths_match_types(store)
         && data_types_are_known(store)
@@ -78,6 +79,11 @@ fn all_with_table(store: &Store, test: impl Fn(&Entry, &Table) -> bool) -> bool 
 /// A table's name has 1 to 32 bytes.
 pub fn names_are_within_limits(store: &Store) -> bool {
     tables(store).all(|table| (1..=NAME_LIMIT).contains(&table.name.len()))
+}
+
+/// A table's name has plain bytes only.
+pub fn names_are_plain(store: &Store) -> bool {
+    tables(store).all(|table| is_plain(&table.name))
 }
 
 /// A table's key type is known.

@@ -35,6 +35,14 @@ pub fn key_lengths(key_type: u64) -> Option<RangeInclusive<u64>> {
     }
 }
 
+/// Whether a table name has only letters, digits, `.`, `_`, `-`, `/` and `:`.
+pub fn is_plain(name: &[u8]) -> bool {
+    name.iter().all(|&byte| match byte {
+        b'A'..=b'Z' | b'a'..=b'z' | b'0'..=b'9' => true,
+        _ => b"._-/:".contains(&byte),
+    })
+}
+
 /// The expiry and the periods of a table's rate types.
 #[derive(Clone, Debug, PartialEq, Eq)]
 pub struct Times {

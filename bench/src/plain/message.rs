@@ -29,6 +29,12 @@ pub fn is_wide(data_type: u8) -> bool {
     matches!(data_type, 13 | 15)
 }
 
+/// Whether a table's name has only letters, digits, `.`, `_`, `-`, `/` and `:`.
+pub fn is_plain(name: &[u8]) -> bool {
+    let plain = |b: &u8| b.is_ascii_alphanumeric() || matches!(b, b'.' | b'_' | b'-' | b'/' | b':');
+    name.iter().all(plain)
+}
+
 pub fn judge(connection: &mut Connection, store: &mut Store, bytes: &[u8]) -> Judged {
     let (used, settled) = match frame::judge(bytes) {
         Frame::Waiting => return Judged::Waiting,
@@ -88,6 +94,9 @@ fn definition_fields(body: &[u8]) -> Result<Defined, Fault> {
     let id = reader.word()?;
     let name_len = reader.within(1, NAME_MAX as u64)? as usize;
     let name = reader.bytes(name_len)?;
+    if !is_plain(name) {
+        return Err(Fault::Name);
+    }
     let key_type = KeyType::of(reader.int()?).ok_or(Fault::Range)?;
     let key_len = reader.int()?;
     if !key_type.takes(key_len) {

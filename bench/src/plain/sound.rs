@@ -3,7 +3,7 @@
 use super::frame::{self, Frame};
 use super::handshake::{hello_waits, is_name};
 use super::key_type::KeyType;
-use super::message::{has, is_wide, SLOT_TYPES};
+use super::message::{has, is_plain, is_wide, SLOT_TYPES};
 use crate::layout::{
     Binding, Connection, Entry, Session, Store, Table, BUFFER, ENTRIES, NAME_MAX, TABLES,
     UNFINISHED_MAX,
@@ -28,6 +28,7 @@ fn table_is_sound(table: &Table) -> bool {
         0 => true,
         1 => {
             (1..=32).contains(&table.name_len)
+                && is_plain(&table.name[..table.name_len])
                 && KeyType::of_table(table).is_some_and(|t| t.takes(table.key_len.into()))
                 && table.data_types < 1 << 19
                 && table.timed <= 1
@@ -133,7 +134,7 @@ fn record_is_sound(session: &Session, store: &Store) -> bool {
 fn number_fits(c: &Connection) -> bool {
     match c.closed {
         0 => c.number == 0,
-        1 => matches!(c.number, 0 | 1 | 3 | 10..=15 | 20..=29),
+        1 => matches!(c.number, 0 | 1 | 3 | 10..=15 | 20..=30),
         _ => false,
     }
 }

@@ -1,10 +1,11 @@
 //! The encoded integer and the fields of a body.
 
-/// Why a field can't be read: the body ends before it is whole, or it overflows or is out of range.
+/// Why a field can't be read: the body ends before it is whole, it overflows or is out of range, or it is a name that isn't plain.
 #[derive(Clone, Copy, PartialEq, Eq)]
 pub enum Fault {
     Short,
     Range,
+    Name,
 }
 
 impl Fault {
@@ -13,6 +14,7 @@ impl Fault {
         match self {
             Fault::Short => 23,
             Fault::Range => 24,
+            Fault::Name => 30,
         }
     }
 }

@@ -13,8 +13,8 @@ const BOUNDARIES: &[(Change, Change)] = &[
     // tables
     (|_, t| t.tables[7].held = 0, |_, t| t.tables[7].held = 2),
     (
-        |_, t| t.tables[1].name_len = 32,
-        |_, t| t.tables[1].name_len = 33,
+        |_, t| (t.tables[1].name, t.tables[1].name_len) = ([b'x'; 32], 32),
+        |_, t| (t.tables[1].name, t.tables[1].name_len) = ([b'x'; 32], 33),
     ),
     (
         |_, t| t.tables[1].name_len = 1,
@@ -191,6 +191,30 @@ fn of_key_types() {
     }
 }
 
+/// A byte of each value within a name, and after it.
+#[test]
+fn of_names() {
+    let plain = b"ABCDEFGHIJKLMNOPQRSTUVWXYZabcdefghijklmnopqrstuvwxyz0123456789._-/:";
+    let base = Both::after(Role::Answerer, &five_tables());
+    for byte in 0..=255 {
+        for (len, at) in [(1, 0), (3, 0), (3, 2), (32, 31), (3, 3), (1, 31)] {
+            let mut both = base.clone();
+            both.change(|_, t| {
+                (t.tables[1].name, t.tables[1].name_len) = ([b'x'; 32], len);
+                t.tables[1].name[at] = byte;
+            });
+            // one byte alone could be another table's name
+            let held = len == 1 && at == 0 && b"acde".contains(&byte);
+            let sound = (at >= len || plain.contains(&byte)) && !held;
+            assert_eq!(
+                both.call(b"", 12) != UNSOUND,
+                sound,
+                "{byte} at {at} of {len}"
+            );
+        }
+    }
+}
+
 #[test]
 fn of_a_refused_opening() {
     try_boundaries(&refused_opening(), OPENING_BOUNDARIES);
@@ -201,7 +225,7 @@ fn of_what_a_record_was_closed_with() {
     for number in (0..300).chain([u32::MAX]) {
         let mut both = Both::after(Role::Answerer, &five_tables());
         both.change(|s, _| (s.connection.closed, s.connection.number) = (1, number));
-        let sound = matches!(number, 0 | 1 | 3 | 10..=15 | 20..=29);
+        let sound = matches!(number, 0 | 1 | 3 | 10..=15 | 20..=30);
         assert_eq!(both.is_unsound(), !sound, "closed with {number}");
     }
 }

@@ -13,9 +13,10 @@ use Rattle.lists.proofs.Cases.{lt-or-le, eq-or-ne, split}
 use Rattle.wire.proofs.Behind.{int-behind, number-behind, server-behind}
 use Rattle.store.specs.declared.Table.{Table}
 use Rattle.store.specs.Limits.{nameMax, keyKind, isString, keyLengthOk, dataTypesOk, present, widthOf, slotTypes, rateTypes}
-use Rattle.body.specs.Fields.{Read, got, short, outside, Reader, andThen, forEach, tested, integer, between, integerOf, bytes, numberRead, number4, serverRead, serverId}
-use Rattle.body.specs.Bodies.{namedFields, isKeyType, shapeFields, pairField, periodField, periodFields, Times, noTimes, timesThere, timesFields, Definition, defined, restFields, definitionFields, switchFields, Acknowledged, acknowledgementFields, stringField, keyField, serverField, slotField, valueFields, dataFields, Update, entryFields, updateFields, incrementalFields}
+use Rattle.body.specs.Fields.{Read, got, failed, short, Reader, andThen, forEach, tested, integer, between, integerOf, bytes, Span, numberRead, number4, serverRead, serverId}
+use Rattle.body.specs.Bodies.{nameField, namedFields, isKeyType, shapeFields, pairField, periodField, periodFields, Times, noTimes, timesThere, timesFields, Definition, defined, restFields, definitionFields, switchFields, Acknowledged, acknowledgementFields, stringField, keyField, serverField, slotField, valueFields, dataFields, Update, entryFields, updateFields, incrementalFields}
 use Rattle.body.proofs.Within.{shape-end}
+use Rattle.body.proofs.Spans.{span-behind}
 
 -- It is short, or more bytes behind change nothing.
 module _ {A : Type 0} where
@@ -38,8 +39,7 @@ module _ {A B : Type 0} (f : Reader A) (g : A → Reader B) where
       → (andThen x (λ a n. g a s n) ≡ short) ⊎ (andThen y (λ a n. g a (s ++ t) n) ≡ andThen x (λ a n. g a s n))
   unfolding andThen
   then-steady s t (got a n) y d k = split d (λ e. inl (cc)) (λ e. rw e (k a s t n))
-  then-steady s t short y d k = inl refl
-  then-steady s t outside y d k = split d (λ e. inl (cc)) (λ e. inr (rw e))
+  then-steady s t (failed f) y d k = split d (λ e. inl (cc)) (λ e. inr (rw e))
 
   steady-then : Steady f → ((a : A) → Steady (g a)) → Steady λ s at. andThen (f s at) λ a n. g a s n
   steady-then h k s t at = then-steady s t (f s at) (f (s ++ t) at) (h s t at) k
@@ -70,6 +70,16 @@ steady-bytes n s t at =
     let k : at + n ≤ length (s ++ t) = rw length-append (omega arith) in
     inr (rw (le-leb (at + n) (length s) l, le-leb (at + n) (length (s ++ t)) k)))
 
+steady-name : (n : ℕ) → Steady (nameField n)
+unfolding nameField bytes andThen
+steady-name n s t at =
+    split (lt-or-le (length s) (at + n))
+    (λ l. inl (rw (lt-leb (at + n) (length s) l)))
+    (λ l.
+    let k : at + n ≤ length (s ++ t) = rw length-append (omega arith) in
+    let name : Span = record { start = at; len = n } in
+    inr (rw (le-leb (at + n) (length s) l, le-leb (at + n) (length (s ++ t)) k, span-behind s name l t)))
+
 steady-number : Steady number4
 unfolding number4 numberRead
 steady-number s t at = split (number-behind s t at) (λ e. inl (rw e)) (λ e. inr (rw e))
@@ -84,7 +94,7 @@ unfolding namedFields
 steady-named =
     steady-then (integerOf 32) _ (steady-width 32) λ id.
     steady-then (integer (between 1 nameMax)) _ (steady-integer _) λ len.
-    steady-then (bytes len) _ (steady-bytes len) λ name.
+    steady-then (nameField len) _ (steady-name len) λ name.
     steady-got _
 
 pub steady-shape : Steady shapeFields
@@ -180,8 +190,7 @@ module _ {A B : Type 0} where
   stepped : (x : Read A) (f : A → ℕ → Read B) (b : B) (next : ℕ) → andThen x f ≡ got b next → Through x f b next
   unfolding andThen
   stepped (got a n) f b next e = record { value = a; position = n; first = refl; later = e }
-  stepped short f b next e = let z : _≡_ {A = ℕ} 0 1 = cc in absurd (omega arith)
-  stepped outside f b next e = let z : _≡_ {A = ℕ} 0 1 = cc in absurd (omega arith)
+  stepped (failed g) f b next e = let z : _≡_ {A = ℕ} 0 1 = cc in absurd (omega arith)
 
 times-behind : (types : ℕ) (s t : List ℕ) (at : ℕ) (x : Times) (next : ℕ) → at ≤ length s → x .timed ≡ 1
     → timesFields types s at ≡ got x next → timesFields types (s ++ t) at ≡ got x next

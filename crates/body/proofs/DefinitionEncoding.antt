@@ -15,11 +15,11 @@ use Rattle.store.specs.declared.Table.{Table}
 use Rattle.store.specs.Limits.{nameMax, keyLengthOk, dataTypesOk, present, rateTypes}
 use Rattle.store.specs.Store.{nameOf}
 use Rattle.store.proofs.Rules.{rate-count}
-use Rattle.body.specs.Fields.{got, forEach, integer, between, integerOf, spanIn, bytes}
-use Rattle.body.specs.Bodies.{Named, namedFields, isKeyType, Shape, shapeFields, pairField, periodField, periodFields, Times, noTimes, timesThere, timesFields, Definition, defined, restFields, definitionFields}
+use Rattle.body.specs.Fields.{got, forEach, integer, between, integerOf, spanIn}
+use Rattle.body.specs.Bodies.{Named, nameField, namedFields, isKeyType, Shape, shapeFields, pairField, periodField, periodFields, Times, noTimes, timesThere, timesFields, Definition, defined, restFields, definitionFields}
 use Rattle.body.specs.Encodings.{eachBytes, periodBytes, timesBytes, definitionBytes}
 use Rattle.body.proofs.Holds.{Holds, held, holds-cond, holds-got, holds-each, holds-both, holds-then}
-use Rattle.body.proofs.Taken.{Along, along-at}
+use Rattle.body.proofs.Taken.{Along, along-at, name-holds}
 use Rattle.body.proofs.Encoding.{Stands, stands-none, stands-then, Encoded, Passed, integer-stands, integer-encoded, width-encoded, PartHere, bytes-encoded, each-encoded}
 
 -- a table with the name, the shape and the times that were read
@@ -60,7 +60,7 @@ module _ (s : List ℕ) (b : Bytes s) where
       let Q : Named → ℕ → Type 0 = Encoded (nameBytes s) s at in
       holds-then (Encoded encodeInt s at) Q (integerOf 32 s at) _ (width-encoded s b 32 at) λ id at₁ p.
       holds-then (Encoded encodeInt s at₁) Q (integer (between 1 nameMax) s at₁) _ (integer-encoded s b (between 1 nameMax) at₁) λ len at₂ q.
-      holds-then (PartHere s len at₂) Q (bytes len s at₂) _ (bytes-encoded s len at₂) λ name at₃ r.
+      holds-then _ Q (nameField len s at₂) _ (name-holds (PartHere s len at₂) len s at₂ (bytes-encoded s len at₂)) λ name at₃ (r, plain).
       let l : Stands s (encodeInt (length (spanIn s name))) at₁ at₂ = rw (r .size) q in
       holds-got Q _ at₃ (stands-then s p (stands-then s l (r .here)))
 

@@ -16,11 +16,15 @@ use Rattle.wire.specs.declared.values.Field.the-variants as field
 use Rattle.wire.specs.Integer.{readInt}
 use Rattle.wire.specs.Value.{readWidth, WidthRule}
 use Rattle.wire.proofs.values.Limited.{width-rule}
+use Rattle.body.specs.declared.Failure.{Failure}
+use Rattle.body.specs.declared.Failure.the-variants as failure
+use Rattle.body.specs.declared.IntRead.{IntRead}
+use Rattle.body.specs.declared.IntRead.the-variants as int-read
 use Rattle.body.specs.declared.Word.{Word}
 use Rattle.body.specs.declared.Word.the-variants as word
 use Rattle.body.specs.declared.PartRead.the-variants as part
-use Rattle.body.specs.Fields.{Read, got, short, outside, tested, integer, between, integerOf, bytes}
-use Rattle.body.specs.Results.{fieldRead, wordRead, partRead}
+use Rattle.body.specs.Fields.{Read, got, failed, short, outside, tested, integer, between, integerOf, bytes}
+use Rattle.body.specs.Results.{fieldRead, intRead, wordRead, partRead}
 
 -- ---- what a test in the code says, where b is what the called function gives
 pub so-true : (b t : Bool) → b ≡ t → b ≡ true → t ≡ true
@@ -31,20 +35,20 @@ so-false b t p e = sym p ∙ e
 
 -- ---- an integer with a test, where r is what `read_int` gives
 module _ (ok : ℕ → Bool) (s : List ℕ) (at : ℕ) (r : Int) (p : r ≡ readInt s at) where
-  pub passes : (v next : ℕ) → r ≡ int.Value v next → ok v ≡ true → fieldRead (field.Value v next) ≡ integer ok s at
-  unfolding integer tested fieldRead
+  pub passes : (v next : ℕ) → r ≡ int.Value v next → ok v ≡ true → intRead (int-read.Value v next) ≡ integer ok s at
+  unfolding integer tested intRead
   passes v next e t = rw (← p, e, t)
 
-  pub fails : (v next : ℕ) → r ≡ int.Value v next → ok v ≡ false → fieldRead field.OutOfRange ≡ integer ok s at
-  unfolding integer tested fieldRead
+  pub fails : (v next : ℕ) → r ≡ int.Value v next → ok v ≡ false → intRead (int-read.Failed failure.OutOfRange) ≡ integer ok s at
+  unfolding integer tested intRead
   fails v next e t = rw (← p, e, t)
 
-  pub cut : r ≡ int.Short → fieldRead field.Short ≡ integer ok s at
-  unfolding integer tested fieldRead
+  pub cut : r ≡ int.Short → intRead (int-read.Failed failure.Short) ≡ integer ok s at
+  unfolding integer tested intRead
   cut e = rw (← p, e)
 
-  pub overflows : r ≡ int.Overflow → fieldRead field.OutOfRange ≡ integer ok s at
-  unfolding integer tested fieldRead
+  pub overflows : r ≡ int.Overflow → intRead (int-read.Failed failure.OutOfRange) ≡ integer ok s at
+  unfolding integer tested intRead
   overflows e = rw (← p, e)
 
 pub under : (low high v : ℕ) → v < low → between low high v ≡ false
@@ -107,17 +111,17 @@ pub field-out : (x : Read ℕ) (r : Field) → fieldRead r ≡ x → r ≡ field
 unfolding fieldRead
 field-out x r p e = sym p ∙ rw e
 
+pub int-got : (x : Read ℕ) (r : IntRead) → intRead r ≡ x → (v next : ℕ) → r ≡ int-read.Value v next → x ≡ got v next
+unfolding intRead
+int-got x r p v next e = sym p ∙ rw e
+
 pub word-got : (x : Read ℕ) (r : Word) → wordRead r ≡ x → (v next : ℕ) → r ≡ word.Value v next → x ≡ got v next
 unfolding wordRead
 word-got x r p v next e = sym p ∙ rw e
 
-pub word-cut : (x : Read ℕ) (r : Word) → wordRead r ≡ x → r ≡ word.Short → x ≡ short
+pub word-failed : (x : Read ℕ) (r : Word) → wordRead r ≡ x → (f : Failure) → r ≡ word.Failed f → x ≡ failed f
 unfolding wordRead
-word-cut x r p e = sym p ∙ rw e
-
-pub word-over : (x : Read ℕ) (r : Word) → wordRead r ≡ x → r ≡ word.OutOfRange → x ≡ outside
-unfolding wordRead
-word-over x r p e = sym p ∙ rw e
+word-failed x r p f e = sym p ∙ rw e
 
 -- ---- `read_word`
 module _ (s : List ℕ) (at : ℕ) (r : Field) (p : r ≡ readWidth 32 s at) where
@@ -125,11 +129,11 @@ module _ (s : List ℕ) (at : ℕ) (r : Field) (p : r ≡ readWidth 32 s at) whe
   unfolding wordRead
   word-value v next e = sym (field-got (integerOf 32 s at) r (of-width 32 (lit≤ tt) s at r p) v next e)
 
-  pub word-short : r ≡ field.Short → wordRead word.Short ≡ integerOf 32 s at
+  pub word-short : r ≡ field.Short → wordRead (word.Failed failure.Short) ≡ integerOf 32 s at
   unfolding wordRead
   word-short e = sym (field-short (integerOf 32 s at) r (of-width 32 (lit≤ tt) s at r p) e)
 
-  pub word-out : r ≡ field.OutOfRange → wordRead word.OutOfRange ≡ integerOf 32 s at
+  pub word-out : r ≡ field.OutOfRange → wordRead (word.Failed failure.OutOfRange) ≡ integerOf 32 s at
   unfolding wordRead
   word-out e = sym (field-out (integerOf 32 s at) r (of-width 32 (lit≤ tt) s at r p) e)
 
@@ -140,11 +144,11 @@ pub ruleset word-laws = (needs, word-value, word-short, word-out, word-fits)
 
 -- ---- `read_part`
 module _ (n : ℕ) (s : List ℕ) (at : ℕ) where
-  pub past : length s < at → partRead part.Short ≡ bytes n s at
+  pub past : length s < at → partRead (part.Failed failure.Short) ≡ bytes n s at
   unfolding bytes partRead
   past h = let l : length s < at + n = omega arith in rw (lt-leb (at + n) (length s) l)
 
-  pub few : length s - at < n → partRead part.Short ≡ bytes n s at
+  pub few : length s - at < n → partRead (part.Failed failure.Short) ≡ bytes n s at
   unfolding bytes partRead
   few h = let l : length s < at + n = omega arith in rw (lt-leb (at + n) (length s) l)
 

@@ -8,28 +8,26 @@ use lib.ListN.{length, getD, take, drop, set, replicate, length-set, length-repl
 use lib.Seq.{drop-cons, take-suc-set, take-all}
 use borrow.Author.Needs.{needs}
 use Rattle.store.proofs.Rules.{slot-count, rate-count}
+use Rattle.body.specs.declared.Failure.{Failure}
 use Rattle.body.specs.declared.Reading.the-variants as reading
-use Rattle.body.specs.Fields.{Read, got, short, outside, Reader, andThen, forEach}
+use Rattle.body.specs.Fields.{Read, got, failed, Reader, andThen, forEach}
 use Rattle.body.specs.Results.{readAs}
-use Rattle.body.proofs.FieldLaws.{field-got, field-short, field-out, word-got, word-cut, word-over}
+use Rattle.body.proofs.FieldLaws.{field-got, field-short, field-out, word-got, word-failed}
 
 -- the values xs, and then what was read
 unfoldable pub following : List ℕ → Read (List ℕ) → Read (List ℕ)
 following xs (got ys next) = got (xs ++ ys) next
-following xs short = short
-following xs outside = outside
+following xs (failed f) = failed f
 
 following-none : (x : Read (List ℕ)) → x ≡ following [] x
 unfolding following
 following-none (got ys next) = refl
-following-none short = refl
-following-none outside = refl
+following-none (failed f) = refl
 
 following-one : (xs : List ℕ) (v : ℕ) (x : Read (List ℕ)) → following xs (andThen x λ ys next. got (v ∷ ys) next) ≡ following (xs ++ (v ∷ [])) x
 unfolding following andThen
 following-one xs v (got ys next) = rw append-assoc
-following-one xs v short = refl
-following-one xs v outside = refl
+following-one xs v (failed f) = refl
 
 -- of n types; the first i are read, up to `position`
 pub record Filling (field : ℕ → Reader ℕ) (ts : List ℕ) (n : ℕ) (s : List ℕ) (at : ℕ) (vs : List ℕ) (position i : ℕ) : Type 0 where
@@ -66,13 +64,9 @@ module _ {field : ℕ → Reader ℕ} {ts : List ℕ} {n : ℕ} {s : List ℕ} {
         let l : i < length ts = omega (arith, k .size) in
         k .rest ∙ rw (drop-cons ts i 0 l, ← q)
 
-    pub stop-short : field t s position ≡ short → readAs reading.Short vs ≡ forEach field ts s at
+    pub stop : (f : Failure) → field t s position ≡ failed f → readAs (reading.Failed f) vs ≡ forEach field ts s at
     unfolding readAs following andThen
-    stop-short e = sym (next-one ∙ rw e)
-
-    pub stop-out : field t s position ≡ outside → readAs reading.OutOfRange vs ≡ forEach field ts s at
-    unfolding readAs following andThen
-    stop-out e = sym (next-one ∙ rw e)
+    stop f e = sym (next-one ∙ rw e)
 
     pub turn : (v next : ℕ) → field t s position ≡ got v next → Filling field ts n s at (set vs i v) next (i + 1)
     unfolding andThen
@@ -86,4 +80,4 @@ module _ {field : ℕ → Reader ℕ} {ts : List ℕ} {n : ℕ} {s : List ℕ} {
         }
 
 pub ruleset filling-laws =
-    (needs, start, done, stop-short, stop-out, turn, slot-count, rate-count, field-got, field-short, field-out, word-got, word-cut, word-over)
+    (needs, start, done, stop, turn, slot-count, rate-count, field-got, field-short, field-out, word-got, word-failed)

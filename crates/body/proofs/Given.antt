@@ -1,8 +1,9 @@
 -- From what a public function gave to what was read of the body.
 use Prim.Native.Nat.{ℕ}
 use mathlib.Core.Path.{_≡_, refl, sym, ap, _∙_}
-use Rattle.wire.specs.declared.values.Field.{Field}
-use Rattle.wire.specs.declared.values.Field.the-variants as field
+use Rattle.body.specs.declared.Failure.{Failure}
+use Rattle.body.specs.declared.Word.{Word}
+use Rattle.body.specs.declared.Word.the-variants as word
 use Rattle.body.specs.declared.Reading.{Reading}
 use Rattle.body.specs.declared.Reading.the-variants as reading
 use Rattle.body.specs.declared.times.TimesRead.{TimesRead}
@@ -11,10 +12,10 @@ use Rattle.body.specs.declared.definition.DefinitionBody.{DefinitionBody
 use Rattle.body.specs.declared.update.UpdateBody.{UpdateBody}
 use Rattle.body.specs.declared.AcknowledgementBody.{AcknowledgementBody}
 use Rattle.body.specs.declared.AcknowledgementBody.the-variants as acked
-use Rattle.body.specs.Fields.{Read, got, short, outside}
+use Rattle.body.specs.Fields.{Read, got, failed}
 use Rattle.body.specs.Bodies.{Times, Definition, Acknowledged, Data, Update}
-use Rattle.body.specs.Results.{fieldRead, readAs, timesStruct, timesResult, dataStruct, dataResult, definitionStruct, definitionBody, switchBody, acknowledgementBody, updateStruct, updateBody}
-use Rattle.body.proofs.FieldLaws.{field-got, field-short, field-out}
+use Rattle.body.specs.Results.{wordRead, readAs, timesStruct, timesResult, dataStruct, dataResult, definitionStruct, definitionBody, acknowledgementRead, updateStruct, updateBody}
+use Rattle.body.proofs.FieldLaws.{word-got, word-failed}
 
 -- ---- expiry and periods: what a struct says was read
 abbrev pub timesIn : TimesRead → Times
@@ -23,8 +24,7 @@ timesIn r = record { timed = r .timed; expiry = r .expiry; periods = r .periods 
 times-as : (x : Read Times) → x ≡ readAs (timesResult x .reading) (timesIn (timesResult x))
 unfolding timesResult timesStruct readAs
 times-as (got t next) = refl
-times-as short = refl
-times-as outside = refl
+times-as (failed f) = refl
 
 pub times-given : (x : Read Times) (r : TimesRead) → r ≡ timesResult x → x ≡ readAs (r .reading) (timesIn r)
 times-given x r p = rw p (times-as x)
@@ -36,8 +36,7 @@ dataIn r = record { server = r .«server_id»; values = r .values }
 data-as : (x : Read Data) → x ≡ readAs (dataResult x .reading) (dataIn (dataResult x))
 unfolding dataResult dataStruct readAs
 data-as (got d next) = refl
-data-as short = refl
-data-as outside = refl
+data-as (failed f) = refl
 
 pub data-given : (x : Read Data) (r : DataRead) → r ≡ dataResult x → x ≡ readAs (r .reading) (dataIn r)
 data-given x r p = rw p (data-as x)
@@ -56,8 +55,7 @@ definitionIn r = record {
 definition-as : (x : Read Definition) → x ≡ readAs (definitionBody x .reading) (definitionIn (definitionBody x))
 unfolding definitionBody definitionStruct readAs
 definition-as (got d next) = refl
-definition-as short = refl
-definition-as outside = refl
+definition-as (failed f) = refl
 
 module _ (x : Read Definition) (r : DefinitionBody) (p : r ≡ definitionBody x) where
   pub definition-given : x ≡ readAs (r .reading) (definitionIn r)
@@ -67,13 +65,9 @@ module _ (x : Read Definition) (r : DefinitionBody) (p : r ≡ definitionBody x)
   unfolding readAs
   definition-whole next e = definition-given ∙ ap (λ (h : Reading). readAs h (definitionIn r)) e
 
-  pub definition-short : r .reading ≡ reading.Short → x ≡ short
+  pub definition-failed : (f : Failure) → r .reading ≡ reading.Failed f → x ≡ failed f
   unfolding readAs
-  definition-short e = definition-given ∙ ap (λ (h : Reading). readAs h (definitionIn r)) e
-
-  pub definition-out : r .reading ≡ reading.OutOfRange → x ≡ outside
-  unfolding readAs
-  definition-out e = definition-given ∙ ap (λ (h : Reading). readAs h (definitionIn r)) e
+  definition-failed f e = definition-given ∙ ap (λ (h : Reading). readAs h (definitionIn r)) e
 
 -- ---- an update
 abbrev pub updateIn : UpdateBody → Update
@@ -87,57 +81,26 @@ updateIn r = record {
 update-as : (x : Read Update) → x ≡ readAs (updateBody x .reading) (updateIn (updateBody x))
 unfolding updateBody updateStruct readAs
 update-as (got u next) = refl
-update-as short = refl
-update-as outside = refl
+update-as (failed f) = refl
 
 module _ (x : Read Update) (r : UpdateBody) (p : r ≡ updateBody x) where
   pub update-given : x ≡ readAs (r .reading) (updateIn r)
   update-given = rw p (update-as x)
 
 -- ---- a switch
-switch-as : (x : Read ℕ) → x ≡ fieldRead (switchBody x)
-unfolding fieldRead switchBody
-switch-as (got id next) = refl
-switch-as short = refl
-switch-as outside = refl
+module _ (x : Read ℕ) (r : Word) (p : wordRead r ≡ x) where
+  pub switch-id : (id next : ℕ) → r ≡ word.Value id next → x ≡ got id next
+  switch-id id next e = word-got x r p id next e
 
-module _ (x : Read ℕ) (r : Field) (p : r ≡ switchBody x) where
-  pub switch-given : fieldRead r ≡ x
-  switch-given = rw p (sym (switch-as x))
-
-  pub switch-id : (id next : ℕ) → r ≡ field.Value id next → x ≡ got id next
-  switch-id id next e = field-got x r switch-given id next e
-
-  pub switch-short : r ≡ field.Short → x ≡ short
-  switch-short e = field-short x r switch-given e
-
-  pub switch-out : r ≡ field.OutOfRange → x ≡ outside
-  switch-out e = field-out x r switch-given e
+  pub switch-failed : (f : Failure) → r ≡ word.Failed f → x ≡ failed f
+  switch-failed f e = word-failed x r p f e
 
 -- ---- an acknowledgement
-unfoldable pub ackGiven : AcknowledgementBody → Read Acknowledged
-ackGiven (acked.Fields id update next) = got (record { id = id; update = update }) next
-ackGiven acked.Short = short
-ackGiven acked.OutOfRange = outside
-
-ack-as : (x : Read Acknowledged) → x ≡ ackGiven (acknowledgementBody x)
-unfolding ackGiven acknowledgementBody
-ack-as (got a next) = refl
-ack-as short = refl
-ack-as outside = refl
-
-module _ (x : Read Acknowledged) (r : AcknowledgementBody) (p : r ≡ acknowledgementBody x) where
-  pub acknowledgement-given : x ≡ ackGiven r
-  acknowledgement-given = rw p (ack-as x)
-
+module _ (x : Read Acknowledged) (r : AcknowledgementBody) (p : acknowledgementRead r ≡ x) where
   pub acknowledgement-fields : (id update next : ℕ) → r ≡ acked.Fields id update next → x ≡ got (record { id = id; update = update }) next
-  unfolding ackGiven
-  acknowledgement-fields id update next e = acknowledgement-given ∙ ap ackGiven e
+  unfolding acknowledgementRead
+  acknowledgement-fields id update next e = sym p ∙ rw e
 
-  pub acknowledgement-short : r ≡ acked.Short → x ≡ short
-  unfolding ackGiven
-  acknowledgement-short e = acknowledgement-given ∙ ap ackGiven e
-
-  pub acknowledgement-out : r ≡ acked.OutOfRange → x ≡ outside
-  unfolding ackGiven
-  acknowledgement-out e = acknowledgement-given ∙ ap ackGiven e
+  pub acknowledgement-failed : (f : Failure) → r ≡ acked.Failed f → x ≡ failed f
+  unfolding acknowledgementRead
+  acknowledgement-failed f e = sym p ∙ rw e

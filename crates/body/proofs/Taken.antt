@@ -20,8 +20,11 @@ use Rattle.wire.proofs.Advance.{advance, value-small}
 use Rattle.wire.proofs.Numbers.{number-short, number-value, number-own}
 use Rattle.wire.proofs.values.Server.{server-own, server-advance}
 use Rattle.store.specs.Shape.{Cells}
-use Rattle.body.proofs.Holds.{Holds, held, holds-got, holds-each, holds-then}
-use Rattle.body.specs.Fields.{Read, got, outside, Reader, andThen, forEach, tested, integer, between, integerOf, Span, bytes, numberRead, number4, serverRead, serverId}
+use Rattle.store.specs.Limits.{plainName}
+use Rattle.body.specs.declared.Failure.the-variants as failure
+use Rattle.body.proofs.Holds.{Holds, held, holds-got, holds-failed, holds-cond, holds-each, holds-then}
+use Rattle.body.specs.Fields.{Read, got, outside, Reader, andThen, forEach, tested, integer, between, integerOf, Span, spanIn, bytes, numberRead, number4, serverRead, serverId}
+use Rattle.body.specs.Bodies.{nameField}
 
 -- ---- a value with P, read from `at` up to `next` within the body s
 module _ {A : Type 0} where
@@ -129,6 +132,27 @@ bytes-holds n s at =
     split (lt-or-le (length s) (at + n))
     (λ l. rw (lt-leb (at + n) (length s) l) tt)
     (λ l. rw (le-leb (at + n) (length s) l) (record { fact = (refl, l); on = omega arith; end = l }))
+
+-- a part ends where the field behind it begins
+pub record Ends (s : List ℕ) (span : Span) (next : ℕ) : Type 0 where
+  pub behind : next ≡ span .start + span .len
+  pub inside : next ≤ length s
+
+pub bytes-end : (n : ℕ) (s : List ℕ) (at : ℕ) → Holds (Ends s) (bytes n s at)
+unfolding Holds bytes
+bytes-end n s at =
+    split (lt-or-le (length s) (at + n))
+    (λ l. rw (lt-leb (at + n) (length s) l) tt)
+    (λ l. rw (le-leb (at + n) (length s) l) (record { behind = refl; inside = l }))
+
+-- a name is bytes that are plain
+module _ (P : Span → ℕ → Type 0) (n : ℕ) (s : List ℕ) (at : ℕ) where
+  pub name-holds : Holds P (bytes n s at) → Holds (λ name next. P name next × (plainName (spanIn s name) ≡ true)) (nameField n s at)
+  unfolding nameField
+  name-holds h =
+      let Q : Span → ℕ → Type 0 = λ name next. P name next × (plainName (spanIn s name) ≡ true) in
+      holds-then P Q (bytes n s at) _ h λ name next p.
+      holds-cond Q (plainName (spanIn s name)) _ _ (λ e. holds-got Q name next (p, e)) (λ e. holds-failed Q failure.NotPlain)
 
 pub number-holds : (s : List ℕ) (at : ℕ) → Holds (Taken (λ v. Bytes s → v < 2 ^ 32) s at) (number4 s at)
 unfolding Holds number4 numberRead

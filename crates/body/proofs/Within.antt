@@ -13,13 +13,13 @@ use Rattle.lists.proofs.Cases.{lt-or-le, never, and-intro, unless-true, unless-
 use Rattle.wire.specs.Value.{Bytes}
 use Rattle.store.specs.declared.Table.{Table}
 use Rattle.store.specs.Shape.{Cells}
-use Rattle.store.specs.Limits.{nameMax, keyKind, isKnown, isString, keyLengthOk, dataTypesOk, present, isWide, widthOf, slotTypes, rateTypes}
+use Rattle.store.specs.Limits.{nameMax, plainName, keyKind, isKnown, isString, keyLengthOk, dataTypesOk, present, isWide, widthOf, slotTypes, rateTypes}
 use Rattle.store.specs.Sound.{slotOk, slotsOk}
 use Rattle.store.proofs.Rules.{slot-count, rate-count}
-use Rattle.body.specs.Fields.{got, between, Span}
-use Rattle.body.specs.Bodies.{Named, namedFields, isKeyType, Shape, shapeFields, pairField, periodField, Times, noTimes, timesThere, timesFields, Definition, defined, restFields, definitionFields, switchFields, stringField, keyField, serverField, slotField, Data, dataFields, Update, keyed, entryFields, updateFields, incrementalFields}
-use Rattle.body.proofs.Holds.{Holds, held, holds-cond}
-use Rattle.body.proofs.Taken.{Taken, taken-got, weaken, taken-then, Along, along-at, along-cells, each-holds, Tested, integer-holds, Width, width-holds, PartOf, bytes-holds, number-holds, server-holds, between-low, between-high}
+use Rattle.body.specs.Fields.{got, between, Span, spanIn}
+use Rattle.body.specs.Bodies.{Named, nameField, namedFields, isKeyType, Shape, shapeFields, pairField, periodField, Times, noTimes, timesThere, timesFields, Definition, defined, restFields, definitionFields, switchFields, stringField, keyField, serverField, slotField, Data, dataFields, Update, keyed, entryFields, updateFields, incrementalFields}
+use Rattle.body.proofs.Holds.{Holds, held, holds-cond, holds-each}
+use Rattle.body.proofs.Taken.{Taken, taken-got, weaken, taken-then, Along, along-at, along-cells, each-holds, Tested, integer-holds, Width, width-holds, PartOf, bytes-holds, name-holds, number-holds, server-holds, between-low, between-high}
 
 -- ---- a definition
 record NamedWithin (s : List ℕ) (n : Named) : Type 0 where
@@ -27,17 +27,29 @@ record NamedWithin (s : List ℕ) (n : Named) : Type 0 where
   least : 1 ≤ n .name .len
   most : n .name .len ≤ nameMax
   inside : n .name .start + n .name .len ≤ length s
+  plain : plainName (spanIn s (n .name)) ≡ true
+
+NamePart : ℕ → List ℕ → Span → Type 0
+NamePart n s name = PartOf n s name × (plainName (spanIn s name) ≡ true)
+
+name-part-holds : (n : ℕ) (s : List ℕ) (at : ℕ) → Holds (Taken (NamePart n s) s at) (nameField n s at)
+unfolding NamePart
+name-part-holds n s at =
+    let P : Span → ℕ → Type 0 = Taken (PartOf n s) s at in
+    holds-each (λ name next. P name next × (plainName (spanIn s name) ≡ true)) (Taken (NamePart n s) s at) (nameField n s at)
+    (name-holds P n s at (bytes-holds n s at))
+    (λ name next r. record { fact = (r .0 .fact, r .1); on = r .0 .on; end = r .0 .end })
 
 named-holds : (s : List ℕ) (at : ℕ) → Holds (Taken (NamedWithin s) s at) (namedFields s at)
-unfolding namedFields Tested Width PartOf
+unfolding namedFields Tested Width PartOf NamePart
 named-holds s at =
     taken-then (Width 32) (NamedWithin s) s at _ _ (width-holds 32 s at) λ id at₁ h₁ l₁.
     taken-then (Tested (between 1 nameMax)) (NamedWithin s) s at₁ _ _ (integer-holds (between 1 nameMax) s at₁) λ len at₂ h₂ l₂.
-    taken-then (PartOf len s) (NamedWithin s) s at₂ _ _ (bytes-holds len s at₂) λ name at₃ h₃ l₃.
+    taken-then (NamePart len s) (NamedWithin s) s at₂ _ _ (name-part-holds len s at₂) λ name at₃ h₃ l₃.
     let low = between-low 1 nameMax len (h₂ .0) in
     let high = between-high 1 nameMax len (h₂ .0) in
     taken-got (NamedWithin s) s at₃ _
-    (record { id = h₁ .0; least = omega arith; most = omega arith; inside = h₃ .1 })
+    (record { id = h₁ .0; least = omega (arith, h₃ .0 .0); most = omega (arith, h₃ .0 .0); inside = h₃ .0 .1; plain = h₃ .1 })
     l₃
 
 record ShapeWithin (h : Shape) : Type 0 where
@@ -109,6 +121,7 @@ pub record DefinitionWithin (body : List ℕ) (d : Definition) : Type 0 where
   pub nameLeast : 1 ≤ d .name .len
   pub nameMost : d .name .len ≤ nameMax
   pub nameEnd : d .name .start + d .name .len ≤ length body
+  pub plain : plainName (spanIn body (d .name)) ≡ true
   pub keyType : isKnown (keyKind (d .keyType)) ≡ true
   pub keyLength : keyLengthOk (d .keyType) (d .keyLength) ≡ true
   pub typesOk : dataTypesOk (d .dataTypes) ≡ true
@@ -129,6 +142,7 @@ definition-holds body =
       nameLeast = n .least;
       nameMost = n .most;
       nameEnd = n .inside;
+      plain = n .plain;
       keyType = h .keyType;
       keyLength = h .keyLength;
       typesOk = h .typesOk;

@@ -6,8 +6,8 @@ use lib.ListN.{length, replicate}
 use lib.Dec.{eqb}
 use lib.IntN.{ℤ, pos}
 use Rattle.store.specs.declared.Table.{Table}
-use Rattle.store.specs.Limits.{nameMax, keyKind, isKnown, isString, keyLengthOk, dataTypesOk, present, widthOf, slotTypes, rateTypes, rateCount}
-use Rattle.body.specs.Fields.{Read, got, Reader, andThen, forEach, Span, integer, between, integerOf, bytes, number4, serverId}
+use Rattle.store.specs.Limits.{nameMax, plainName, keyKind, isKnown, isString, keyLengthOk, dataTypesOk, present, widthOf, slotTypes, rateTypes, rateCount}
+use Rattle.body.specs.Fields.{Read, got, unplain, Reader, andThen, forEach, Span, spanIn, integer, between, integerOf, bytes, number4, serverId}
 
 -- ---- definition
 
@@ -19,11 +19,15 @@ pub record Named : Type 0 where
 abbrev pub named : ℕ → ℕ → ℕ → Named
 named id start len = record { id = id; name = record { start = start; len = len } }
 
+-- "30, .. after the name is whole and before the key type"
+unfoldable pub nameField : ℕ → Reader Span
+nameField n body at = andThen (bytes n body at) λ name at₁. cond (plainName (spanIn body name)) (got name at₁) unplain
+
 unfoldable pub namedFields : Reader Named
 namedFields body at =
     andThen (integerOf 32 body at) λ id at₁.
     andThen (integer (between 1 nameMax) body at₁) λ len at₂.
-    andThen (bytes len body at₂) λ name at₃.
+    andThen (nameField len body at₂) λ name at₃.
     got (record { id = id; name = name }) at₃
 
 -- ".. key type, key length, data types, .."

@@ -4,16 +4,16 @@ use mathlib.Core.Path.{_≡_, refl}
 use mathlib.Core.List.{List, [], _∷_, _++_}
 use lib.ListN.{take, replicate}
 use lib.IntN.{ℤ, pos, negsuc}
-use Rattle.lists.specs.Lists.{among}
+use Rattle.lists.specs.Lists.{every, among}
 use Rattle.wire.specs.Integer.{encodeInt, encodeRest, readInt, readFirst, withLater, laterBytes, before, weighted, fitting}
 use Rattle.wire.specs.Number.{readNumber, numberOf, encodeNumber}
 use Rattle.wire.specs.Server.{serverWord, readServerId, serverOf, serverBefore, serverIdOf}
 use Rattle.store.specs.declared.Table.{Table}
 use Rattle.store.specs.declared.Entry.{Entry}
-use Rattle.store.specs.Limits.{keyKind, keyLengthOk, dataTypesOk, present, isRate, isWide, widthOf, integersOf, slotsFor, slotTypes, rateTypes}
+use Rattle.store.specs.Limits.{isPlain, plainName, keyKind, keyLengthOk, dataTypesOk, present, isRate, isWide, widthOf, integersOf, slotsFor, slotTypes, rateTypes}
 use Rattle.store.specs.Store.{nameOf, keyOf}
-use Rattle.body.specs.Fields.{got, short, outside, andThen, forEach, tested, integer, between, integerOf, bytes, numberRead, number4, serverRead, serverId}
-use Rattle.body.specs.Bodies.{namedFields, isKeyType, shapeFields, pairField, periodField, Times, noTimes, timesThere, timesFields, Definition, restFields, definitionFields, switchFields, acknowledgementFields, stringField, keyField, serverField, slotField, dataFields, Update, entryFields, updateFields, incrementalFields}
+use Rattle.body.specs.Fields.{got, short, outside, unplain, andThen, forEach, tested, integer, between, integerOf, spanIn, bytes, numberRead, number4, serverRead, serverId}
+use Rattle.body.specs.Bodies.{nameField, namedFields, isKeyType, shapeFields, pairField, periodField, Times, noTimes, timesThere, timesFields, Definition, restFields, definitionFields, switchFields, acknowledgementFields, stringField, keyField, serverField, slotField, dataFields, Update, entryFields, updateFields, incrementalFields}
 use Rattle.body.specs.Encodings.{messageBytes, bodyStart, eachBytes, keyBytes, serverBytes, valueBytes, dataBytes, entryBytes, updateBytes, incrementalBytes, serverStart, slotStart, periodBytes, timesBytes, definitionBytes}
 
 -- ---- definition
@@ -62,6 +62,14 @@ record DefinitionExamples : Type 0 where
   -- name lengths 0 and 33
   no-name : definitionFields (0x01 ∷ 0x00 ∷ []) ≡ outside
   long-name : definitionFields (0x01 ∷ 0x21 ∷ []) ≡ outside
+  -- the plain bytes at the limits of their ranges, `-./09:AZ_az`, and no key type
+  plain-name : definitionFields (0x01 ∷ 0x0B ∷ 0x2D ∷ 0x2E ∷ 0x2F ∷ 0x30 ∷ 0x39 ∷ 0x3A ∷ 0x41 ∷ 0x5A ∷ 0x5F ∷ 0x61 ∷ 0x7A ∷ []) ≡ short
+  -- `t` and a line feed: cut inside the name, with nothing behind it, and before a key type out of range
+  cut-line-feed : definitionFields (0x01 ∷ 0x03 ∷ 0x74 ∷ 0x0A ∷ []) ≡ short
+  line-feed : definitionFields (0x01 ∷ 0x02 ∷ 0x74 ∷ 0x0A ∷ []) ≡ unplain
+  line-feed-first : definitionFields (0x01 ∷ 0x02 ∷ 0x74 ∷ 0x0A ∷ 0x00 ∷ []) ≡ unplain
+  -- the name's length comes before it
+  long-line-feed : definitionFields (0x01 ∷ 0x21 ∷ replicate 33 0x0A) ≡ outside
   -- key types 0, 1, 3, 8 and 2^32 + 2, with nothing behind them; key length 5 of an integer key, 0 and 65 of a string
   key-type-0 : definitionFields (named (0x00 ∷ [])) ≡ outside
   key-type-1 : definitionFields (named (0x01 ∷ [])) ≡ outside
@@ -76,7 +84,7 @@ record DefinitionExamples : Type 0 where
   more-types : definitionFields (named (0x02 ∷ 0x04 ∷ 0xF0 ∷ 0xF1 ∷ 0xFE ∷ 0x00 ∷ [])) ≡ outside
 
 definition-examples : DefinitionExamples
-unfolding definitionFields restFields namedFields shapeFields isKeyType timesFields timesThere periodField pairField andThen forEach tested integer between integerOf bytes readInt readFirst withLater laterBytes before weighted fitting keyKind keyLengthOk dataTypesOk present rateTypes
+unfolding definitionFields restFields namedFields nameField plainName isPlain every among spanIn shapeFields isKeyType timesFields timesThere periodField pairField andThen forEach tested integer between integerOf bytes readInt readFirst withLater laterBytes before weighted fitting keyKind keyLengthOk dataTypesOk present rateTypes
 definition-examples = record {
   whole = refl;
   behind = refl;
@@ -94,6 +102,11 @@ definition-examples = record {
   other-number = refl;
   no-name = refl;
   long-name = refl;
+  plain-name = refl;
+  cut-line-feed = refl;
+  line-feed = refl;
+  line-feed-first = refl;
+  long-line-feed = refl;
   key-type-0 = refl;
   key-type-1 = refl;
   key-type-3 = refl;

@@ -5,6 +5,8 @@ use mathlib.Core.Bool.{Bool, cond, _&&_}
 use lib.ListN.{length, take, drop}
 use lib.Dec.{ltb, leb}
 use lib.IntN.{ℤ}
+use Rattle.body.specs.declared.Failure.{Failure}
+use Rattle.body.specs.declared.Failure.the-variants as failure
 use Rattle.wire.specs.declared.Int.{Int}
 use Rattle.wire.specs.declared.Int.the-variants as int
 use Rattle.wire.specs.declared.fixed.FourBytes.{FourBytes}
@@ -15,12 +17,23 @@ use Rattle.wire.specs.Integer.{readInt}
 use Rattle.wire.specs.Number.{readNumber}
 use Rattle.wire.specs.Server.{readServerId}
 
--- what reading at a position gives: a value and the position after it; "body ends before a field is whole"; "field overflows or is out of
--- range"
+-- what reading at a position gives: a value and the position after it, or why it fails
 pub data Read (A : Type 0) : Type 0 where
   got : A → ℕ → Read A
-  short : Read A
-  outside : Read A
+  failed : Failure → Read A
+
+module _ {A : Type 0} where
+  -- "body ends before a field is whole"
+  abbrev pub short : Read A
+  short = failed failure.Short
+
+  -- "field overflows or is out of range"
+  abbrev pub outside : Read A
+  outside = failed failure.OutOfRange
+
+  -- a name with another byte than "letters, digits, `.`, `_`, `-`, `/` and `:`"
+  abbrev pub unplain : Read A
+  unplain = failed failure.NotPlain
 
 -- what reads at a position of a body
 abbrev pub Reader : Type 0 → Type 0
@@ -29,9 +42,8 @@ Reader A = List ℕ → ℕ → Read A
 module _ {A B : Type 0} where
   -- the next field, from the value and the position that the last one gave; the first failure is the whole's
   unfoldable pub andThen : Read A → (A → ℕ → Read B) → Read B
-  andThen (got a at) f = f a at
-  andThen short f = short
-  andThen outside f = outside
+  andThen (got a at) g = g a at
+  andThen (failed f) g = failed f
 
 -- a field for each of the types ts, in their order
 unfoldable pub forEach : (ℕ → Reader ℕ) → List ℕ → Reader (List ℕ)

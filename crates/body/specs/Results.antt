@@ -8,6 +8,8 @@ use Rattle.wire.specs.declared.values.Field.{Field}
 use Rattle.wire.specs.declared.values.Field.the-variants as field
 use Rattle.body.specs.declared.Reading.{Reading}
 use Rattle.body.specs.declared.Reading.the-variants as reading
+use Rattle.body.specs.declared.IntRead.{IntRead}
+use Rattle.body.specs.declared.IntRead.the-variants as int
 use Rattle.body.specs.declared.Word.{Word}
 use Rattle.body.specs.declared.Word.the-variants as word
 use Rattle.body.specs.declared.PartRead.{PartRead}
@@ -24,7 +26,7 @@ use Rattle.body.specs.declared.definition.DefinitionBody.{DefinitionBody
 use Rattle.body.specs.declared.update.UpdateBody.{UpdateBody}
 use Rattle.body.specs.declared.AcknowledgementBody.{AcknowledgementBody}
 use Rattle.body.specs.declared.AcknowledgementBody.the-variants as acked
-use Rattle.body.specs.Fields.{Read, got, short, outside, Span}
+use Rattle.body.specs.Fields.{Read, got, failed, short, outside, Span}
 use Rattle.body.specs.Bodies.{Named, Shape, Times, noTimes, Definition, Acknowledged, Data, Update}
 
 -- ---- of one field
@@ -34,34 +36,37 @@ fieldRead (field.Value v next) = got v next
 fieldRead field.Short = short
 fieldRead field.OutOfRange = outside
 
+unfoldable pub intRead : IntRead → Read ℕ
+intRead (int.Value v next) = got v next
+intRead (int.Failed f) = failed f
+
 unfoldable pub wordRead : Word → Read ℕ
 wordRead (word.Value v next) = got v next
-wordRead word.Short = short
-wordRead word.OutOfRange = outside
+wordRead (word.Failed f) = failed f
 
 unfoldable pub partRead : PartRead → Read Span
 partRead (part.Bytes start len next) = got (record { start = start; len = len }) next
-partRead part.Short = short
-partRead part.OutOfRange = outside
+partRead (part.Failed f) = failed f
 
 -- ---- of some fields
 
 unfoldable pub namedRead : NamedRead → Read Named
 namedRead (named.Fields id start len next) = got (record { id = id; name = record { start = start; len = len } }) next
-namedRead named.Short = short
-namedRead named.OutOfRange = outside
+namedRead (named.Failed f) = failed f
 
 unfoldable pub shapeRead : ShapeRead → Read Shape
 shapeRead (shape.Fields keyType keyLength types next) = got (record { keyType = keyType; keyLength = keyLength; dataTypes = types }) next
-shapeRead shape.Short = short
-shapeRead shape.OutOfRange = outside
+shapeRead (shape.Failed f) = failed f
+
+unfoldable pub acknowledgementRead : AcknowledgementBody → Read Acknowledged
+acknowledgementRead (acked.Fields id update next) = got (record { id = id; update = update }) next
+acknowledgementRead (acked.Failed f) = failed f
 
 -- a value beside how far it could be read
 module _ {A : Type 0} where
   unfoldable pub readAs : Reading → A → Read A
   readAs (reading.Whole next) a = got a next
-  readAs reading.Short a = short
-  readAs reading.OutOfRange a = outside
+  readAs (reading.Failed f) a = failed f
 
 abbrev pub periodsRead : PeriodsRead → Read (List ℕ)
 periodsRead p = readAs (p .reading) (p .periods)
@@ -76,8 +81,7 @@ timesStruct how t = record { reading = how; timed = t .timed; expiry = t .expiry
 
 unfoldable pub timesResult : Read Times → TimesRead
 timesResult (got t next) = timesStruct (reading.Whole next) t
-timesResult short = timesStruct reading.Short noTimes
-timesResult outside = timesStruct reading.OutOfRange noTimes
+timesResult (failed f) = timesStruct (reading.Failed f) noTimes
 
 unfoldable pub dataStruct : Reading → Data → DataRead
 dataStruct how d = record { reading = how; «server_id» = d .server; values = d .values }
@@ -87,8 +91,7 @@ noData = record { server = pos 0; values = replicate valueCount 0 }
 
 unfoldable pub dataResult : Read Data → DataRead
 dataResult (got d next) = dataStruct (reading.Whole next) d
-dataResult short = dataStruct reading.Short noData
-dataResult outside = dataStruct reading.OutOfRange noData
+dataResult (failed f) = dataStruct (reading.Failed f) noData
 
 -- ---- of a body; where it broke, all else is zero
 
@@ -114,18 +117,7 @@ noDefinition = record { id = 0; name = noSpan; keyType = 0; keyLength = 0; dataT
 
 unfoldable pub definitionBody : Read Definition → DefinitionBody
 definitionBody (got d next) = definitionStruct (reading.Whole next) d
-definitionBody short = definitionStruct reading.Short noDefinition
-definitionBody outside = definitionStruct reading.OutOfRange noDefinition
-
-unfoldable pub switchBody : Read ℕ → Field
-switchBody (got id next) = field.Value id next
-switchBody short = field.Short
-switchBody outside = field.OutOfRange
-
-unfoldable pub acknowledgementBody : Read Acknowledged → AcknowledgementBody
-acknowledgementBody (got a next) = acked.Fields (a .id) (a .update) next
-acknowledgementBody short = acked.Short
-acknowledgementBody outside = acked.OutOfRange
+definitionBody (failed f) = definitionStruct (reading.Failed f) noDefinition
 
 unfoldable pub updateStruct : Reading → Update → UpdateBody
 updateStruct how u = record {
@@ -142,5 +134,4 @@ noUpdate = record { id = 0; key = noSpan; server = pos 0; values = replicate val
 
 unfoldable pub updateBody : Read Update → UpdateBody
 updateBody (got u next) = updateStruct (reading.Whole next) u
-updateBody short = updateStruct reading.Short noUpdate
-updateBody outside = updateStruct reading.OutOfRange noUpdate
+updateBody (failed f) = updateStruct (reading.Failed f) noUpdate

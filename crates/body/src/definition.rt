@@ -1,7 +1,9 @@
 // The fields of a definition, read from its body.
 ghost use mathlib.Core.Path.{_≡_};
-ghost use Rattle.body.specs.Bodies.{named, namedFields, restFields, definitionFields};
-ghost use Rattle.body.specs.Results.{namedRead, definitionStruct, noDefinition, definitionBody};
+ghost use Rattle.body.specs.Bodies.{named, nameField, namedFields, restFields, definitionFields};
+ghost use Rattle.body.specs.Results.{partRead, namedRead, definitionStruct, noDefinition, definitionBody};
+use crate::Failure;
+use crate::IntRead;
 use crate::PartRead;
 use crate::Reading;
 use crate::Word;
@@ -13,7 +15,7 @@ use crate::shape::read_shape;
 use crate::times::read_times;
 use store::NAME_MAX;
 use store::RATES;
-use wire::values::Field;
+use store::names::plain_name;
 
 // A definition's ID and name.
 pub enum NamedRead {
@@ -23,8 +25,7 @@ pub enum NamedRead {
         name_len: usize,
         next: usize,
     },
-    Short,
-    OutOfRange,
+    Failed(Failure),
 }
 
 // The fields of a definition. Its name stands in the body from `name_at` on. `timed` is 1 where the body has expiry and periods.
@@ -41,16 +42,31 @@ pub struct DefinitionBody {
     pub periods: [u32; RATES],
 }
 
+// The `n` bytes at `at`, which are a name if they are plain.
+fn read_name(n: usize, body: &[u8], at: usize) -> PartRead
+    ensures { λ r. ⌜ partRead r ≡ nameField n (now (body .entry)) at ⌝ }
+{
+    match read_part(n, body, at) {
+        PartRead::Bytes { start, len, next } => {
+            if plain_name(&body[start..next]) {
+                return PartRead::Bytes { start, len, next };
+            }
+            PartRead::Failed(Failure::NotPlain)
+        }
+        PartRead::Failed(f) => PartRead::Failed(f),
+    }
+}
+
 // The ID, the name's length and the name at `at`.
 fn read_named(body: &[u8], at: usize) -> NamedRead
     ensures { λ r. ⌜ namedRead r ≡ namedFields (now (body .entry)) at ⌝ }
 {
     match read_word(body, at) {
         Word::Value { value: id, next } => match read_between(1, NAME_MAX as u64, body, next) {
-            Field::Value {
+            IntRead::Value {
                 value: len,
                 next: at2,
-            } => match read_part(len as usize, body, at2) {
+            } => match read_name(len as usize, body, at2) {
                 PartRead::Bytes {
                     start,
                     len: n,
@@ -61,14 +77,11 @@ fn read_named(body: &[u8], at: usize) -> NamedRead
                     name_len: n,
                     next: end,
                 },
-                PartRead::Short => NamedRead::Short,
-                PartRead::OutOfRange => NamedRead::OutOfRange,
+                PartRead::Failed(f) => NamedRead::Failed(f),
             },
-            Field::Short => NamedRead::Short,
-            Field::OutOfRange => NamedRead::OutOfRange,
+            IntRead::Failed(f) => NamedRead::Failed(f),
         },
-        Word::Short => NamedRead::Short,
-        Word::OutOfRange => NamedRead::OutOfRange,
+        Word::Failed(f) => NamedRead::Failed(f),
     }
 }
 
@@ -101,12 +114,10 @@ fn read_rest(id: u32, name_at: usize, name_len: usize, body: &[u8], at: usize) -
                     expiry,
                     periods,
                 },
-                Reading::Short => no_definition(Reading::Short),
-                Reading::OutOfRange => no_definition(Reading::OutOfRange),
+                Reading::Failed(f) => no_definition(Reading::Failed(f)),
             }
         }
-        ShapeRead::Short => no_definition(Reading::Short),
-        ShapeRead::OutOfRange => no_definition(Reading::OutOfRange),
+        ShapeRead::Failed(f) => no_definition(Reading::Failed(f)),
     }
 }
 
@@ -121,8 +132,7 @@ pub fn read_definition(body: &[u8]) -> DefinitionBody
             name_len,
             next,
         } => read_rest(id, name_at, name_len, body, next),
-        NamedRead::Short => no_definition(Reading::Short),
-        NamedRead::OutOfRange => no_definition(Reading::OutOfRange),
+        NamedRead::Failed(f) => no_definition(Reading::Failed(f)),
     }
 }
 

@@ -9,26 +9,36 @@ pub mod update_data;
 ghost use mathlib.Core.Path.{_≡_};
 ghost use Rattle.body.specs.Fields.{integer, between, integerOf, bytes};
 ghost use Rattle.body.specs.Bodies.{switchFields, acknowledgementFields};
-ghost use Rattle.body.specs.Results.{fieldRead, wordRead, partRead, switchBody, acknowledgementBody};
+ghost use Rattle.body.specs.Results.{intRead, wordRead, partRead, acknowledgementRead};
 use wire::Int;
 use wire::fixed::FourBytes;
 use wire::values::Field;
 
-// How far a body could be read: all its known fields, up to the position after them; or it ends before a field is whole; or a field
-// overflows or is out of range.
-pub enum Reading {
-    Whole(usize),
+// Why a body can't be read: it ends before a field is whole; a field overflows or is out of range; a table's name isn't plain.
+pub enum Failure {
     Short,
     OutOfRange,
+    NotPlain,
+}
+
+// How far a body could be read: all its known fields, up to the position after them; or up to a field that fails.
+pub enum Reading {
+    Whole(usize),
+    Failed(Failure),
 }
 
 // ---- fields
 
+// What reading an encoded integer with a test finds.
+pub enum IntRead {
+    Value { value: u64, next: usize },
+    Failed(Failure),
+}
+
 // What reading a number of 32 bits finds.
 pub enum Word {
     Value { value: u32, next: usize },
-    Short,
-    OutOfRange,
+    Failed(Failure),
 }
 
 // What reading a part of a body finds: `len` bytes from `start` on.
@@ -38,26 +48,25 @@ pub enum PartRead {
         len: usize,
         next: usize,
     },
-    Short,
-    OutOfRange,
+    Failed(Failure),
 }
 
 // The encoded integer at `at`, which may be from `low` to `high`.
-pub fn read_between(low: u64, high: u64, body: &[u8], at: usize) -> Field
-    ensures { λ r. ⌜ fieldRead r ≡ integer (between low high) (now (body .entry)) at ⌝ }
+pub fn read_between(low: u64, high: u64, body: &[u8], at: usize) -> IntRead
+    ensures { λ r. ⌜ intRead r ≡ integer (between low high) (now (body .entry)) at ⌝ }
 {
     match wire::read_int(body, at) {
         Int::Value { value, next } => {
             if value < low {
-                return Field::OutOfRange;
+                return IntRead::Failed(Failure::OutOfRange);
             }
             if high < value {
-                return Field::OutOfRange;
+                return IntRead::Failed(Failure::OutOfRange);
             }
-            Field::Value { value, next }
+            IntRead::Value { value, next }
         }
-        Int::Short => Field::Short,
-        Int::Overflow => Field::OutOfRange,
+        Int::Short => IntRead::Failed(Failure::Short),
+        Int::Overflow => IntRead::Failed(Failure::OutOfRange),
     }
 }
 
@@ -70,8 +79,8 @@ pub fn read_word(body: &[u8], at: usize) -> Word
             value: value as u32,
             next,
         },
-        Field::Short => Word::Short,
-        Field::OutOfRange => Word::OutOfRange,
+        Field::Short => Word::Failed(Failure::Short),
+        Field::OutOfRange => Word::Failed(Failure::OutOfRange),
     }
 }
 
@@ -80,10 +89,10 @@ pub fn read_part(n: usize, body: &[u8], at: usize) -> PartRead
     ensures { λ r. ⌜ partRead r ≡ bytes n (now (body .entry)) at ⌝ }
 {
     if body.len() < at {
-        return PartRead::Short;
+        return PartRead::Failed(Failure::Short);
     }
     if body.len() - at < n {
-        return PartRead::Short;
+        return PartRead::Failed(Failure::Short);
     }
     PartRead::Bytes {
         start: at,
@@ -95,22 +104,21 @@ pub fn read_part(n: usize, body: &[u8], at: usize) -> PartRead
 // ---- switch and acknowledgement
 
 // The ID of a switch.
-pub fn read_switch(body: &[u8]) -> Field
-    ensures { λ r. ⌜ r ≡ switchBody (switchFields (now (body .entry))) ⌝ }
+pub fn read_switch(body: &[u8]) -> Word
+    ensures { λ r. ⌜ wordRead r ≡ switchFields (now (body .entry)) ⌝ }
 {
-    wire::values::read_value32(body, 0)
+    read_word(body, 0)
 }
 
 // What reading an acknowledgement finds.
 pub enum AcknowledgementBody {
     Fields { id: u32, update: u32, next: usize },
-    Short,
-    OutOfRange,
+    Failed(Failure),
 }
 
 // The fields of an acknowledgement: its ID and its update ID.
 pub fn read_acknowledgement(body: &[u8]) -> AcknowledgementBody
-    ensures { λ r. ⌜ r ≡ acknowledgementBody (acknowledgementFields (now (body .entry))) ⌝ }
+    ensures { λ r. ⌜ acknowledgementRead r ≡ acknowledgementFields (now (body .entry)) ⌝ }
 {
     match read_word(body, 0) {
         Word::Value { value: id, next } => match wire::fixed::read_number(body, next) {
@@ -122,9 +130,8 @@ pub fn read_acknowledgement(body: &[u8]) -> AcknowledgementBody
                 update,
                 next: end,
             },
-            FourBytes::Short => AcknowledgementBody::Short,
+            FourBytes::Short => AcknowledgementBody::Failed(Failure::Short),
         },
-        Word::Short => AcknowledgementBody::Short,
-        Word::OutOfRange => AcknowledgementBody::OutOfRange,
+        Word::Failed(f) => AcknowledgementBody::Failed(f),
     }
 }

@@ -3,11 +3,12 @@ ghost use mathlib.Core.Path.{_≡_};
 ghost use Rattle.store.specs.Limits.{keyLengthOk};
 ghost use Rattle.body.specs.Fields.{integer};
 ghost use Rattle.body.specs.Bodies.{isKeyType, shapeFields};
-ghost use Rattle.body.specs.Results.{fieldRead, shapeRead};
+ghost use Rattle.body.specs.Results.{intRead, shapeRead};
+use crate::Failure;
+use crate::IntRead;
 use crate::read_between;
 use store::DATA_TYPES_MAX;
 use wire::Int;
-use wire::values::Field;
 
 // Key type, key length and data types.
 pub enum ShapeRead {
@@ -17,8 +18,7 @@ pub enum ShapeRead {
         data_types: u32,
         next: usize,
     },
-    Short,
-    OutOfRange,
+    Failed(Failure),
 }
 
 // Whether a number is a key type.
@@ -32,34 +32,34 @@ fn is_key_type(n: u64) -> bool
 }
 
 // The key type at `at`.
-fn read_key_type(body: &[u8], at: usize) -> Field
-    ensures { λ r. ⌜ fieldRead r ≡ integer isKeyType (now (body .entry)) at ⌝ }
+fn read_key_type(body: &[u8], at: usize) -> IntRead
+    ensures { λ r. ⌜ intRead r ≡ integer isKeyType (now (body .entry)) at ⌝ }
 {
     match wire::read_int(body, at) {
         Int::Value { value, next } => {
             if is_key_type(value) {
-                return Field::Value { value, next };
+                return IntRead::Value { value, next };
             }
-            Field::OutOfRange
+            IntRead::Failed(Failure::OutOfRange)
         }
-        Int::Short => Field::Short,
-        Int::Overflow => Field::OutOfRange,
+        Int::Short => IntRead::Failed(Failure::Short),
+        Int::Overflow => IntRead::Failed(Failure::OutOfRange),
     }
 }
 
 // The key length at `at`, of keys of a type.
-fn read_key_len(key_type: u32, body: &[u8], at: usize) -> Field
-    ensures { λ r. ⌜ fieldRead r ≡ integer (keyLengthOk «key_type») (now (body .entry)) at ⌝ }
+fn read_key_len(key_type: u32, body: &[u8], at: usize) -> IntRead
+    ensures { λ r. ⌜ intRead r ≡ integer (keyLengthOk «key_type») (now (body .entry)) at ⌝ }
 {
     match wire::read_int(body, at) {
         Int::Value { value, next } => {
             if store::types::key_length_ok(key_type, value as usize) {
-                return Field::Value { value, next };
+                return IntRead::Value { value, next };
             }
-            Field::OutOfRange
+            IntRead::Failed(Failure::OutOfRange)
         }
-        Int::Short => Field::Short,
-        Int::Overflow => Field::OutOfRange,
+        Int::Short => IntRead::Failed(Failure::Short),
+        Int::Overflow => IntRead::Failed(Failure::OutOfRange),
     }
 }
 
@@ -68,12 +68,12 @@ pub fn read_shape(body: &[u8], at: usize) -> ShapeRead
     ensures { λ r. ⌜ shapeRead r ≡ shapeFields (now (body .entry)) at ⌝ }
 {
     match read_key_type(body, at) {
-        Field::Value { value: kind, next } => match read_key_len(kind as u32, body, next) {
-            Field::Value {
+        IntRead::Value { value: kind, next } => match read_key_len(kind as u32, body, next) {
+            IntRead::Value {
                 value: len,
                 next: at2,
             } => match read_between(0, DATA_TYPES_MAX as u64, body, at2) {
-                Field::Value {
+                IntRead::Value {
                     value: types,
                     next: end,
                 } => ShapeRead::Fields {
@@ -82,13 +82,10 @@ pub fn read_shape(body: &[u8], at: usize) -> ShapeRead
                     data_types: types as u32,
                     next: end,
                 },
-                Field::Short => ShapeRead::Short,
-                Field::OutOfRange => ShapeRead::OutOfRange,
+                IntRead::Failed(f) => ShapeRead::Failed(f),
             },
-            Field::Short => ShapeRead::Short,
-            Field::OutOfRange => ShapeRead::OutOfRange,
+            IntRead::Failed(f) => ShapeRead::Failed(f),
         },
-        Field::Short => ShapeRead::Short,
-        Field::OutOfRange => ShapeRead::OutOfRange,
+        IntRead::Failed(f) => ShapeRead::Failed(f),
     }
 }

@@ -1,8 +1,8 @@
 // A key of a string type read from the body of an update.
+use crate::IntRead;
 use crate::PartRead;
 use crate::read_between;
 use crate::read_part;
-use wire::values::Field;
 ghost use mathlib.Core.Path.{_≡_};
 ghost use Rattle.body.specs.Bodies.{stringField};
 ghost use Rattle.body.specs.Results.{partRead};
@@ -12,8 +12,7 @@ pub fn read_string(key_len: usize, body: &[u8], at: usize) -> PartRead
     ensures { λ r. ⌜ partRead r ≡ stringField «key_len» (now (body .entry)) at ⌝ }
 {
     match read_between(0, key_len as u64, body, at) {
-        Field::Value { value: len, next } => read_part(len as usize, body, next),
-        Field::Short => PartRead::Short,
-        Field::OutOfRange => PartRead::OutOfRange,
+        IntRead::Value { value: len, next } => read_part(len as usize, body, next),
+        IntRead::Failed(f) => PartRead::Failed(f),
     }
 }

@@ -2,12 +2,12 @@
 ghost use mathlib.Core.Path.{_≡_};
 ghost use Rattle.body.specs.Bodies.{pairField, periodField, periodFields, noTimes, timesFields};
 ghost use Rattle.body.specs.Results.{wordRead, periodsRead, timesStruct, timesResult};
+use crate::IntRead;
 use crate::Reading;
 use crate::Word;
 use crate::read_between;
 use crate::read_word;
 use store::RATES;
-use wire::values::Field;
 
 // A period for each rate type.
 pub struct PeriodsRead {
@@ -29,9 +29,8 @@ fn read_pair(t: usize, body: &[u8], at: usize) -> Word
 {
     let number = t as u64;
     match read_between(number, number, body, at) {
-        Field::Value { value: _, next } => read_word(body, next),
-        Field::Short => Word::Short,
-        Field::OutOfRange => Word::OutOfRange,
+        IntRead::Value { value: _, next } => read_word(body, next),
+        IntRead::Failed(f) => Word::Failed(f),
     }
 }
 
@@ -59,15 +58,9 @@ fn read_periods(types: u32, body: &[u8], at: usize) -> PeriodsRead
                 position = next;
                 i += 1;
             }
-            Word::Short => {
+            Word::Failed(f) => {
                 return PeriodsRead {
-                    reading: Reading::Short,
-                    periods,
-                };
-            }
-            Word::OutOfRange => {
-                return PeriodsRead {
-                    reading: Reading::OutOfRange,
+                    reading: Reading::Failed(f),
                     periods,
                 };
             }
@@ -101,12 +94,10 @@ pub fn read_times(types: u32, body: &[u8], at: usize) -> TimesRead
                     expiry,
                     periods,
                 },
-                Reading::Short => no_times(Reading::Short),
-                Reading::OutOfRange => no_times(Reading::OutOfRange),
+                Reading::Failed(f) => no_times(Reading::Failed(f)),
             }
         }
-        Word::Short => no_times(Reading::Short),
-        Word::OutOfRange => no_times(Reading::OutOfRange),
+        Word::Failed(f) => no_times(Reading::Failed(f)),
     }
 }
 

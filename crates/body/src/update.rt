@@ -1,4 +1,5 @@
 // The fields of an update, read from its body.
+use crate::Failure;
 use crate::PartRead;
 use crate::Reading;
 use crate::read_part;
@@ -53,12 +54,10 @@ fn read_entry(table: Table, id: u32, body: &[u8], at: usize) -> UpdateBody
                     server_id,
                     values,
                 },
-                Reading::Short => no_update(Reading::Short),
-                Reading::OutOfRange => no_update(Reading::OutOfRange),
+                Reading::Failed(f) => no_update(Reading::Failed(f)),
             }
         }
-        PartRead::Short => no_update(Reading::Short),
-        PartRead::OutOfRange => no_update(Reading::OutOfRange),
+        PartRead::Failed(f) => no_update(Reading::Failed(f)),
     }
 }
 
@@ -68,7 +67,7 @@ pub fn read_update(table: Table, body: &[u8]) -> UpdateBody
 {
     match wire::fixed::read_number(body, 0) {
         FourBytes::Value { value, next } => read_entry(table, value, body, next),
-        FourBytes::Short => no_update(Reading::Short),
+        FourBytes::Short => no_update(Reading::Failed(Failure::Short)),
     }
 }
 

@@ -3,6 +3,7 @@ ghost use mathlib.Core.Path.{_≡_};
 ghost use Rattle.body.specs.Fields.{serverRead};
 ghost use Rattle.body.specs.Bodies.{serverField, slotField, valueFields, dataFields};
 ghost use Rattle.body.specs.Results.{fieldRead, valuesRead, dataStruct, noData, dataResult};
+use crate::Failure;
 use crate::Reading;
 use store::VALUES;
 use wire::values::Field;
@@ -60,13 +61,13 @@ fn read_values(types: u32, body: &[u8], at: usize) -> ValuesRead
             }
             Field::Short => {
                 return ValuesRead {
-                    reading: Reading::Short,
+                    reading: Reading::Failed(Failure::Short),
                     values,
                 };
             }
             Field::OutOfRange => {
                 return ValuesRead {
-                    reading: Reading::OutOfRange,
+                    reading: Reading::Failed(Failure::OutOfRange),
                     values,
                 };
             }
@@ -93,12 +94,11 @@ pub fn read_data(types: u32, body: &[u8], at: usize) -> DataRead
                     server_id: id,
                     values,
                 },
-                Reading::Short => no_data(Reading::Short),
-                Reading::OutOfRange => no_data(Reading::OutOfRange),
+                Reading::Failed(f) => no_data(Reading::Failed(f)),
             }
         }
-        ServerId::Short => no_data(Reading::Short),
-        ServerId::OutOfRange => no_data(Reading::OutOfRange),
+        ServerId::Short => no_data(Reading::Failed(Failure::Short)),
+        ServerId::OutOfRange => no_data(Reading::Failed(Failure::OutOfRange)),
     }
 }
 

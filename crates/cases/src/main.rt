@@ -1,6 +1,6 @@
-// Runs the cases of document 01 that are not in the proved table, and each refusal. A line with # says what is tried; the lines below it
-// are those of the listing, with `more` for more wanted, and where a call has to change nothing, how many bytes it took and the record's
-// lines afterwards.
+// Runs the cases of document 01 that are not in the proved table, each refusal, and each side of the rules of requests 1 and 8: key types
+// and table names. A line with # says what is tried; the lines below it are those of the listing, with `more` for more wanted, and where a
+// call has to change nothing, how many bytes it took and the record's lines afterwards.
 use dump::lines::put_entry;
 use dump::record_lines::put_record;
 use libc::STDOUT_FILENO;
@@ -386,10 +386,119 @@ fn messages() {
     after_hello(b"the peer's error message", b"\x01\x01");
 }
 
+// ---- names of tables
+
+// A definition whose name has this byte between two letters, and one that ends behind that name.
+fn name_with(text: &[u8], byte: u8) {
+    let whole = [0x0a, 0x82, 8, 1, 3, 97, byte, 98, 2, 4, 0];
+    let named = [0x0a, 0x82, 5, 1, 3, 97, byte, 98];
+    title(text);
+    feed(greeted(), &whole, true);
+    feed(greeted(), &named, true);
+}
+
+// The first and the last byte of each range of plain bytes, and those beside them.
+fn bytes_of_names() {
+    name_with(b"a name with byte 44", 44);
+    name_with(b"a name with byte 45", 45);
+    name_with(b"a name with byte 46", 46);
+    name_with(b"a name with byte 47", 47);
+    name_with(b"a name with byte 48", 48);
+    name_with(b"a name with byte 57", 57);
+    name_with(b"a name with byte 58", 58);
+    name_with(b"a name with byte 59", 59);
+    name_with(b"a name with byte 64", 64);
+    name_with(b"a name with byte 65", 65);
+    name_with(b"a name with byte 90", 90);
+    name_with(b"a name with byte 91", 91);
+    name_with(b"a name with byte 94", 94);
+    name_with(b"a name with byte 95", 95);
+    name_with(b"a name with byte 96", 96);
+    name_with(b"a name with byte 97", 97);
+    name_with(b"a name with byte 122", 122);
+    name_with(b"a name with byte 123", 123);
+    name_with(b"a name with byte 127", 127);
+    name_with(b"a name with byte 128", 128);
+    name_with(b"a name with byte 255", 255);
+}
+
+// Names that aren't plain, with faults behind and before them.
+fn names_with_faults() {
+    after_hello(
+        b"refusal 30: a line feed first in a name",
+        b"\x0a\x82\x07\x01\x02\nt\x02\x04\x00",
+    );
+    after_hello(
+        b"refusal 30: a line feed last in a name",
+        b"\x0a\x82\x07\x01\x02t\n\x02\x04\x00",
+    );
+    after_hello(
+        b"refusal 30: a line feed as name, and key type 3",
+        b"\x0a\x82\x06\x01\x01\n\x03\x04\x00",
+    );
+    after_hello(
+        b"refusal 30: a held name and a space, and another key type",
+        b"\x0a\x82\x06\x01\x01t\x02\x04\x00\x0a\x82\x07\x01\x02t \x04\x04\x00",
+    );
+    after_hello(
+        b"refusal 23: a line feed, and the body ends in the name",
+        b"\x0a\x82\x03\x01\x02\n",
+    );
+    after_hello(
+        b"refusal 24: a name of 33 bytes with a line feed",
+        b"\x0a\x82\x03\x01\x21\n",
+    );
+}
+
+// A session with the table `ab`, whose name then has these bytes at its last place and behind it.
+fn renamed(last: u8, behind: u8) -> Run {
+    let mut r = feed(greeted(), b"\x0a\x82\x07\x01\x02ab\x02\x04\x00", false);
+    let mut store = r.store;
+    let mut tables = store.tables;
+    let mut t = tables[0];
+    let mut name = t.name;
+    name[1] = last;
+    name[2] = behind;
+    t.name = name;
+    tables[0] = t;
+    store.tables = tables;
+    r.store = store;
+    r
+}
+
+fn closed_by_name() -> Run {
+    feed(half_way(), b"\x06\x01\x01\n\x02\x04\x00", false)
+}
+
+fn names() {
+    let mut room = [0u8; REPLY_ROOM];
+    bytes_of_names();
+    names_with_faults();
+    taking_nothing(
+        b"a store with the name a:, and a line feed behind it",
+        renamed(58, 10),
+        b"",
+        &mut room,
+    );
+    taking_nothing(
+        b"refusal 4: a store with a line feed in a name",
+        renamed(10, 0),
+        b"",
+        &mut room,
+    );
+    taking_nothing(
+        b"refusal 2: session closed with 30",
+        closed_by_name(),
+        b"\x06",
+        &mut room,
+    );
+}
+
 fn main() {
     server_ids();
     nothing_taken();
     openings();
     handshakes();
     messages();
+    names();
 }

@@ -17,6 +17,7 @@ use Rattle.session.specs.Answers.{replyOf}
 use Rattle.session.specs.Session.{noBinding, bindingAt, committed}
 use Rattle.lists.proofs.Maps.{length-mapped}
 use Rattle.session.proofs.Basics.{blank}
+use Rattle.body.specs.declared.Failure.{Failure}
 use Rattle.body.specs.declared.Reading.{Reading}
 use Rattle.body.specs.declared.Reading.the-variants as reading
 use Rattle.body.specs.declared.update.UpdateBody.{UpdateBody}
@@ -24,10 +25,11 @@ use Rattle.body.specs.Fields.{Read, spanIn}
 use Rattle.body.specs.Bodies.{Update}
 use Rattle.body.specs.Results.{readAs}
 use Rattle.message.specs.declared.Change.{Change}
+use Rattle.message.specs.declared.Effect.{Effect as EffectStruct}
 use Rattle.message.specs.declared.Asked.{Asked}
 use Rattle.message.specs.Changes.{entryChange}
-use Rattle.message.specs.Effects.{fieldsThen, refusal, acknowledge, commitAt, updatedEntry, withFields}
-use Rattle.message.specs.Structs.{effectStruct, asksCommit, asked, updateRead}
+use Rattle.message.specs.Effects.{fieldsThen, refuseBody, acknowledge, commitAt, updatedEntry, withFields}
+use Rattle.message.specs.Structs.{effectStruct, asksNothing, asksCommit, asked, updateRead}
 use Rattle.message.proofs.Settling.{struct}
 
 -- ---- the binding at a place
@@ -64,13 +66,10 @@ module _ (c : Connection) (body : List ℕ) (table : ℕ) (r : UpdateBody) where
   by-reading how e = ap (λ (h : Reading). withFields c body table (read h)) e
 
   module _ (a : Asked) where
-    pub fields-short : r .reading ≡ reading.Short → a ≡ asked c (refusal c 23) → a ≡ asked c (withFields c body table (updateRead r))
-    unfolding withFields fieldsThen readAs
-    fields-short e q = q ∙ ap (asked c) (sym (by-reading reading.Short e))
-
-    pub fields-out : r .reading ≡ reading.OutOfRange → a ≡ asked c (refusal c 24) → a ≡ asked c (withFields c body table (updateRead r))
-    unfolding withFields fieldsThen readAs
-    fields-out e q = q ∙ ap (asked c) (sym (by-reading reading.OutOfRange e))
+    pub fields-failed : (f : Failure) → r .reading ≡ reading.Failed f → (x : EffectStruct) → x ≡ effectStruct (refuseBody c f) → a ≡ asksNothing x
+        → a ≡ asked c (withFields c body table (updateRead r))
+    unfolding withFields fieldsThen readAs asked
+    fields-failed f e x p q = q ∙ ap asksNothing p ∙ ap (asked c) (sym (by-reading (reading.Failed f) e))
 
   -- the key's bytes, as the code lends them
   abbrev key : List ℕ
@@ -84,4 +83,4 @@ module _ (c : Connection) (body : List ℕ) (table : ℕ) (r : UpdateBody) where
       let n : r .«key_at» + r .«key_len» - r .«key_at» ≡ r .«key_len» = omega arith in
       q ∙ (rw (p, z, n) refl ∙ ap (asked c) (sym (by-reading (reading.Whole next) w)))
 
-pub ruleset reading-fields = (needs, fields-short, fields-out, fields-whole)
+pub ruleset reading-fields = (needs, fields-failed, fields-whole)

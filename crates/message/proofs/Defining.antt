@@ -21,16 +21,17 @@ use Rattle.session.specs.declared.Reply.{Reply}
 use Rattle.session.specs.declared.Answer.the-variants as answer
 use Rattle.session.specs.Answers.{replyOf}
 use Rattle.session.specs.Session.{bind}
+use Rattle.body.specs.declared.Failure.{Failure}
 use Rattle.body.specs.declared.Reading.the-variants as reading
 use Rattle.body.specs.declared.definition.DefinitionBody.{DefinitionBody}
 use Rattle.body.specs.Fields.{spanIn}
 use Rattle.body.specs.Bodies.{definitionFields}
 use Rattle.body.specs.Results.{definitionBody}
 use Rattle.body.proofs.Within.{definition-within}
-use Rattle.body.proofs.Given.{definitionIn, definition-whole, definition-short, definition-out}
+use Rattle.body.proofs.Given.{definitionIn, definition-whole, definition-failed}
 use Rattle.message.specs.declared.Change.{Change}
 use Rattle.message.specs.declared.Effect.{Effect as EffectStruct}
-use Rattle.message.specs.Effects.{refuse, fieldsThen, definedTable, defineAt, defineNew, agrees, defineNamed, definition}
+use Rattle.message.specs.Effects.{refuse, refuseBody, fieldsThen, definedTable, defineAt, defineNew, agrees, defineNamed, definition}
 use Rattle.message.specs.Changes.{tableChange}
 use Rattle.message.specs.Structs.{effectStruct}
 use Rattle.message.proofs.Settling.{struct}
@@ -103,13 +104,9 @@ module _ (body : List ℕ) (d : DefinitionBody) (p : d ≡ definitionBody (defin
   name-fits next w h = record { fits = omega (arith, name-inside next w) }
 
   module _ (c : Connection) (tables : List Table) (x : EffectStruct) where
-    pub fields-short : d .reading ≡ reading.Short → x ≡ effectStruct (refuse c 23) → x ≡ effectStruct (definition c tables body)
+    pub fields-failed : (f : Failure) → d .reading ≡ reading.Failed f → x ≡ effectStruct (refuseBody c f) → x ≡ effectStruct (definition c tables body)
     unfolding definition fieldsThen
-    fields-short w q = rw (definition-short (definitionFields body) d p w) q
-
-    pub fields-out : d .reading ≡ reading.OutOfRange → x ≡ effectStruct (refuse c 24) → x ≡ effectStruct (definition c tables body)
-    unfolding definition fieldsThen
-    fields-out w q = rw (definition-out (definitionFields body) d p w) q
+    fields-failed f w q = rw (definition-failed (definitionFields body) d p f w) q
 
     -- the name's bytes, as the code lends them
     abbrev name : List ℕ
@@ -132,4 +129,4 @@ module _ (body : List ℕ) (d : DefinitionBody) (p : d ≡ definitionBody (defin
         let n : d .«name_at» + d .«name_len» - d .«name_at» ≡ d .«name_len» = omega arith in
         q ∙ sym (rw (definition-whole (definitionFields body) d p next w, e, n) refl)
 
-pub ruleset reading-definition = (needs, name-inside, name-fits, fields-short, fields-out, fields-whole)
+pub ruleset reading-definition = (needs, name-inside, name-fits, fields-failed, fields-whole)

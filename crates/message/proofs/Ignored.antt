@@ -14,12 +14,13 @@ use Rattle.session.specs.declared.Connection.{Connection}
 use Rattle.session.specs.declared.Answer.{Answer}
 use Rattle.session.specs.declared.Answer.the-variants as answer
 use Rattle.session.specs.Session.{bindingAt, isUpdated}
-use Rattle.body.specs.Fields.{Read, got, short, outside, spanIn}
+use Rattle.body.specs.declared.Failure.{Failure}
+use Rattle.body.specs.Fields.{Read, got, failed, spanIn}
 use Rattle.body.specs.Bodies.{Definition, definitionFields, switchFields, acknowledgementFields, Update, updateFields, incrementalFields}
 use Rattle.body.proofs.Behind.{definition-behind, update-behind, incremental-behind, switch-behind, acknowledgement-behind}
 use Rattle.body.proofs.Spans.{span-behind}
 use Rattle.body.proofs.Within.{definition-within, update-within, incremental-within}
-use Rattle.message.specs.Effects.{Effect, Asks, does, commits, refuse, refusal, fieldsThen, definedTable, definition, switch, acknowledgement, updatedEntry, withFields, followingId, incrementalOf, update, incremental, stickTable}
+use Rattle.message.specs.Effects.{Effect, Asks, does, commits, refuse, refusal, refuseBody, fieldsThen, definedTable, definition, switch, acknowledgement, updatedEntry, withFields, followingId, incrementalOf, update, incremental, stickTable}
 
 -- an answer that is no refusal
 abbrev pub isAccepted : Answer → Bool
@@ -52,29 +53,28 @@ module _ (c : Connection) (tables : List Table) where
   unfolding refuse
   refused-not n a = true≢false (sym a)
 
+  broken-not : (f : Failure) → Accepted (refuseBody c f) → ⊥
+  unfolding refuseBody
+  broken-not f a = refused-not _ a
+
   -- the same fields, and what they do
-  module _ {A X : Type 0} (P : X → Type 0) (refused : ℕ → X) (no : (n : ℕ) → P (refused n) → ⊥) where
+  module _ {A X : Type 0} (P : X → Type 0) (refused : Failure → X) (no : (f : Failure) → P (refused f) → ⊥) where
     fields-same : (x y : Read A) (f g : A → X) → P (fieldsThen refused x f) → ((a : A) (n : ℕ) → x ≡ got a n → (y ≡ got a n) × (g a ≡ f a))
         → fieldsThen refused y g ≡ fieldsThen refused x f
     unfolding fieldsThen
     fields-same (got a n) y f g k h = let w = h a n refl in ap (λ (r : Read A). fieldsThen refused r g) (w .0) ∙ w .1
-    fields-same short y f g k h = absurd (no 23 k)
-    fields-same outside y f g k h = absurd (no 24 k)
-
-  refusal-not : (n : ℕ) → AcceptedAsk (refusal c n) → ⊥
-  unfolding refusal
-  refusal-not = refused-not
+    fields-same (failed e) y f g k h = absurd (no e k)
 
   module _ (body more : List ℕ) where
     switch-same : Accepted (switch c body) → switch c (body ++ more) ≡ switch c body
     unfolding switch
     switch-same k =
-        fields-same Accepted (refuse c) refused-not (switchFields body) (switchFields (body ++ more)) _ _ k (λ id n e. (switch-behind body more id n e, refl))
+        fields-same Accepted (refuseBody c) broken-not (switchFields body) (switchFields (body ++ more)) _ _ k (λ id n e. (switch-behind body more id n e, refl))
 
     acknowledgement-same : Accepted (acknowledgement c body) → acknowledgement c (body ++ more) ≡ acknowledgement c body
     unfolding acknowledgement
     acknowledgement-same k =
-        fields-same Accepted (refuse c) refused-not (acknowledgementFields body) (acknowledgementFields (body ++ more)) _ _ k
+        fields-same Accepted (refuseBody c) broken-not (acknowledgementFields body) (acknowledgementFields (body ++ more)) _ _ k
         (λ a n e. (acknowledgement-behind body more a n e, refl))
 
     -- a definition that has its expiry
@@ -82,7 +82,7 @@ module _ (c : Connection) (tables : List Table) where
         → definition c tables (body ++ more) ≡ definition c tables body
     unfolding definition definedTable
     definition-same k timed =
-        fields-same Accepted (refuse c) refused-not (definitionFields body) (definitionFields (body ++ more)) _ _ k
+        fields-same Accepted (refuseBody c) broken-not (definitionFields body) (definitionFields (body ++ more)) _ _ k
         (λ d n e.
         let w = span-behind body (d .name) (definition-within body d n e .0 .nameEnd) more in
         (definition-behind body more d n (timed d n e) e, rw w refl))
@@ -92,7 +92,7 @@ module _ (c : Connection) (tables : List Table) where
         → ((u : Update) (n : ℕ) → x ≡ got u n → (y ≡ got u n) × (spanIn (body ++ more) (u .key) ≡ spanIn body (u .key)))
         → withFields c (body ++ more) table y ≡ withFields c body table x
     unfolding withFields updatedEntry
-    with-same table x y k h = fields-same AcceptedAsk (refusal c) refusal-not x y _ _ k (λ u n e. let w = h u n e in (w .0, rw (w .1) refl))
+    with-same table x y k h = fields-same AcceptedAsk (λ f. does (refuseBody c f)) broken-not x y _ _ k (λ u n e. let w = h u n e in (w .0, rw (w .1) refl))
 
     update-same : AcceptedAsk (update c tables body) → update c tables (body ++ more) ≡ update c tables body
     unfolding update

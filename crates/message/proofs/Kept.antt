@@ -18,7 +18,7 @@ use Rattle.store.specs.declared.Definition.{Definition as Rules}
 use Rattle.store.specs.declared.Table.{Table}
 use Rattle.store.specs.declared.Entry.{Entry}
 use Rattle.store.specs.declared.Store.{Store}
-use Rattle.store.specs.Limits.{keyKind, isKnown, isString, keyLengthOk, slotTypes}
+use Rattle.store.specs.Limits.{plainName, keyKind, isKnown, isString, keyLengthOk, slotTypes}
 use Rattle.store.specs.Store.{tableHeld, tableFree, entryFree, nameOf, keyOf, tableNamed, entryKeyed, findTable, findEntry, freeTable, putTable, putEntry, makeTable, makeEntry, noTable, noEntry}
 use Rattle.store.specs.declared.entries.Place.{Place}
 use Rattle.store.specs.Places.{freeOf, placeOf}
@@ -27,7 +27,7 @@ use Rattle.store.specs.Shape.{TableShape, EntryShape, StoreShape}
 use Rattle.store.proofs.Rules.{known-small, key-length-most}
 use Rattle.store.proofs.Facts.{TableFacts, EntryFacts, SoundStore}
 use Rattle.store.proofs.Kept.{table-found, table-missing, entry-missing, table-place, free-not-held, only-table, only-entry, put-table-shape, put-entry-shape, made-entry-shape, made-table-shape}
-use Rattle.store.proofs.Ruled.{Agrees, put-entry-facts, put-table-facts, made-key, made-rest, made-name}
+use Rattle.store.proofs.Ruled.{Agrees, put-entry-facts, put-table-facts, made-key, made-rest, made-name, made-plain}
 use Rattle.session.specs.declared.Connection.{Connection}
 use Rattle.session.specs.declared.Commit.{Commit}
 use Rattle.session.specs.declared.Commit.the-variants as commit
@@ -39,7 +39,9 @@ use Rattle.session_soundness.proofs.Facts.{SoundConnection, bound-to-bound}
 use Rattle.session_soundness.proofs.Keeping.{put-keeps, close-keeps, current-keeps, bind-keeps, commit-keeps}
 use Rattle.session.proofs.Bindings.{found-bound}
 use Rattle.session.proofs.Shapes.{closed-shape, current-shape, bind-shape, commit-shape}
-use Rattle.body.specs.Fields.{got, short, spanIn}
+use Rattle.body.specs.declared.Failure.{Failure}
+use Rattle.body.specs.declared.Failure.the-variants as failure
+use Rattle.body.specs.Fields.{got, spanIn}
 use Rattle.body.specs.Bodies.{Definition, definitionFields, Update}
 use Rattle.body.proofs.Spans.{span-length, span-bytes}
 use Rattle.body.proofs.Within.{definition-within, UpdateWithin}
@@ -64,10 +66,10 @@ made-mark : (name : List ℕ) (d : Rules) → makeTable name d .held ≡ 1
 unfolding makeTable
 made-mark name d = refl
 
-made-facts : (name : List ℕ) (d : Rules) → 1 ≤ length name → length name ≤ 32 → isKnown (keyKind (d .«key_type»)) ≡ true
+made-facts : (name : List ℕ) (d : Rules) → 1 ≤ length name → length name ≤ 32 → plainName name ≡ true → isKnown (keyKind (d .«key_type»)) ≡ true
     → keyLengthOk (d .«key_type») (d .«key_len») ≡ true → d .«data_types» < 2 ^ 19 → d .timed ≤ 1 → TableFacts (makeTable name d)
 unfolding makeTable
-made-facts name d a b k l e t = record { nameLeast = a; nameMost = b; known = k; keyLength = l; dataTypes = e; timed = t }
+made-facts name d a b p k l e t = record { nameLeast = a; nameMost = b; plain = made-plain name d b p; known = k; keyLength = l; dataTypes = e; timed = t }
 
 module _ (table : ℕ) (key : List ℕ) (server : ℤ) (values : List ℕ) where
   made-entry-mark : makeEntry table key server values .held ≡ 1
@@ -112,6 +114,18 @@ closing-27 = refl
 closing-29 : isClosing 29 ≡ true
 unfolding isClosing refusesOpening
 closing-29 = refl
+
+pub failure-least : (f : Failure) → 20 ≤ Effects.failureNumber f
+unfolding Effects.failureNumber
+failure-least failure.Short = omega arith
+failure-least failure.OutOfRange = omega arith
+failure-least failure.NotPlain = omega arith
+
+pub failure-most : (f : Failure) → Effects.failureNumber f ≤ 30
+unfolding Effects.failureNumber
+failure-most failure.Short = omega arith
+failure-most failure.OutOfRange = omega arith
+failure-most failure.NotPlain = omega arith
 
 -- record and store together, sound and of their types' shape
 pub record Held (c : Connection) (s : Store) : Type 0 where
@@ -251,7 +265,7 @@ module _ (c : Connection) (s : Store) (h : Held c s) where
       } in
       let l = key-length-most (d .keyType) (d .keyLength) (w .keyLength) in
       define-kept name (d .id) (makeTable name r) (w .id) (made-mark name r)
-      (made-facts name r (omega (arith, n, w .nameLeast)) (omega (arith, n, w .nameMost)) (w .keyType) (w .keyLength) (w .dataTypes) (w .timed))
+      (made-facts name r (omega (arith, n, w .nameLeast)) (omega (arith, n, w .nameMost)) (w .plain) (w .keyType) (w .keyLength) (w .dataTypes) (w .timed))
       (made-table-shape name r (omega (arith, n, w .nameMost)) (span-bytes body (d .name) (w .nameEnd) bytes .byte)
       (record {
         keyType = omega (arith, known-small (d .keyType) (w .keyType));

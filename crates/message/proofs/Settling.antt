@@ -3,13 +3,9 @@ use Prim.Native.Nat.{ℕ}
 use mathlib.Core.Path.{_≡_, ap, _∙_}
 use mathlib.Core.List.{List, []}
 use mathlib.Core.Bool.{true, false}
-use mir.Val.{Fits}
-use mir.Syntax.{w32}
 use borrow.Author.Needs.{needs}
 use Rattle.lists.specs.declared.Found.{Found}
 use Rattle.lists.specs.declared.Found.the-variants as found
-use Rattle.wire.specs.declared.values.Field.{Field}
-use Rattle.wire.specs.declared.values.Field.the-variants as field
 use Rattle.store.specs.declared.Table.{Table}
 use Rattle.store.specs.declared.Entry.{Entry}
 use Rattle.store.specs.Store.{noTable, noEntry}
@@ -19,17 +15,20 @@ use Rattle.session.specs.declared.Answer.{Answer}
 use Rattle.session.specs.declared.Answer.the-variants as answer
 use Rattle.session.specs.Answers.{refusalReply, replyOf}
 use Rattle.session.specs.Session.{closedWith, makeCurrent, findBound}
+use Rattle.body.specs.declared.Failure.{Failure}
+use Rattle.body.specs.declared.Failure.the-variants as failure
+use Rattle.body.specs.declared.Word.{Word}
+use Rattle.body.specs.declared.Word.the-variants as word
 use Rattle.body.specs.declared.AcknowledgementBody.{AcknowledgementBody}
 use Rattle.body.specs.declared.AcknowledgementBody.the-variants as acked
 use Rattle.body.specs.Bodies.{switchFields, acknowledgementFields}
-use Rattle.body.specs.Results.{switchBody, acknowledgementBody}
-use Rattle.body.proofs.Within.{switch-within}
-use Rattle.body.proofs.Given.{switch-id, switch-short, switch-out, acknowledgement-fields, acknowledgement-short, acknowledgement-out}
+use Rattle.body.specs.Results.{wordRead, acknowledgementRead}
+use Rattle.body.proofs.Given.{switch-id, switch-failed, acknowledgement-fields, acknowledgement-failed}
 use Rattle.message.specs.declared.Change.{Change}
 use Rattle.message.specs.declared.Effect.{Effect as EffectStruct}
 use Rattle.message.specs.declared.Asked.{Asked}
 use Rattle.message.specs.Changes.{noChange, tableChange, entryChange}
-use Rattle.message.specs.Effects.{note, refuse, refusal, fieldsThen, controlAnswer, controlReply, control, peerError, switchTo, switch, acknowledgement, skipped}
+use Rattle.message.specs.Effects.{note, refuse, refusal, failureNumber, refuseBody, fieldsThen, controlAnswer, controlReply, control, peerError, switchTo, switch, acknowledgement, skipped}
 use Rattle.message.specs.Structs.{effectStruct, asksNothing, asksCommit, asked}
 
 abbrev pub struct : Answer → Reply → Connection → Change → EffectStruct
@@ -91,7 +90,23 @@ module _ (c : Connection) (r : Reply) (d : Change) (z : d ≡ noChange) where
   unfolding effectStruct skipped note
   skips kind q = rw (q, z)
 
-pub ruleset settling = (needs, refuses, controls, errs, skips)
+pub number-short : (f : Failure) → f ≡ failure.Short → 23 ≡ failureNumber f
+unfolding failureNumber
+number-short f e = rw e
+
+pub number-outside : (f : Failure) → f ≡ failure.OutOfRange → 24 ≡ failureNumber f
+unfolding failureNumber
+number-outside f e = rw e
+
+pub number-unplain : (f : Failure) → f ≡ failure.NotPlain → 30 ≡ failureNumber f
+unfolding failureNumber
+number-unplain f e = rw e
+
+pub body-refused : (c : Connection) (f : Failure) (n : ℕ) (x : EffectStruct) → n ≡ failureNumber f → x ≡ effectStruct (refuse c n) → x ≡ effectStruct (refuseBody c f)
+unfolding refuseBody
+body-refused c f n x p q = q ∙ ap (λ (k : ℕ). effectStruct (refuse c k)) p
+
+pub ruleset settling = (needs, refuses, controls, errs, skips, number-short, number-outside, number-unplain, body-refused)
 
 -- ---- switch, where f is the place that was found
 module _ (c : Connection) (id : ℕ) (f : Found) (p : f ≡ findBound c id) where
@@ -105,38 +120,26 @@ module _ (c : Connection) (id : ℕ) (f : Found) (p : f ≡ findBound c id) wher
   not-bound x e q = rw (← p, e) q
 
 -- and where r is what was read of the body
-module _ (body : List ℕ) (r : Field) (p : r ≡ switchBody (switchFields body)) where
-  pub id-fits : (id next : ℕ) → r ≡ field.Value id next → Fits w32 id
-  id-fits id next e = record { fits = switch-within body id next (switch-id (switchFields body) r p id next e) .0 }
+module _ (body : List ℕ) (r : Word) (p : wordRead r ≡ switchFields body) (c : Connection) (x : EffectStruct) where
+  pub id-read : (id next : ℕ) → r ≡ word.Value id next → x ≡ effectStruct (switchTo c (findBound c id)) → x ≡ effectStruct (switch c body)
+  unfolding switch fieldsThen
+  id-read id next e q = rw (switch-id (switchFields body) r p id next e) q
 
-  module _ (c : Connection) (x : EffectStruct) where
-    pub id-read : (id next : ℕ) → r ≡ field.Value id next → x ≡ effectStruct (switchTo c (findBound c id)) → x ≡ effectStruct (switch c body)
-    unfolding switch fieldsThen
-    id-read id next e q = rw (switch-id (switchFields body) r p id next e) q
+  pub id-failed : (f : Failure) → r ≡ word.Failed f → x ≡ effectStruct (refuseBody c f) → x ≡ effectStruct (switch c body)
+  unfolding switch fieldsThen
+  id-failed f e q = rw (switch-failed (switchFields body) r p f e) q
 
-    pub id-short : r ≡ field.Short → x ≡ effectStruct (refuse c 23) → x ≡ effectStruct (switch c body)
-    unfolding switch fieldsThen
-    id-short e q = rw (switch-short (switchFields body) r p e) q
-
-    pub id-out : r ≡ field.OutOfRange → x ≡ effectStruct (refuse c 24) → x ≡ effectStruct (switch c body)
-    unfolding switch fieldsThen
-    id-out e q = rw (switch-out (switchFields body) r p e) q
-
-pub ruleset switching = (needs, switches, not-bound, id-fits, id-read, id-short, id-out)
+pub ruleset switching = (needs, switches, not-bound, id-read, id-failed)
 
 -- ---- acknowledgement, where r is what was read of the body
-module _ (body : List ℕ) (r : AcknowledgementBody) (p : r ≡ acknowledgementBody (acknowledgementFields body)) (c : Connection) where
+module _ (body : List ℕ) (r : AcknowledgementBody) (p : acknowledgementRead r ≡ acknowledgementFields body) (c : Connection) where
   pub ids-read : (id update next : ℕ) (k : Reply) (d : Change) → r ≡ acked.Fields id update next → k ≡ replyOf [] → d ≡ noChange
       → struct (answer.Acknowledgement id update) k c d ≡ effectStruct (acknowledgement c body)
   unfolding effectStruct acknowledgement fieldsThen note
   ids-read id update next k d e q z = rw (acknowledgement-fields (acknowledgementFields body) r p id update next e, q, z)
 
-  pub ids-short : (x : EffectStruct) → r ≡ acked.Short → x ≡ effectStruct (refuse c 23) → x ≡ effectStruct (acknowledgement c body)
+  pub ids-failed : (x : EffectStruct) (f : Failure) → r ≡ acked.Failed f → x ≡ effectStruct (refuseBody c f) → x ≡ effectStruct (acknowledgement c body)
   unfolding acknowledgement fieldsThen
-  ids-short x e q = rw (acknowledgement-short (acknowledgementFields body) r p e) q
+  ids-failed x f e q = rw (acknowledgement-failed (acknowledgementFields body) r p f e) q
 
-  pub ids-out : (x : EffectStruct) → r ≡ acked.OutOfRange → x ≡ effectStruct (refuse c 24) → x ≡ effectStruct (acknowledgement c body)
-  unfolding acknowledgement fieldsThen
-  ids-out x e q = rw (acknowledgement-out (acknowledgementFields body) r p e) q
-
-pub ruleset noting = (needs, ids-read, ids-short, ids-out)
+pub ruleset noting = (needs, ids-read, ids-failed)

@@ -15,7 +15,7 @@ use Rattle.session.specs.declared.Binding.{Binding}
 use Rattle.session.specs.declared.Connection.{Connection}
 use Rattle.session.specs.Session.{noBinding, bindingAt, isUpdated}
 use Rattle.body.specs.declared.update.UpdateBody.{UpdateBody}
-use Rattle.body.specs.Fields.{Read, got, short, outside}
+use Rattle.body.specs.Fields.{Read, got, failed}
 use Rattle.body.specs.Bodies.{Update, updateFields, incrementalFields}
 use Rattle.body.specs.Results.{updateBody, updateStruct}
 use Rattle.body.proofs.Within.{update-within, incremental-within}
@@ -30,8 +30,7 @@ key-inside : (body : List ℕ) (x : Read Update) → ((u : Update) (next : ℕ) 
     → (r : UpdateBody) → r ≡ updateBody x → r .«key_at» + r .«key_len» ≤ length body
 unfolding updateBody updateStruct
 key-inside body (got u next) f r p = rw p (f u next refl)
-key-inside body short f r p = rw p (omega arith)
-key-inside body outside f r p = rw p (omega arith)
+key-inside body (failed g) f r p = rw p (omega arith)
 
 pub update-inside : (t : Table) (body : List ℕ) (r : UpdateBody) → r ≡ updateBody (updateFields t body) → r .«key_at» + r .«key_len» ≤ length body
 update-inside t body = key-inside body (updateFields t body) (λ u next e. update-within t body u next e .0 .keyEnd)

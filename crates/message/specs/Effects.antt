@@ -21,7 +21,9 @@ use Rattle.session.specs.declared.Answer.{Answer}
 use Rattle.session.specs.declared.Answer.the-variants as answer
 use Rattle.session.specs.Answers.{refusalReply}
 use Rattle.session.specs.Session.{closedWith, makeCurrent, bind, committed, findBound, bindingAt, isUpdated}
-use Rattle.body.specs.Fields.{Read, got, short, outside, spanIn}
+use Rattle.body.specs.declared.Failure.{Failure}
+use Rattle.body.specs.declared.Failure.the-variants as failure
+use Rattle.body.specs.Fields.{Read, got, failed, spanIn}
 use Rattle.body.specs.Bodies.{Definition, definitionFields, switchFields, acknowledgementFields, Update, updateFields, incrementalFields}
 use Rattle.message.specs.declared.Change.{Change}
 use Rattle.message.specs.Changes.{noChange, tableChange, entryChange}
@@ -48,13 +50,21 @@ refuse c n = record { answer = answer.Refused n; reply = refusalReply n; connect
 unfoldable pub note : Connection → Answer → List ℕ → Effect
 note c a reply = record { answer = a; reply = reply; connection = c; change = noChange }
 
--- fields, then what the message does; "Bytes after the known fields are ignored.", "23 | body ends before a field is whole", "24 | field
--- overflows or is out of range"
+-- "23 | body ends before a field is whole", "24 | field overflows or is out of range"; request 8: "30, .. after the name is whole"
+unfoldable pub failureNumber : Failure → ℕ
+failureNumber failure.Short = 23
+failureNumber failure.OutOfRange = 24
+failureNumber failure.NotPlain = 30
+
+-- a message whose body can't be read
+unfoldable pub refuseBody : Connection → Failure → Effect
+refuseBody c f = refuse c (failureNumber f)
+
+-- fields, then what the message does; "Bytes after the known fields are ignored."
 module _ {A X : Type 0} where
-  unfoldable pub fieldsThen : (ℕ → X) → Read A → (A → X) → X
-  fieldsThen refused (got a at) f = f a
-  fieldsThen refused short f = refused 23
-  fieldsThen refused outside f = refused 24
+  unfoldable pub fieldsThen : (Failure → X) → Read A → (A → X) → X
+  fieldsThen refused (got a at) whole = whole a
+  fieldsThen refused (failed f) whole = refused f
 
 -- ---- control and error messages
 
@@ -115,7 +125,7 @@ defineNamed c tables id t found.Nothing = defineNew c id t (firstPlace tableFree
 -- "In a definition fields come first, then 25, then 26"
 unfoldable pub definition : Connection → List Table → List ℕ → Effect
 definition c tables body =
-    fieldsThen (refuse c) (definitionFields body) λ d.
+    fieldsThen (refuseBody c) (definitionFields body) λ d.
     defineNamed c tables (d .id) (definedTable body d) (firstPlace (tableNamed (spanIn body (d .name))) tables)
 
 -- ---- switch
@@ -127,12 +137,12 @@ switchTo c found.Nothing = refuse c 27
 
 -- "in a switch fields, then 27"
 unfoldable pub switch : Connection → List ℕ → Effect
-switch c body = fieldsThen (refuse c) (switchFields body) λ id. switchTo c (findBound c id)
+switch c body = fieldsThen (refuseBody c) (switchFields body) λ id. switchTo c (findBound c id)
 
 -- ---- acknowledgement and other types
 
 unfoldable pub acknowledgement : Connection → List ℕ → Effect
-acknowledgement c body = fieldsThen (refuse c) (acknowledgementFields body) λ a. note c (answer.Acknowledgement (a .id) (a .update)) []
+acknowledgement c body = fieldsThen (refuseBody c) (acknowledgementFields body) λ a. note c (answer.Acknowledgement (a .id) (a .update)) []
 
 -- "Other types from 128 are skipped by length."
 unfoldable pub skipped : Connection → ℕ → Effect
@@ -149,7 +159,7 @@ refusal c n = does (refuse c n)
 
 -- fields, then the entry that they make is to be committed
 unfoldable pub withFields : Connection → List ℕ → ℕ → Read Update → Asks
-withFields c body table fields = fieldsThen (refusal c) fields λ u. commits (u .id) (updatedEntry body table u)
+withFields c body table fields = fieldsThen (λ f. does (refuseBody c f)) fields λ u. commits (u .id) (updatedEntry body table u)
 
 -- "the table's previous ID plus one, and 4294967295 is followed by 0"
 unfoldable pub followingId : ℕ → ℕ

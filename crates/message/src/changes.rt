@@ -1,7 +1,7 @@
 // What a message puts into the store, what it asks before the entries are looked at, and refusals.
 ghost use mathlib.Core.Path.{_≡_};
 ghost use Rattle.message.specs.Changes.{noChange, tableChange, entryChange};
-ghost use Rattle.message.specs.Effects.{refuse, refusal};
+ghost use Rattle.message.specs.Effects.{refuse, refusal, failureNumber, refuseBody};
 ghost use Rattle.message.specs.Structs.{effectStruct, asksNothing, asksCommit, asked};
 use crate::Asked;
 use crate::Change;
@@ -9,6 +9,7 @@ use crate::Effect;
 use crate::PUTS_ENTRY;
 use crate::PUTS_NOTHING;
 use crate::PUTS_TABLE;
+use body::Failure;
 use session::Answer;
 use session::Connection;
 use session::reply_bytes::no_reply;
@@ -105,7 +106,26 @@ pub fn refuse(connection: Connection, number: u8) -> Effect
     }
 }
 
-// The same, asked before the entries are looked at.
+// The number of a failure.
+fn failure_number(failure: Failure) -> u8
+    ensures { λ r. ⌜ r ≡ failureNumber failure ⌝ }
+{
+    match failure {
+        Failure::Short => 23,
+        Failure::OutOfRange => 24,
+        Failure::NotPlain => 30,
+    }
+}
+
+// A message whose body can't be read.
+pub fn refuse_body(connection: Connection, failure: Failure) -> Effect
+    ensures { λ r. ⌜ r ≡ effectStruct (refuseBody connection failure) ⌝ }
+{
+    let number = failure_number(failure);
+    refuse(connection, number)
+}
+
+// A refusal, asked before the entries are looked at.
 pub fn ask_refusal(connection: Connection, number: u8) -> Asked
     ensures { λ r. ⌜ r ≡ asked connection (refusal connection number) ⌝ }
 {

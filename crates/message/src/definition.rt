@@ -1,6 +1,7 @@
 // What a definition does to session and store.
 use crate::Effect;
 use crate::changes::refuse;
+use crate::changes::refuse_body;
 use body::Reading;
 use lists::Found;
 use session::Answer;
@@ -97,7 +98,6 @@ pub fn definition(connection: Connection, tables: [Table; TABLES], body: &[u8]) 
             let table = store::make_table(name, described);
             define_named(connection, tables, d.id, table, name)
         }
-        Reading::Short => refuse(connection, 23),
-        Reading::OutOfRange => refuse(connection, 24),
+        Reading::Failed(failure) => refuse_body(connection, failure),
     }
 }

@@ -4,18 +4,19 @@ use crate::Effect;
 use crate::changes::ask_nothing;
 use crate::changes::no_change;
 use crate::changes::refuse;
+use crate::changes::refuse_body;
 use crate::control::skipped;
 use crate::definition::definition;
 use crate::update::incremental;
 use crate::update::update;
 use body::AcknowledgementBody;
+use body::Word;
 use lists::Found;
 use session::Answer;
 use session::Connection;
 use session::reply_bytes::no_reply;
 use store::TABLES;
 use store::Table;
-use wire::values::Field;
 ghost use mathlib.Core.Path.{_≡_};
 ghost use Rattle.session.specs.Session.{findBound};
 ghost use Rattle.message.specs.Effects.{switchTo, switch, acknowledgement, stickTable};
@@ -45,9 +46,8 @@ pub fn switch(connection: Connection, body: &[u8]) -> Effect
     ensures { λ r. ⌜ r ≡ effectStruct (switch connection (now (body .entry))) ⌝ }
 {
     match body::read_switch(body) {
-        Field::Value { value, next: _ } => switch_to(connection, value as u32),
-        Field::Short => refuse(connection, 23),
-        Field::OutOfRange => refuse(connection, 24),
+        Word::Value { value, next: _ } => switch_to(connection, value),
+        Word::Failed(failure) => refuse_body(connection, failure),
     }
 }
 
@@ -70,8 +70,7 @@ pub fn acknowledgement(connection: Connection, body: &[u8]) -> Effect
                 change,
             }
         }
-        AcknowledgementBody::Short => refuse(connection, 23),
-        AcknowledgementBody::OutOfRange => refuse(connection, 24),
+        AcknowledgementBody::Failed(failure) => refuse_body(connection, failure),
     }
 }
 

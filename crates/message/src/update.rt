@@ -2,7 +2,9 @@
 use crate::Asked;
 use crate::binding_at;
 use crate::changes::ask_commit;
+use crate::changes::ask_nothing;
 use crate::changes::ask_refusal;
+use crate::changes::refuse_body;
 use body::Reading;
 use body::update::UpdateBody;
 use session::Connection;
@@ -30,8 +32,7 @@ fn with_fields(connection: Connection, body: &[u8], table: usize, fields: Update
             let entry = store::make_entry(table, key, fields.server_id, values);
             ask_commit(connection, fields.id, entry)
         }
-        Reading::Short => ask_refusal(connection, 23),
-        Reading::OutOfRange => ask_refusal(connection, 24),
+        Reading::Failed(failure) => ask_nothing(refuse_body(connection, failure)),
     }
 }
 

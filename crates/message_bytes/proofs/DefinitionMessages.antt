@@ -23,7 +23,7 @@ use Rattle.session.specs.declared.Answer.{Answer}
 use Rattle.session.specs.declared.Answer.the-variants as answer
 use Rattle.session.specs.Session.{bindingAt, bind, bindTo, holding, isBound}
 use Rattle.session.proofs.Bindings.{bound-here}
-use Rattle.body.specs.Fields.{got, short, spanIn}
+use Rattle.body.specs.Fields.{got, spanIn}
 use Rattle.body.specs.Bodies.{Definition, definitionFields}
 use Rattle.body.proofs.Spans.{span-length}
 use Rattle.body.proofs.Within.{definition-within}

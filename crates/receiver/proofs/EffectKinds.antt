@@ -34,10 +34,12 @@ use Rattle.session.specs.declared.Commit.the-variants as commit
 use Rattle.session.specs.declared.Answer.{Answer}
 use Rattle.session.specs.declared.Answer.the-variants as answer
 use Rattle.session.specs.Session.{localName, remoteName, bindingAt, isUpdated}
-use Rattle.body.specs.Fields.{Read, got, short, outside, spanIn}
+use Rattle.body.specs.declared.Failure.{Failure}
+use Rattle.body.specs.Fields.{Read, got, failed, spanIn}
 use Rattle.body.specs.Bodies.{Definition, Update, definitionFields, updateFields, incrementalFields}
 use Rattle.message.specs.Targets.{keyedAs, goesTo}
-use Rattle.message.specs.Effects.{Effect, refuse, refusal, note, fieldsThen, control, controlAnswer, peerError, definedTable, defineAt, defineNew, defineNamed, agrees, definition, switchTo, switch, acknowledgement, skipped, updatedEntry, commitAt, commitEntry, withFields, followingId, incrementalOf, update, incremental, stickTable, done}
+use Rattle.message.proofs.Kept.{failure-least, failure-most}
+use Rattle.message.specs.Effects.{Effect, refuse, refusal, failureNumber, refuseBody, note, fieldsThen, control, controlAnswer, peerError, definedTable, defineAt, defineNew, defineNamed, agrees, definition, switchTo, switch, acknowledgement, skipped, updatedEntry, commitAt, commitEntry, withFields, followingId, incrementalOf, update, incremental, stickTable, done}
 use Rattle.reassembly.specs.Judge.{Judged, waiting, settled, helloJudged, statusJudged, frameJudged, asksNone, judgeBytes, doneOf, judge}
 use Rattle.receiver.specs.Corollaries.{closes, fieldsOf}
 
@@ -89,7 +91,7 @@ pub record Defining (c : Connection) (t : Store) (u : List ℕ) (fields : Defini
 pub data Kind (c : Connection) (t : Store) (u : List ℕ) : Effect → Type 0 where
   refused : (n : ℕ) → closes n ≡ true → Kind c t u (refuse c n)
   noted : (d : Connection) (a : Answer) (reply : List ℕ) → Noted a → Kind c t u (note d a reply)
-  failed : (type : ℕ) → Kind c t u (peerError c type)
+  errored : (type : ℕ) → Kind c t u (peerError c type)
   defined : (fields : Definition) (body : List ℕ) (place : ℕ) → Defining c t u fields body place
       → Kind c t u (defineAt c (fields .id) (definedTable body fields) place)
   committed : (fields : Update) (body : List ℕ) (place : ℕ) (how : Commit) → Committing c t u fields body place
@@ -101,21 +103,24 @@ closes-low : (n : ℕ) → 10 ≤ n → n ≤ 15 → closes n ≡ true
 unfolding closes
 closes-low n a b = rw (le-leb 10 n a, le-leb n 15 b)
 
-closes-high : (n : ℕ) → 20 ≤ n → n ≤ 29 → closes n ≡ true
+closes-high : (n : ℕ) → 20 ≤ n → n ≤ 30 → closes n ≡ true
 unfolding closes
-closes-high n a b = rw (le-leb 10 n (let z : 10 ≤ n = omega arith in z), lt-leb n 15 (let z : 15 < n = omega arith in z), le-leb 20 n a, le-leb n 29 b)
+closes-high n a b = rw (le-leb 10 n (let z : 10 ≤ n = omega arith in z), lt-leb n 15 (let z : 15 < n = omega arith in z), le-leb 20 n a, le-leb n 30 b)
 
 -- ---- messages of class 10
 
 module _ (c : Connection) (t : Store) (u : List ℕ) where
-  refused-with : (n : ℕ) → 20 ≤ n → n ≤ 29 → Kind c t u (refuse c n)
+  refused-with : (n : ℕ) → 20 ≤ n → n ≤ 30 → Kind c t u (refuse c n)
   refused-with n a b = refused n (closes-high n a b)
 
-  fields-kind : {A : Type 0} (r : Read A) (f : A → Effect) → ((a : A) → Kind c t u (f a)) → Kind c t u (fieldsThen (refuse c) r f)
+  body-kind : (f : Failure) → Kind c t u (refuseBody c f)
+  unfolding refuseBody
+  body-kind f = refused-with (failureNumber f) (failure-least f) (failure-most f)
+
+  fields-kind : {A : Type 0} (r : Read A) (f : A → Effect) → ((a : A) → Kind c t u (f a)) → Kind c t u (fieldsThen (refuseBody c) r f)
   unfolding fieldsThen
   fields-kind (got a n) f g = g a
-  fields-kind short f g = refused-with 23 (omega arith) (omega arith)
-  fields-kind outside f g = refused-with 24 (omega arith) (omega arith)
+  fields-kind (failed e) f g = body-kind e
 
   switch-kind : (f : Found) → Kind c t u (switchTo c f)
   unfolding switchTo
@@ -148,11 +153,10 @@ module _ (c : Connection) (t : Store) (u : List ℕ) where
       named-kind name found.Nothing q = new-kind (firstPlace tableFree (t .tables)) refl
 
     definition-kind : kind ≡ 130 → (r : Read Definition) → definitionFields body ≡ r
-        → Kind c t u (fieldsThen (refuse c) r λ d. defineNamed c (t .tables) (d .id) (definedTable body d) (firstPlace (tableNamed (spanIn body (d .name))) (t .tables)))
+        → Kind c t u (fieldsThen (refuseBody c) r λ d. defineNamed c (t .tables) (d .id) (definedTable body d) (firstPlace (tableNamed (spanIn body (d .name))) (t .tables)))
     unfolding fieldsThen
     definition-kind k (got d after) r = named-kind k d after r (spanIn body (d .name)) _ refl
-    definition-kind k short r = refused-with 23 (omega arith) (omega arith)
-    definition-kind k outside r = refused-with 24 (omega arith) (omega arith)
+    definition-kind k (failed f) r = body-kind f
 
     abbrev now : ℕ
     now = c .current - 1
@@ -176,8 +180,7 @@ module _ (c : Connection) (t : Store) (u : List ℕ) where
       with-kind : (r : Read Update) → fieldsOf c t now kind body ≡ r → Kind c t u (done c (t .entries) (withFields c body now r))
       unfolding withFields fieldsThen refusal done goesTo
       with-kind (got f after) q = commit-entry-kind f after _ _ q refl refl
-      with-kind short q = refused-with 23 (omega arith) (omega arith)
-      with-kind outside q = refused-with 24 (omega arith) (omega arith)
+      with-kind (failed f) q = body-kind f
 
     update-kind : eqb kind 128 ≡ true → Kind c t u (done c (t .entries) (update c (t .tables) body))
     unfolding update refusal done
@@ -253,7 +256,7 @@ module _ (c : Connection) (t : Store) (u : List ℕ) where
   unfolding doneOf frameJudged done refusal
   frame-kind frame.Waiting e = tt
   frame-kind (frame.Control type) e = unfold control in noted c (controlAnswer type) _ (control-noted type)
-  frame-kind (frame.Error type) e = failed type
+  frame-kind (frame.Error type) e = errored type
   frame-kind (frame.Body kind start end) e = stick-kind c t u kind start end e
   frame-kind (frame.Refused n) e = let k = refused-number u n e in refused n (closes-high n (k .0) (omega (arith, k .1)))
 

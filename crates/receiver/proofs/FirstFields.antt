@@ -21,7 +21,7 @@ use Rattle.frame.specs.declared.Header.the-variants as header
 use Rattle.frame.specs.declared.Frame.{Frame}
 use Rattle.frame.specs.declared.Frame.the-variants as frame
 use Rattle.frame.specs.Frame.{headerOf, withLength, withHeader, judgeFrame}
-use Rattle.body.specs.Fields.{Read, got, short, outside, andThen, tested, integer, integerOf, numberRead, number4}
+use Rattle.body.specs.Fields.{Read, got, failed, outside, andThen, tested, integer, integerOf, numberRead, number4}
 use Rattle.body.specs.Bodies.{Named, namedFields, shapeFields, timesFields, Definition, restFields, definitionFields, switchFields, Update, updateFields}
 use Rattle.body.proofs.Holds.{held}
 use Rattle.body.proofs.Taken.{Taken}
@@ -100,8 +100,7 @@ then-got : {A B : Type 0} (x : Read A) (f : A → ℕ → Read B) (b : B) (n : �
     → (a : A) × (k : ℕ) × (x ≡ got a k) × (f a k ≡ got b n)
 unfolding andThen
 then-got (got a k) f b n e = (a, k, refl, e)
-then-got short f b n e = absurd (let z : _≡_ {A = ℕ} 0 1 = cc in omega arith)
-then-got outside f b n e = absurd (let z : _≡_ {A = ℕ} 0 1 = cc in omega arith)
+then-got (failed g) f b n e = absurd (let z : _≡_ {A = ℕ} 0 1 = cc in omega arith)
 
 tested-got : (ok : ℕ → Bool) (r : Int) (v n : ℕ) → tested ok r ≡ got v n → r ≡ int.Value v n
 unfolding tested
@@ -123,8 +122,7 @@ named-id body m k e =
   where
     readNamed : ℕ → Read Named → ℕ
     readNamed d (got x y) = x .id
-    readNamed d short = d
-    readNamed d outside = d
+    readNamed d (failed g) = d
 
 defined-id : (m : Named) (body : List ℕ) (at : ℕ) (d : Definition) (next : ℕ) → restFields m body at ≡ got d next → d .id ≡ m .id
 unfolding restFields
@@ -135,8 +133,7 @@ defined-id m body at d next e =
   where
     readId : ℕ → Read Definition → ℕ
     readId x (got y k) = y .id
-    readId x short = x
-    readId x outside = x
+    readId x (failed g) = x
 
 -- the ID of a definition is the integer that its body begins with
 pub definition-id : (u : List ℕ) (kind start end : ℕ) (d : Definition) (next : ℕ) → judgeFrame u ≡ frame.Body kind start end → start ≤ length u

@@ -43,13 +43,14 @@ use Rattle.session_soundness.specs.Sound.{isClosing, refusesOpening}
 use Rattle.session.proofs.Bindings.{found-bound, committed-previous}
 use Rattle.session_soundness.proofs.Keeping.{establish-keeps}
 use Rattle.session.proofs.Shapes.{establish-shape}
-use Rattle.body.specs.Fields.{Read, got, short, outside, spanIn}
+use Rattle.body.specs.declared.Failure.{Failure}
+use Rattle.body.specs.Fields.{Read, got, failed, spanIn}
 use Rattle.body.specs.Bodies.{definitionFields, switchFields, acknowledgementFields, Update, updateFields, incrementalFields}
 use Rattle.body.proofs.Within.{UpdateWithin, update-within, update-id, incremental-within}
 use Rattle.message.specs.Targets.{goesTo}
-use Rattle.message.specs.Effects.{Effect, refuse, refusal, note, fieldsThen, control, controlAnswer, controlReply, peerError, defineAt, defineNew, defineNamed, agrees, definition, switchTo, switch, acknowledgement, skipped, commitAt, commitEntry, withFields, followingId, incrementalOf, update, incremental, definedTable, updatedEntry, stickTable, done}
+use Rattle.message.specs.Effects.{Effect, refuse, refusal, failureNumber, refuseBody, note, fieldsThen, control, controlAnswer, controlReply, peerError, defineAt, defineNew, defineNamed, agrees, definition, switchTo, switch, acknowledgement, skipped, commitAt, commitEntry, withFields, followingId, incrementalOf, update, incremental, definedTable, updatedEntry, stickTable, done}
 use Rattle.message.proofs.Acknowledging.{acknowledge-short}
-use Rattle.message.proofs.Kept.{Held, Kept, stays-kept, refuse-kept, error-kept, note-kept, switch-kept, definition-kept, update-kept}
+use Rattle.message.proofs.Kept.{Held, Kept, failure-least, failure-most, stays-kept, refuse-kept, error-kept, note-kept, switch-kept, definition-kept, update-kept}
 use Rattle.receiver.specs.Ledger.{Ledger, tableId, updateId, at, kindOf, nextId, explicitId}
 use Rattle.reassembly.specs.Judge.{Judged, waiting, settled, helloJudged, statusJudged, frameJudged, asksNone, judgeBytes, doneOf, judge}
 use Rattle.receiver.proofs.Following.{Follows, Follow, refusal-none, current-some, last-some, refuse-follow, hello-follow, status-follow, error-follow, control-follow, skipped-follow, acknowledgement-follow, switch-follow, define-follow, commit-follow}
@@ -70,10 +71,10 @@ unfolding isClosing refusesOpening
 closing-hello n a b =
     rw (ne-eqb n 0 (λ e. let z : ⊥ = omega arith in z), ne-eqb n 1 (λ e. let z : ⊥ = omega arith in z), ne-eqb n 3 (λ e. let z : ⊥ = omega arith in z), closing-from n 10 15 a b) refl
 
-closing-message : (n : ℕ) → 20 ≤ n → n ≤ 29 → isClosing n ≡ true
+closing-message : (n : ℕ) → 20 ≤ n → n ≤ 30 → isClosing n ≡ true
 unfolding isClosing refusesOpening
 closing-message n a b =
-    rw (ne-eqb n 0 (λ e. let z : ⊥ = omega arith in z), ne-eqb n 1 (λ e. let z : ⊥ = omega arith in z), ne-eqb n 3 (λ e. let z : ⊥ = omega arith in z), lt-leb n 15 (let z : 15 < n = omega arith in z), closing-from n 20 29 a b, le-leb 10 n (let z : 10 ≤ n = omega arith in z)) refl
+    rw (ne-eqb n 0 (λ e. let z : ⊥ = omega arith in z), ne-eqb n 1 (λ e. let z : ⊥ = omega arith in z), ne-eqb n 3 (λ e. let z : ⊥ = omega arith in z), lt-leb n 15 (let z : 15 < n = omega arith in z), closing-from n 20 30 a b, le-leb 10 n (let z : 10 ≤ n = omega arith in z)) refl
 
 -- ---- control messages
 
@@ -152,18 +153,21 @@ module _ (c : Connection) (s : Store) (h : Held c s) (m : List ℕ) where
 -- ---- messages of class 10
 
 module _ (c : Connection) (s : Store) (h : Held c s) (m : List ℕ) where
-  message-refused : (n : ℕ) → 20 ≤ n → n ≤ 29 → Right c s m (refuse c n)
+  message-refused : (n : ℕ) → 20 ≤ n → n ≤ 30 → Right c s m (refuse c n)
   message-refused n a b = refuse-right c s h m n (omega arith) (omega arith) (closing-message n a b)
+
+  body-refused : (f : Failure) → Right c s m (refuseBody c f)
+  unfolding refuseBody
+  body-refused f = message-refused (failureNumber f) (failure-least f) (failure-most f)
 
   noted : (a : Answer) → Follow c m (note c a []) → Right c s m (note c a [])
   noted a f = record { short = unfold note in omega arith; kept = note-kept c s h a []; follow = f }
 
   -- fields, then what the message does
-  fields-right : {A : Type 0} (r : Read A) (f : A → Effect) → ((a : A) (n : ℕ) → r ≡ got a n → Right c s m (f a)) → Right c s m (fieldsThen (refuse c) r f)
+  fields-right : {A : Type 0} (r : Read A) (f : A → Effect) → ((a : A) (n : ℕ) → r ≡ got a n → Right c s m (f a)) → Right c s m (fieldsThen (refuseBody c) r f)
   unfolding fieldsThen
   fields-right (got a n) f g = g a n refl
-  fields-right short f g = message-refused 23 (omega arith) (omega arith)
-  fields-right outside f g = message-refused 24 (omega arith) (omega arith)
+  fields-right (failed e) f g = body-refused e
 
   acknowledgement-right : (body : List ℕ) → Right c s m (acknowledgement c body)
   unfolding acknowledgement
@@ -296,8 +300,7 @@ module _ (c : Connection) (s : Store) (h : Held c s) (m : List ℕ) (mb : Bytes 
       let w = facts u n refl in
       commit-right c s h m (u .id) (w .2) (updatedEntry body table u) (made-now table u now) (goesTo (s .entries) (updatedEntry body table u))
       (update-kept c s h body table u body-bytes now (w .0) (w .1))
-  with-right table short now facts = message-refused c s h m 23 (omega arith) (omega arith)
-  with-right table outside now facts = message-refused c s h m 24 (omega arith) (omega arith)
+  with-right table (failed e) now facts = body-refused c s h m e
 
   current-is : eqb (c .current) 0 ≡ false → c .current ≡ c .current - 1 + 1
   current-is z = let q = eqb-false (c .current) 0 z in current-positive (c .current) q

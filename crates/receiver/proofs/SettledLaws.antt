@@ -70,7 +70,7 @@ module _ (c : Connection) (t : Store) (u : List ℕ) where
   kind-ends : (e : Effect) → Kind c t u e → ends (e .answer) ≡ true
   kind-ends e (kinds.refused n h) = unfold refuse in refusal-ends n h
   kind-ends e (kinds.noted d a reply h) = unfold note in noted-ends a h
-  kind-ends e (kinds.failed type) = unfold peerError note ends in refl
+  kind-ends e (kinds.errored type) = unfold peerError note ends in refl
   kind-ends e (kinds.defined fields body place k) = unfold defineAt ends in refl
   kind-ends e (kinds.committed fields body place how k) = unfold commitAt ends in refl
 
@@ -86,7 +86,7 @@ module _ (c : Connection) (t : Store) (u : List ℕ) where
   unfolding refuse note peerError defineAt commitAt
   kind-refused e n (kinds.refused k h) q = let r : k ≡ n = cc in (subst (λ (x : ℕ). closes x ≡ true) r h, ap (refuse c) r)
   kind-refused e n (kinds.noted d a reply h) q = absurd (noted-refused a n h q)
-  kind-refused e n (kinds.failed type) q = absurd (let z : _≡_ {A = ℕ} 0 1 = cc in omega arith)
+  kind-refused e n (kinds.errored type) q = absurd (let z : _≡_ {A = ℕ} 0 1 = cc in omega arith)
   kind-refused e n (kinds.defined fields body place k) q = absurd (let z : _≡_ {A = ℕ} 0 1 = cc in omega arith)
   kind-refused e n (kinds.committed fields body place how k) q = absurd (let z : _≡_ {A = ℕ} 0 1 = cc in omega arith)
 
@@ -100,7 +100,7 @@ module _ (c : Connection) (t : Store) (u : List ℕ) where
   unfolding refuse note peerError defineAt commitAt changed noChange
   kind-stays e (kinds.refused n h) f g = refl
   kind-stays e (kinds.noted d a reply h) f g = refl
-  kind-stays e (kinds.failed type) f g = refl
+  kind-stays e (kinds.errored type) f g = refl
   kind-stays e (kinds.defined fields body place k) f g = absurd (f place refl)
   kind-stays e (kinds.committed fields body place how k) f g = absurd (g _ _ place how refl)
 
@@ -114,7 +114,7 @@ module _ (c : Connection) (t : Store) (u : List ℕ) where
   unfolding refuse note peerError defineAt commitAt changed noChange tableChange entryChange putTable putEntry
   kind-grows e (kinds.refused n h) i k = k
   kind-grows e (kinds.noted d a reply h) i k = k
-  kind-grows e (kinds.failed type) i k = k
+  kind-grows e (kinds.errored type) i k = k
   kind-grows e (kinds.defined fields body place d) i k = put-held (t .tables) place (definedTable body fields) (defined-held body fields) i k
   kind-grows e (kinds.committed fields body place how w) i k = k
 
@@ -147,7 +147,7 @@ module _ (c : Connection) (t : Store) (u : List ℕ) (table id place : ℕ) (how
   unfolding refuse note peerError defineAt commitAt changed entryChange updatedEntry makeEntry
   kind-updated e (kinds.refused n h) q = absurd (let z : _≡_ {A = ℕ} 0 1 = cc in omega arith)
   kind-updated e (kinds.noted d a reply h) q = absurd (noted-update a h q)
-  kind-updated e (kinds.failed type) q = absurd (let z : _≡_ {A = ℕ} 0 1 = cc in omega arith)
+  kind-updated e (kinds.errored type) q = absurd (let z : _≡_ {A = ℕ} 0 1 = cc in omega arith)
   kind-updated e (kinds.defined fields body p k) q = absurd (let z : _≡_ {A = ℕ} 0 1 = cc in omega arith)
   kind-updated e (kinds.committed fields body p h k) q =
       let now = c .current - 1 in
@@ -200,7 +200,7 @@ module _ (c : Connection) (t : Store) (u : List ℕ) (place : ℕ) where
   unfolding refuse note peerError defineAt commitAt changed tableChange
   kind-defined e (kinds.refused n h) q = absurd (let z : _≡_ {A = ℕ} 0 1 = cc in omega arith)
   kind-defined e (kinds.noted d a reply h) q = absurd (noted-table a h q)
-  kind-defined e (kinds.failed type) q = absurd (let z : _≡_ {A = ℕ} 0 1 = cc in omega arith)
+  kind-defined e (kinds.errored type) q = absurd (let z : _≡_ {A = ℕ} 0 1 = cc in omega arith)
   kind-defined e (kinds.defined fields body p k) q =
       let d : p ≡ place = cc in
       record {

@@ -67,7 +67,7 @@ unfolding closes
 closes-below n h =
     by-test (leb 10 n && leb n 15)
     (λ a. let b = leb-true n 15 (and-second (leb 10 n) (leb n 15) a) in omega arith)
-    (λ a. let b = leb-true n 29 (and-second (leb 20 n) (leb n 29) (sym (or-false (leb 10 n && leb n 15) _ a) ∙ h)) in omega arith)
+    (λ a. let b = leb-true n 30 (and-second (leb 20 n) (leb n 30) (sym (or-false (leb 10 n && leb n 15) _ a) ∙ h)) in omega arith)
 
 -- a refusal's number is below 256
 pub refused-byte : (s : Session) (t : Store) (m : Made) → ReadPromise s t m → RefusedByte (m .outcome .answer)

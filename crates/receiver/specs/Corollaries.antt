@@ -91,9 +91,9 @@ AcknowledgementReadBack = (id update : ℕ) → id < 2 ^ 32 → update < 2 ^ 32 
 
 -- ---- any refused call, on any record and store, sound or not, leaves tables and entries and the room past the reply as they were
 
--- the refusals of the table that close the session, but for opening's 1 and 3
+-- the refusals that close the session: the table's from 10 up, and request 8's 30; opening's 1 and 3 aside
 unfoldable pub closes : ℕ → Bool
-closes n = (leb 10 n && leb n 15) || (leb 20 n && leb n 29)
+closes n = (leb 10 n && leb n 15) || (leb 20 n && leb n 30)
 
 -- "A call's 1, 4 and 2 take nothing and change nothing"
 pub record NothingChanged (s : Session) (t : Store) (m : Made) : Type 0 where

@@ -64,9 +64,9 @@ valuesOf a = record { numbers = padTo 4 (answerValues a); count = length (answer
 unfoldable pub isSizeLimit : ℕ → Bool
 isSizeLimit n = eqb n 22 || (eqb n 26 || eqb n 29)
 
--- 20, 21, 23, 24, 25, 27, 28: `01 00`
+-- 20, 21, 23, 24, 25, 27, 28: `01 00`; request 8: "Refusals: 30, reply `01 00`"
 unfoldable pub isProtocolError : ℕ → Bool
-isProtocolError n = eqb n 20 || (eqb n 21 || (eqb n 23 || (eqb n 24 || (eqb n 25 || (eqb n 27 || eqb n 28)))))
+isProtocolError n = eqb n 20 || (eqb n 21 || (eqb n 23 || (eqb n 24 || (eqb n 25 || (eqb n 27 || (eqb n 28 || eqb n 30))))))
 
 -- 10 to 13: the status line; 1 to 4, 14 and 15: none
 unfoldable pub refusalReply : ℕ → List ℕ

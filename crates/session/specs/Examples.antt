@@ -19,7 +19,7 @@ status-replies : map refusalReply (10 ∷ 11 ∷ 12 ∷ 13 ∷ [])
 unfolding refusalReply isSizeLimit isProtocolError refusalLine statusLine decimal decimalIn lf
 status-replies = refl
 
-error-replies : map refusalReply (20 ∷ 21 ∷ 22 ∷ 23 ∷ 24 ∷ 25 ∷ 26 ∷ 27 ∷ 28 ∷ 29 ∷ [])
+error-replies : map refusalReply (20 ∷ 21 ∷ 22 ∷ 23 ∷ 24 ∷ 25 ∷ 26 ∷ 27 ∷ 28 ∷ 29 ∷ 30 ∷ [])
     ≡ (0x01 ∷ 0x00 ∷ [])
     ∷ (0x01 ∷ 0x00 ∷ [])
     ∷ (0x01 ∷ 0x01 ∷ [])
@@ -30,6 +30,7 @@ error-replies : map refusalReply (20 ∷ 21 ∷ 22 ∷ 23 ∷ 24 ∷ 25 ∷ 26 �
     ∷ (0x01 ∷ 0x00 ∷ [])
     ∷ (0x01 ∷ 0x00 ∷ [])
     ∷ (0x01 ∷ 0x01 ∷ [])
+    ∷ (0x01 ∷ 0x00 ∷ [])
     ∷ []
 unfolding refusalReply isSizeLimit isProtocolError
 error-replies = refl

@@ -37,6 +37,7 @@ fn is_protocol_error(number: u8) -> bool
         25 => true,
         27 => true,
         28 => true,
+        30 => true,
         _ => false,
     }
 }
@@ -66,7 +67,7 @@ fn refusal_line(number: u8) -> Reply
     }
 }
 
-// The reply to a refusal, by document 01's table.
+// The reply to a refusal, by document 01's table and request 8 of document 02.
 pub fn refusal_reply(number: u8) -> Reply
     ensures { λ r. ⌜ r ≡ replyOf (refusalReply number) ⌝ }
 {

@@ -10,8 +10,8 @@ use Rattle.session.specs.Session.{isBound, isUpdated, boundTo, noBinding}
 use Rattle.session_soundness.specs.Sound.{refusesOpening, isClosing, flagsOk, noIds, freePlacesOk, sameId, firstParts}
 
 -- which numbers close a session
-closing : map isClosing (0 ∷ 1 ∷ 2 ∷ 3 ∷ 4 ∷ 9 ∷ 10 ∷ 15 ∷ 16 ∷ 19 ∷ 20 ∷ 29 ∷ 30 ∷ [])
-    ≡ true ∷ true ∷ false ∷ true ∷ false ∷ false ∷ true ∷ true ∷ false ∷ false ∷ true ∷ true ∷ false ∷ []
+closing : map isClosing (0 ∷ 1 ∷ 2 ∷ 3 ∷ 4 ∷ 9 ∷ 10 ∷ 15 ∷ 16 ∷ 19 ∷ 20 ∷ 29 ∷ 30 ∷ 31 ∷ [])
+    ≡ true ∷ true ∷ false ∷ true ∷ false ∷ false ∷ true ∷ true ∷ false ∷ false ∷ true ∷ true ∷ true ∷ false ∷ []
 unfolding isClosing refusesOpening
 closing = refl
 

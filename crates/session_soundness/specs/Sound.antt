@@ -36,9 +36,9 @@ closedOk c = leb (c .closed) 1
 unfoldable pub refusesOpening : ℕ → Bool
 refusesOpening n = eqb n 1 || eqb n 3
 
--- the numbers that close a session: 0 for a peer's error, 1 and 3 in opening, and from 10 up those of the table of refusals
+-- the numbers that close a session: 0 for a peer's error, 1 and 3 in opening, and from 10 up those of the table of refusals and request 8's 30
 unfoldable pub isClosing : ℕ → Bool
-isClosing n = eqb n 0 || (refusesOpening n || ((leb 10 n && leb n 15) || (leb 20 n && leb n 29)))
+isClosing n = eqb n 0 || (refusesOpening n || ((leb 10 n && leb n 15) || (leb 20 n && leb n 30)))
 
 -- an open record has the number 0
 unfoldable pub numberOk : Connection → Bool

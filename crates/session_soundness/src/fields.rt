@@ -48,7 +48,7 @@ fn is_closing(number: u32) -> bool
     if number < 20 {
         return false;
     }
-    number <= 29
+    number <= 30
 }
 
 fn number_ok(c: Connection) -> bool

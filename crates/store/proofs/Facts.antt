@@ -16,10 +16,10 @@ use Rattle.lists.proofs.Bytes.{eq-bytes, bytes-eq}
 use Rattle.store.specs.declared.Table.{Table}
 use Rattle.store.specs.declared.Entry.{Entry}
 use Rattle.store.specs.declared.Store.{Store}
-use Rattle.store.specs.Limits.{keyKind, isKnown, isString, keyLengthOk, dataTypesOk}
+use Rattle.store.specs.Limits.{plainName, keyKind, isKnown, isString, keyLengthOk, dataTypesOk}
 use Rattle.store.specs.Store.{tableHeld, entryHeld, nameOf, keyOf, tableNamed, entryOf, entryKeyed, noTable, noEntry}
 use Rattle.store.specs.Shape.{TableShape, EntryShape}
-use Rattle.store.specs.Sound.{nameLengthOk, keyTypeOk, tableKeyLengthOk, tableTypesOk, timedOk, tableTests, soundTable, sameName, entryTableOk, entryKeyLengthOk, keyRestZero, valuesOk, entryTests, soundEntry, sameKey, soundStore}
+use Rattle.store.specs.Sound.{nameLengthOk, namePlain, keyTypeOk, tableKeyLengthOk, tableTypesOk, timedOk, tableTests, soundTable, sameName, entryTableOk, entryKeyLengthOk, keyRestZero, valuesOk, entryTests, soundEntry, sameKey, soundStore}
 use Rattle.store.proofs.Rules.{key-length-most}
 
 -- ---- facts
@@ -28,6 +28,7 @@ use Rattle.store.proofs.Rules.{key-length-most}
 pub record TableFacts (t : Table) : Type 0 where
   pub nameLeast : 1 ≤ t .«name_len»
   pub nameMost : t .«name_len» ≤ 32
+  pub plain : plainName (nameOf t) ≡ true
   pub known : isKnown (keyKind (t .«key_type»)) ≡ true
   pub keyLength : keyLengthOk (t .«key_type») (t .«key_len») ≡ true
   pub dataTypes : t .«data_types» < 2 ^ 19
@@ -53,36 +54,39 @@ pub record SoundStore (s : Store) : Type 0 where
 -- ---- a table
 
 pub table-facts : (t : Table) → soundTable t ≡ true → tableHeld t ≡ true → TableFacts t
-unfolding soundTable nameLengthOk keyTypeOk tableKeyLengthOk tableTypesOk dataTypesOk timedOk
+unfolding soundTable nameLengthOk namePlain keyTypeOk tableKeyLengthOk tableTypesOk dataTypesOk timedOk
 table-facts t h q =
     let r0 = unless-elim (tableHeld t) (allOf (tableTests t)) (and-second (leb (t .held) 1) (not (tableHeld t) || allOf (tableTests t)) h) q in
-    let r1 = all-rest (nameLengthOk t) (keyTypeOk t ∷ tableKeyLengthOk t ∷ tableTypesOk t ∷ timedOk t ∷ []) r0 in
-    let r2 = all-rest (keyTypeOk t) (tableKeyLengthOk t ∷ tableTypesOk t ∷ timedOk t ∷ []) r1 in
-    let r3 = all-rest (tableKeyLengthOk t) (tableTypesOk t ∷ timedOk t ∷ []) r2 in
-    let r4 = all-rest (tableTypesOk t) (timedOk t ∷ []) r3 in
-    let n = all-first (nameLengthOk t) (keyTypeOk t ∷ tableKeyLengthOk t ∷ tableTypesOk t ∷ timedOk t ∷ []) r0 in
+    let r1 = all-rest (nameLengthOk t) (namePlain t ∷ keyTypeOk t ∷ tableKeyLengthOk t ∷ tableTypesOk t ∷ timedOk t ∷ []) r0 in
+    let r2 = all-rest (namePlain t) (keyTypeOk t ∷ tableKeyLengthOk t ∷ tableTypesOk t ∷ timedOk t ∷ []) r1 in
+    let r3 = all-rest (keyTypeOk t) (tableKeyLengthOk t ∷ tableTypesOk t ∷ timedOk t ∷ []) r2 in
+    let r4 = all-rest (tableKeyLengthOk t) (tableTypesOk t ∷ timedOk t ∷ []) r3 in
+    let r5 = all-rest (tableTypesOk t) (timedOk t ∷ []) r4 in
+    let n = all-first (nameLengthOk t) (namePlain t ∷ keyTypeOk t ∷ tableKeyLengthOk t ∷ tableTypesOk t ∷ timedOk t ∷ []) r0 in
     record {
       nameLeast = leb-true 1 (t .«name_len») (and-first (leb 1 (t .«name_len»)) (leb (t .«name_len») 32) n);
       nameMost = leb-true (t .«name_len») 32 (and-second (leb 1 (t .«name_len»)) (leb (t .«name_len») 32) n);
-      known = all-first (keyTypeOk t) (tableKeyLengthOk t ∷ tableTypesOk t ∷ timedOk t ∷ []) r1;
-      keyLength = all-first (tableKeyLengthOk t) (tableTypesOk t ∷ timedOk t ∷ []) r2;
-      dataTypes = ltb-true (t .«data_types») (2 ^ 19) (all-first (tableTypesOk t) (timedOk t ∷ []) r3);
-      timed = leb-true (t .timed) 1 (all-first (timedOk t) [] r4);
+      plain = all-first (namePlain t) (keyTypeOk t ∷ tableKeyLengthOk t ∷ tableTypesOk t ∷ timedOk t ∷ []) r1;
+      known = all-first (keyTypeOk t) (tableKeyLengthOk t ∷ tableTypesOk t ∷ timedOk t ∷ []) r2;
+      keyLength = all-first (tableKeyLengthOk t) (tableTypesOk t ∷ timedOk t ∷ []) r3;
+      dataTypes = ltb-true (t .«data_types») (2 ^ 19) (all-first (tableTypesOk t) (timedOk t ∷ []) r4);
+      timed = leb-true (t .timed) 1 (all-first (timedOk t) [] r5);
     }
 
 pub facts-table : (t : Table) → t .held ≤ 1 → (tableHeld t ≡ true → TableFacts t) → soundTable t ≡ true
-unfolding soundTable nameLengthOk keyTypeOk tableKeyLengthOk tableTypesOk dataTypesOk timedOk
+unfolding soundTable nameLengthOk namePlain keyTypeOk tableKeyLengthOk tableTypesOk dataTypesOk timedOk
 facts-table t m f =
     and-intro (leb (t .held) 1) (not (tableHeld t) || allOf (tableTests t)) (le-leb (t .held) 1 m)
     (unless-intro (tableHeld t) (allOf (tableTests t))
     (λ q.
     let r = f q in
-    all-intro (nameLengthOk t) (keyTypeOk t ∷ tableKeyLengthOk t ∷ tableTypesOk t ∷ timedOk t ∷ [])
+    all-intro (nameLengthOk t) (namePlain t ∷ keyTypeOk t ∷ tableKeyLengthOk t ∷ tableTypesOk t ∷ timedOk t ∷ [])
     (and-intro (leb 1 (t .«name_len»)) (leb (t .«name_len») 32) (le-leb 1 (t .«name_len») (r .nameLeast)) (le-leb (t .«name_len») 32 (r .nameMost)))
+    (all-intro (namePlain t) (keyTypeOk t ∷ tableKeyLengthOk t ∷ tableTypesOk t ∷ timedOk t ∷ []) (r .plain)
     (all-intro (keyTypeOk t) (tableKeyLengthOk t ∷ tableTypesOk t ∷ timedOk t ∷ []) (r .known)
     (all-intro (tableKeyLengthOk t) (tableTypesOk t ∷ timedOk t ∷ []) (r .keyLength)
     (all-intro (tableTypesOk t) (timedOk t ∷ []) (lt-ltb (t .«data_types») (2 ^ 19) (r .dataTypes))
-    (all-intro (timedOk t) [] (le-leb (t .timed) 1 (r .timed)) all-none))))))
+    (all-intro (timedOk t) [] (le-leb (t .timed) 1 (r .timed)) all-none)))))))
 
 -- ---- an entry
 

@@ -5,3 +5,4 @@ pub mod Putting
 pub mod Facts
 pub mod Kept
 pub mod Ruled
+mod PlainNames

@@ -18,7 +18,7 @@ use Rattle.store.specs.declared.Table.{Table}
 use Rattle.store.specs.declared.Entry.{Entry}
 use Rattle.store.specs.declared.Store.{Store}
 use Rattle.store.specs.declared.Definition.{Definition}
-use Rattle.store.specs.Limits.{keyMax, nameMax, keyKind, isString, slotTypes}
+use Rattle.store.specs.Limits.{keyMax, nameMax, plainName, keyKind, isString, slotTypes}
 use Rattle.store.specs.Store.{tableHeld, entryHeld, nameOf, keyOf, tableNamed, entryKeyed, makeEntry, makeTable, putTable, putEntry, noTable, noEntry, emptyStore}
 use Rattle.store.specs.Shape.{TableShape, EntryShape, StoreShape}
 use Rattle.store.specs.Sound.{sameName, entryKeyLengthOk, keyRestZero, slotsOk, valuesOk, sameKey, soundStore, soundTable, soundEntry}
@@ -197,6 +197,9 @@ made-rest table key server values l = ap (every isZero) (pad-drop keyMax key l) 
 pub made-name : (name : List ℕ) (d : Definition) → length name ≤ 32 → nameOf (makeTable name d) ≡ name
 unfolding nameOf makeTable
 made-name name d l = pad-take nameMax name l
+
+pub made-plain : (name : List ℕ) (d : Definition) → length name ≤ 32 → plainName name ≡ true → plainName (nameOf (makeTable name d)) ≡ true
+made-plain name d l h = ap plainName (made-name name d l) ∙ h
 
 -- ---- the store without tables and entries
 

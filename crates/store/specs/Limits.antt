@@ -1,10 +1,10 @@
--- The numbers of document 01, and of request 1 of document 02, that concern tables and entries, and the layout of an entry's values.
+-- The numbers of document 01, and of requests 1 and 8 of document 02, that concern tables and entries, and the layout of an entry's values.
 use Prim.Native.Nat.{ℕ, _/_, _%_, _^_}
 use mathlib.Core.List.{List, [], _∷_, _++_}
-use mathlib.Core.Bool.{Bool, true, false, cond, _&&_}
+use mathlib.Core.Bool.{Bool, true, false, cond, _&&_, _||_}
 use lib.ListN.{replicate}
 use lib.Dec.{ltb, leb, eqb}
-use Rattle.lists.specs.Lists.{among}
+use Rattle.lists.specs.Lists.{every, among}
 use Rattle.store.specs.declared.types.KeyKind.{KeyKind}
 use Rattle.store.specs.declared.types.KeyKind.the-variants.{Integer, Ipv4, Ipv6, Str, Binary, Unknown}
 
@@ -29,6 +29,16 @@ rateCount = 8
 
 abbrev pub valueCount : ℕ
 valueCount = 34
+
+-- ---- names
+
+-- request 8: "only letters, digits, `.`, `_`, `-`, `/` and `:`", as bytes of ASCII: A to Z, a to z, 0 to 9, and these five
+unfoldable pub isPlain : ℕ → Bool
+isPlain b =
+    (leb 65 b && leb b 90) || ((leb 97 b && leb b 122) || ((leb 48 b && leb b 57) || among (46 ∷ 95 ∷ 45 ∷ 47 ∷ 58 ∷ []) b))
+
+unfoldable pub plainName : List ℕ → Bool
+plainName name = every isPlain name
 
 -- ---- key types
 

@@ -1,5 +1,5 @@
--- Soundness of a store: document 01's "Not sound means", as far as it concerns tables and entries. Each kind of fault is a test of its own;
--- free places aren't looked at, nor values that a table doesn't have.
+-- Soundness of a store: document 01's "Not sound means", as far as it concerns tables and entries, and request 8's rule of names. Each kind
+-- of fault is a test of its own; free places aren't looked at, nor values that a table doesn't have.
 use Prim.Native.Nat.{ℕ, _^_}
 use mathlib.Core.List.{List, [], _∷_}
 use mathlib.Core.Bool.{Bool, true, cond, not, _&&_, _||_}
@@ -9,13 +9,17 @@ use Rattle.lists.specs.Lists.{allOf, every, distinct, isZero}
 use Rattle.store.specs.declared.Table.{Table}
 use Rattle.store.specs.declared.Entry.{Entry}
 use Rattle.store.specs.declared.Store.{Store}
-use Rattle.store.specs.Limits.{nameMax, keyKind, isKnown, isString, keyLengthOk, dataTypesOk, present, isWide, slotTypes, tablePlaces}
+use Rattle.store.specs.Limits.{nameMax, plainName, keyKind, isKnown, isString, keyLengthOk, dataTypesOk, present, isWide, slotTypes, tablePlaces}
 use Rattle.store.specs.Store.{tableHeld, entryHeld, tableNamed, entryKeyed, nameOf, keyOf, noTable}
 
 -- ---- a table: "a count, length, place, field or value outside the limits here"
 
 unfoldable pub nameLengthOk : Table → Bool
 nameLengthOk t = leb 1 (t .«name_len») && leb (t .«name_len») nameMax
+
+-- request 8: "A new name or a held one may have only letters, digits, `.`, `_`, `-`, `/` and `:`"; bytes past the length aren't looked at
+unfoldable pub namePlain : Table → Bool
+namePlain t = plainName (nameOf t)
 
 unfoldable pub keyTypeOk : Table → Bool
 keyTypeOk t = isKnown (keyKind (t .«key_type»))
@@ -30,7 +34,7 @@ unfoldable pub timedOk : Table → Bool
 timedOk t = leb (t .timed) 1
 
 abbrev pub tableTests : Table → List Bool
-tableTests t = nameLengthOk t ∷ keyTypeOk t ∷ tableKeyLengthOk t ∷ tableTypesOk t ∷ timedOk t ∷ []
+tableTests t = nameLengthOk t ∷ namePlain t ∷ keyTypeOk t ∷ tableKeyLengthOk t ∷ tableTypesOk t ∷ timedOk t ∷ []
 
 -- a flag is 0 or 1; "Free places aren't looked at"
 unfoldable pub soundTable : Table → Bool

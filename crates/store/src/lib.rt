@@ -1,6 +1,7 @@
 // The store of document 01: 8 table places and 128 entry places, as plain numbers.
 // The lender of a store can put any number anywhere; the tests of the crate `store_soundness` say whether the rules allow it.
 pub mod entries;
+pub mod names;
 pub mod tables;
 pub mod types;
 

@@ -1,23 +1,38 @@
 // Soundness of one table, and of all tables together.
 ghost use mathlib.Core.Path.{_≡_};
 ghost use mathlib.Core.Bool.{_&&_};
+ghost use lib.Dec.{leb};
+ghost use lib.ListN.{take};
 ghost use Rattle.lists.specs.Lists.{allOf, every, distinct};
+ghost use Rattle.store.specs.Limits.{nameMax, plainName};
 ghost use Rattle.store.specs.Sound.{tableTests, soundTable, sameName};
 use crate::names::names_distinct;
 use store::DATA_TYPES_MAX;
 use store::NAME_MAX;
 use store::TABLES;
 use store::Table;
+use store::names::plain_name;
 use store::types::is_known;
 use store::types::key_kind;
 use store::types::key_length_ok;
 use store::types::within;
 
+// Whether a name's length is in range and its bytes are plain.
+fn table_name_ok(n: usize, bytes: [u8; NAME_MAX]) -> bool
+    ensures { λ r. ⌜ r ≡ ((leb 1 n && leb n nameMax) && plainName (take n bytes)) ⌝ }
+{
+    if !within(1, n, NAME_MAX) {
+        return false;
+    }
+    plain_name(&bytes[..n])
+}
+
 // The tests of a held table.
 fn held_table_ok(t: Table) -> bool
     ensures { λ r. ⌜ r ≡ allOf (tableTests t) ⌝ }
 {
-    if !within(1, t.name_len, NAME_MAX) {
+    let name = t.name;
+    if !table_name_ok(t.name_len, name) {
         return false;
     }
     if !is_known(key_kind(t.key_type)) {

@@ -17,6 +17,9 @@ pub const KEY_LENGTHS: [(KeyType, u32, u32); 5] = [
     (KeyType::Binary, 1, 64),
 ];
 
+/// The bytes that a table's name may have.
+pub const PLAIN: &[u8] = b"ABCDEFGHIJKLMNOPQRSTUVWXYZabcdefghijklmnopqrstuvwxyz0123456789._-/:";
+
 /// The stream of the listing.
 pub fn listing() -> Vec<u8> {
     let mut bytes = HELLO.to_vec();

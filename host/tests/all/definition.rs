@@ -1,6 +1,6 @@
 //! Fields of a definition, on each side of each boundary.
 
-use crate::common::{define, define_of, int, message, State, KEY_LENGTHS};
+use crate::common::{define, define_of, int, message, State, KEY_LENGTHS, PLAIN};
 use peers::{Answer, KeyType, Refusal};
 
 /// A definition is taken, and makes the table at place 0.
@@ -121,5 +121,99 @@ fn a_held_key_type() {
             let state = taken(&define(1, b"t", a, 4, 0, &[]));
             refused(state, &define(1, b"t", b, 4, 0, &[]), Refusal::Disagrees);
         }
+    }
+}
+
+// ---- names
+
+/// Names of several lengths with a byte at several places.
+fn names_with(byte: u8) -> [Vec<u8>; 5] {
+    let name = |before: usize, after: usize| {
+        let (before, after) = (vec![b'a'; before], vec![b'a'; after]);
+        [&before[..], &[byte], &after].concat()
+    };
+    [(0, 0), (0, 1), (1, 0), (31, 0), (5, 5)].map(|(before, after)| name(before, after))
+}
+
+#[test]
+fn every_byte_of_a_name() {
+    for byte in 0..=255 {
+        for name in names_with(byte) {
+            let bytes = define(1, &name, KeyType::Integer, 4, 0, &[]);
+            if PLAIN.contains(&byte) {
+                assert_eq!(taken(&bytes).store.table(0).unwrap().name(), name);
+            } else {
+                refused(State::established(), &bytes, Refusal::TableName);
+            }
+        }
+    }
+}
+
+/// What comes after a name isn't looked at where the name isn't plain.
+#[test]
+fn a_name_before_all_later_faults() {
+    let full = || {
+        let mut state = State::established();
+        for id in 0..8 {
+            let name = [b'a' + id as u8];
+            state.accept(&[define(id, &name, KeyType::Integer, 4, 0, &[])]);
+        }
+        state
+    };
+    let later: [&[u64]; 7] = [
+        &[],
+        &[3],
+        &[u64::MAX],
+        &[2],
+        &[2, 5],
+        &[2, 4, 1 << 19],
+        &[2, 4, 8, 1 << 32],
+    ];
+    for fields in later {
+        for name in [&b"\n"[..], b"a\n", b"a "] {
+            let bytes = define_of(9, name, fields);
+            refused(State::established(), &bytes, Refusal::TableName);
+            refused(full(), &bytes, Refusal::TableName);
+        }
+    }
+    // a plain name, and the body's end or a faulty key type after it
+    refused(State::established(), &define_of(9, b"a", &[]), Refusal::Cut);
+    out_of_range(&[3]);
+    // all fields in range, and no place for a new name: 30 before 26
+    let bytes = define(9, b"\0", KeyType::Ipv4, 4, 0, &[]);
+    refused(full(), &bytes, Refusal::TableName);
+}
+
+/// What comes before a name decides first.
+#[test]
+fn a_name_after_all_earlier_faults() {
+    let range = [
+        [int(1 << 32), vec![1, b'\n']].concat(),
+        vec![1, 0, b'\n'],
+        [&[1, 33][..], &[b'\n'; 40]].concat(),
+    ];
+    for body in range {
+        let bytes = message(130, &body);
+        refused(State::established(), &bytes, Refusal::Range);
+    }
+    for body in [&[1, 2, b'\n'][..], &[1, 32, b'\n', b'\n'], &[1, 1]] {
+        let bytes = message(130, body);
+        refused(State::established(), &bytes, Refusal::Cut);
+    }
+}
+
+/// Its bytes are dropped, and the next call is refused with 2.
+#[test]
+fn after_a_name_that_is_not_plain() {
+    let bytes = define(1, b"a\nb", KeyType::Integer, 4, 0, &[]);
+    for cut in 0..bytes.len() {
+        let mut state = State::established();
+        assert_eq!(state.offer(&bytes[..cut]), []);
+        let told = state.offer(&bytes[cut..]);
+        assert_eq!(told, [(Answer::Refused(Refusal::TableName), vec![1, 0])]);
+        assert_eq!(state.session.closed_with(), Some(30));
+        assert_eq!(state.session.unfinished(), b"");
+        let (taken, told) = state.call(&[0, 4]);
+        assert_eq!((taken, told.0), (0, Answer::Refused(Refusal::Closed)));
     }
 }

@@ -1,6 +1,6 @@
 //! Every answer, every refusal, and every data type of an entry.
 
-use crate::common::{define, int, message, update, State, FILL, HELLO};
+use crate::common::{define, define_of, int, message, update, State, FILL, HELLO};
 use peers::{Answer, Commit, DataType, KeyType, Refusal, Value};
 
 /// All data types.
@@ -203,6 +203,12 @@ fn definition_refusals() {
     let eight: [&[u8]; 8] = [b"a", b"b", b"c", b"d", b"e", b"f", b"g", b"h"];
     let ninth = define(9, b"i", KeyType::Integer, 4, 4, &[]);
     refused(with_tables(&eight), &ninth, 26, &[1, 1]);
+    refused(
+        State::established(),
+        &define_of(2, b"a b", &[]),
+        30,
+        &[1, 0],
+    );
 }
 
 #[test]

@@ -1,7 +1,7 @@
 //! Each kind of fault of a record or a store, one at a time, and what stands next to it on the other side of its boundary.
 //! A fault is refused with 4; a call on either side that takes nothing leaves every byte as it was.
 
-use crate::common::{define, message, update, State, KEY_LENGTHS};
+use crate::common::{define, message, update, State, KEY_LENGTHS, PLAIN};
 use peers::layout::{Entry, Session, Store, Table};
 use peers::{Answer, KeyType, Refusal};
 
@@ -166,7 +166,7 @@ fn name_length() {
         &eight_tables(),
         &[
             |_, t| t.tables[7].name_len = 1,
-            |_, t| t.tables[7].name_len = 32,
+            |_, t| (t.tables[7].name, t.tables[7].name_len) = ([b'x'; 32], 32),
             |_, t| t.tables[7].name[4] = 0xFF,
         ],
     );
@@ -174,11 +174,28 @@ fn name_length() {
         &eight_tables(),
         &[
             |_, t| t.tables[7].name_len = 0,
-            |_, t| t.tables[7].name_len = 33,
+            |_, t| (t.tables[7].name, t.tables[7].name_len) = ([b'x'; 32], 33),
             |_, t| t.tables[0].name_len = 0,
             |_, t| t.tables[0].name_len = usize::MAX,
         ],
     );
+}
+
+/// Every byte within a name, and after it.
+#[test]
+fn bytes_of_a_name() {
+    for byte in 0..=255 {
+        for (len, at) in [(3, 0), (3, 2), (32, 31), (3, 3), (1, 31)] {
+            let mut state = eight_tables();
+            let table = &mut state.store.layout_mut().tables[7];
+            (table.name, table.name_len) = ([b'x'; 32], len);
+            table.name[at] = byte;
+            match at >= len || PLAIN.contains(&byte) {
+                true => sound(&state, &[|_, _| {}]),
+                false => faults(&state, &[|_, _| {}]),
+            }
+        }
+    }
 }
 
 /// A change of table 4, which has no entries.
@@ -269,7 +286,7 @@ fn two_tables_with_one_name() {
                 t.tables[4].name_len = 2;
             },
             |_, t| t.tables[4].name[0] = b'd',
-            |_, t| (t.tables[4].name, t.tables[5].name) = ([1; 32], [2; 32]),
+            |_, t| (t.tables[4].name, t.tables[5].name) = ([b'x'; 32], [b'y'; 32]),
         ],
     );
     faults(
@@ -519,7 +536,7 @@ fn closed_mark_and_number() {
         let connection = &mut state.session.layout_mut().connection;
         (connection.closed, connection.number) = (1, number);
         match number {
-            0 | 1 | 3 | 10..=15 | 20..=29 => sound(&state, &[|_, _| {}]),
+            0 | 1 | 3 | 10..=15 | 20..=30 => sound(&state, &[|_, _| {}]),
             _ => faults(&state, &[|_, _| {}]),
         }
     }

@@ -1,5 +1,6 @@
 //! The data that other programs are compared with.
 
+mod definitions;
 mod scripts;
 
 use crate::generate::{capture, script};
@@ -15,22 +16,23 @@ pub const SEED: u64 = 1;
 pub const COUNT: u64 = 1700;
 
 /// Captures made by the generator: the number that closes them and the seed.
-pub const CLOSED: [(u8, u64); 15] = [
+pub const CLOSED: [(u8, u64); 16] = [
     (0, 2734),
     (10, 236),
     (11, 534),
     (12, 2082),
     (13, 731),
     (20, 1453),
-    (21, 2320),
-    (22, 2214),
-    (23, 2509),
+    (21, 2214),
+    (22, 791),
+    (23, 2630),
     (24, 1124),
-    (25, 2237),
+    (25, 123),
     (26, 1762),
-    (27, 830),
-    (28, 1005),
+    (27, 2849),
+    (28, 2598),
     (29, 80),
+    (30, 579),
 ];
 
 /// The seed of a long capture that stays open.

@@ -1,10 +1,10 @@
 //! Scripts that go through the limits one by one.
 
+use super::definitions;
 use crate::datatype;
 use crate::generate::values::Shape;
 use crate::generate::wire::{self, table_message, Message};
 use crate::integer::encode;
-use crate::message::DEFINITION;
 use crate::record::Role;
 use crate::replay::Command;
 use crate::store::{Times, BINARY, ENTRIES, INTEGER, IPV4, IPV6, STRING, TABLES};
@@ -30,7 +30,8 @@ pub fn all() -> Vec<(&'static str, Vec<u8>)> {
         ("divisions", divisions()),
         ("cases", cases()),
         ("fields", fields()),
-        ("key-types", key_types()),
+        ("key-types", definitions::key_types()),
+        ("names", definitions::names()),
         ("headers", headers()),
         ("hellos", hellos()),
         ("statuses", statuses()),
@@ -58,29 +59,29 @@ fn ends() -> [(&'static str, Vec<u8>); 9] {
 
 /// A script under way.
 #[derive(Default)]
-struct Script(Vec<u8>);
+pub struct Script(pub Vec<u8>);
 
 impl Script {
     /// Adds a command.
-    fn add(&mut self, command: Command) {
+    pub fn add(&mut self, command: Command) {
         command.write(&mut self.0);
     }
 
     /// Adds calls for a piece; each message's bytes are one piece of a call.
-    fn pieces(&mut self, pieces: &[&[u8]]) {
+    pub fn pieces(&mut self, pieces: &[&[u8]]) {
         for piece in pieces {
             self.add(Command::Call { room: 12, piece });
         }
     }
 
     /// Adds an open answerer's session.
-    fn open(&mut self) {
+    pub fn open(&mut self) {
         self.add(Command::Open(Role::Answerer));
         self.pieces(&[HELLO]);
     }
 
     /// Adds a session with a message after others.
-    fn after(&mut self, before: &[Vec<u8>], message: &[u8]) {
+    pub fn after(&mut self, before: &[Vec<u8>], message: &[u8]) {
         self.open();
         for message in before {
             self.pieces(&[message]);
@@ -236,31 +237,12 @@ fn field_messages() -> Vec<(Vec<Vec<u8>>, Message)> {
 }
 
 /// A shape.
-fn shape(key_type: u64, key_length: u64, data_types: u64) -> Shape {
+pub fn shape(key_type: u64, key_length: u64, data_types: u64) -> Shape {
     Shape {
         key_type,
         key_length,
         data_types,
     }
-}
-
-/// Definitions with key types in and out of range, each at the end of the body
-/// and with key lengths next to every limit.
-fn key_types() -> Vec<u8> {
-    let mut script = Script::default();
-    let mut numbers: Vec<u64> = (0..=9).collect();
-    numbers.extend([16, 127, 128, 239, 240, 258, 65538, u64::MAX]);
-    numbers.extend((0..=8).map(|number| (1 << 32) + number));
-    for number in numbers {
-        let start = [&[1, 1, b'k'], &encode(number)[..]].concat();
-        script.after(&[], &table_message(DEFINITION, &start));
-        for length in [0, 1, 3, 4, 5, 15, 16, 17, 63, 64, 65, (1 << 32) + 4] {
-            let body = [&start[..], &encode(length), &[0]].concat();
-            script.after(&[], &table_message(DEFINITION, &body));
-            script.add(Command::Dump);
-        }
-    }
-    script.0
 }
 
 /// Headers next to those that are known.

@@ -3,10 +3,11 @@
 use super::builder::Builder;
 use super::profile::Operation;
 use super::values::{shape, table_id, update_id, Shape};
-use super::wire::{self, overflows, Message, KEY_TYPE};
+use super::wire::{self, overflows, Message, KEY_TYPE, NAME};
 use crate::datatype;
 use crate::frame::TABLE_CLASS;
 use crate::integer::encode;
+use crate::message::DEFINITION;
 use crate::record::Record;
 use crate::store::{BINARY, INTEGER, IPV4, STRING};
 
@@ -29,7 +30,7 @@ fn choose(builder: &mut Builder) -> usize {
     if builder.store.free_table().is_none() && builder.random.chance(400) {
         return 6;
     }
-    builder.random.weighted(&[2, 2, 2, 5, 9, 4, 1, 4, 4, 1])
+    builder.random.weighted(&[2, 2, 2, 5, 9, 4, 1, 4, 4, 1, 5])
 }
 
 /// A message for the refusal with this number plus 20, if the state has one.
@@ -48,15 +49,18 @@ fn numbered(builder: &mut Builder, number: usize) -> Option<Vec<u8>> {
             Some(spoiled(builder, &message))
         }
         8 => no_previous(builder),
-        _ => no_room(builder).map(|message| spoiled(builder, &message)),
+        9 => no_room(builder).map(|message| spoiled(builder, &message)),
+        _ => Some(not_plain(builder)),
     }
 }
 
-/// A message, sometimes cut or with a field out of range.
+/// A message, sometimes cut or with a field out of range; a definition also
+/// with a name that isn't plain.
 fn spoiled(builder: &mut Builder, message: &Message) -> Vec<u8> {
     let bad = match builder.random.below(10) {
         0 => Some(message.cut(builder.random)),
         1 => message.out_of_range(builder.random),
+        9 if message.kind == DEFINITION => Some(message.with_bad_field(NAME, builder.random)),
         _ => None,
     };
     bad.unwrap_or_else(|| message.bytes())
@@ -147,6 +151,27 @@ fn bad_key(builder: &mut Builder) -> Vec<u8> {
     let message = builder.message(Operation::Define);
     let place = builder.random.pick(&[KEY_TYPE, KEY_TYPE + 1]);
     message.with_bad_field(place, builder.random)
+}
+
+/// A definition whose name isn't plain, often with another fault before or
+/// behind the name.
+fn not_plain(builder: &mut Builder) -> Vec<u8> {
+    let other = match builder.random.below(4) {
+        0 => disagreeing(builder),
+        1 => ninth_table(builder),
+        2 => Some(builder.message(Operation::Redefine)),
+        _ => None,
+    };
+    let message = other.unwrap_or_else(|| any_definition(builder));
+    let bad = message.fields[NAME].bad(builder.random);
+    let message = message.with(NAME, bad);
+    let spoiled = match builder.random.below(8) {
+        0 => Some(message.up_to(NAME).bytes()),
+        1 => Some(message.cut(builder.random)),
+        2 | 3 => message.out_of_range(builder.random),
+        _ => None,
+    };
+    spoiled.unwrap_or_else(|| message.bytes())
 }
 
 /// A definition of a new name with any data types.

@@ -130,26 +130,30 @@ pub fn update_id(random: &mut Random) -> u32 {
 
 /// A table name; few of them are frequent, some are first parts of others.
 pub fn table_name(random: &mut Random) -> Vec<u8> {
-    let long = b"name-of-thirty-two-bytes-length!";
+    let long = b"name-of-thirty-two-bytes-length:";
     match random.below(16) {
         0 => b"t".to_vec(),
         1 => b"t1".to_vec(),
         2 => b"t2".to_vec(),
-        3 => b"t1 ".to_vec(),
+        3 => b"t1.".to_vec(),
         4 => long.to_vec(),
         5 => long[..31].to_vec(),
-        6 => [&long[..31], b"?"].concat(),
-        7 => vec![0],
-        8 => vec![0, 0],
-        9 => vec![b'\n', 255],
+        6 => [&long[..31], b"_"].concat(),
+        7 => b"-".to_vec(),
+        8 => b"--".to_vec(),
+        9 => b"/0".to_vec(),
         _ => any_name(random),
     }
 }
 
-/// A name of any bytes.
+/// The plain bytes, those next to bytes that aren't plain first.
+const PLAIN: &[u8; 67] = b"-:AZ_az./0123456789BCDEFGHIJKLMNOPQRSTUVWXYbcdefghijklmnopqrstuvwxy";
+
+/// A name of any plain bytes.
 fn any_name(random: &mut Random) -> Vec<u8> {
     let length = random.pick(&[1, 1, 1, 2, 2, 3, 5, 31, 32]);
-    random.bytes(length)
+    let count = random.pick(&[7, PLAIN.len()]);
+    (0..length).map(|_| random.pick(&PLAIN[..count])).collect()
 }
 
 /// The shape of a table.

@@ -44,19 +44,47 @@ impl Field {
         Field::integer(value, &[1 << 32], &[(1 << 32) + 1, 4328786160, u64::MAX])
     }
 
+    /// A table name, and the name with its first or its last byte not plain.
+    fn name(name: &[u8]) -> Field {
+        let last = name.len() - 1;
+        let places = if last == 0 { vec![0] } else { vec![0, last] };
+        let with = |bytes: &[u8]| {
+            let all = |&at: &usize| bytes.iter().map(move |&byte| replaced(name, at, byte));
+            places.iter().flat_map(all).collect()
+        };
+        Field {
+            good: name.to_vec(),
+            near: with(NEXT_TO_PLAIN),
+            far: with(FAR_FROM_PLAIN),
+        }
+    }
+
     /// Whether there are bytes that are out of range.
     fn can_be_bad(&self) -> bool {
         !self.far.is_empty()
     }
 
     /// Bytes that are out of range.
-    fn bad(&self, random: &mut Random) -> Vec<u8> {
+    pub fn bad(&self, random: &mut Random) -> Vec<u8> {
         let list = match self.near.is_empty() || random.chance(300) {
             true => &self.far,
             false => &self.near,
         };
         list[random.below(list.len())].clone()
     }
+}
+
+/// Bytes that aren't plain, next to plain ones.
+pub const NEXT_TO_PLAIN: &[u8] = b",;@[^`{";
+
+/// Bytes that aren't plain; two of them are letters but for their first bit.
+pub const FAR_FROM_PLAIN: &[u8] = b"\0\n +?~\x7F\x80\xC1\xFA\xFF";
+
+/// A name with another byte at a place.
+fn replaced(name: &[u8], at: usize, byte: u8) -> Vec<u8> {
+    let mut name = name.to_vec();
+    name[at] = byte;
+    name
 }
 
 /// Encoded integers that overflow.
@@ -76,6 +104,9 @@ pub fn overflows() -> Vec<Vec<u8>> {
         with(0xFF, 0xFF, 0x0E),
     ]
 }
+
+/// The place of the name among the fields of a definition.
+pub const NAME: usize = 2;
 
 /// The place of the key type among the fields of a definition; the key length
 /// follows it.
@@ -130,12 +161,25 @@ impl Message {
 
     /// The message with other bytes in place of a field; whole or up to it.
     pub fn with_field(&self, place: usize, bytes: Vec<u8>, whole: bool) -> Vec<u8> {
+        let other = self.with(place, bytes);
+        match whole {
+            true => other.bytes(),
+            false => other.up_to(place).bytes(),
+        }
+    }
+
+    /// The message with no field behind this one.
+    pub fn up_to(&self, place: usize) -> Message {
+        let mut other = self.clone();
+        other.fields.truncate(place + 1);
+        other
+    }
+
+    /// The message with other bytes in place of a field.
+    pub fn with(&self, place: usize, bytes: Vec<u8>) -> Message {
         let mut other = self.clone();
         other.fields[place].good = bytes;
-        if !whole {
-            other.fields.truncate(place + 1);
-        }
-        other.bytes()
+        other
     }
 }
 
@@ -153,7 +197,7 @@ pub fn definition(id: u64, name: &[u8], shape: Shape, times: Option<&Times>) -> 
     let mut fields = vec![
         Field::integer_32(id),
         Field::integer(name.len() as u64, &[0, 33], &[34, 239, 240, u64::MAX]),
-        Field::raw(name),
+        Field::name(name),
         key_type(shape.key_type),
         Field::integer(shape.key_length, near, far),
         Field::integer(shape.data_types, &[1 << 19], &[1 << 20, 1 << 32, u64::MAX]),

@@ -31,6 +31,11 @@ struct Seen {
     key_types: BTreeSet<u64>,
     bad_key_types: BTreeSet<u64>,
     bad_key_lengths: BTreeMap<u64, BTreeSet<u64>>,
+    name_bytes: BTreeSet<u8>,
+    not_plain_first: BTreeSet<u8>,
+    not_plain_last: BTreeSet<u8>,
+    not_plain_at_the_end: u32,
+    not_plain_on_full: u32,
     key_lengths: BTreeSet<usize>,
     data_types: BTreeSet<u32>,
     server_ids: BTreeSet<i32>,
@@ -159,9 +164,26 @@ impl Seen {
             &step.before.unfinished[..],
             &step.piece[..step.outcome.taken],
         ];
-        if let (24, [10, 130, rest @ ..]) = (number, &message.concat()[..]) {
-            self.refused_key(rest);
+        match (number, &message.concat()[..]) {
+            (24, [10, 130, rest @ ..]) => drop(self.refused_key(rest)),
+            (30, [10, 130, rest @ ..]) => self.refused_name(rest).unwrap(),
+            _ => {}
         }
+        let full = number == 30 && step.store.free_table().is_none();
+        self.not_plain_on_full += u32::from(full);
+    }
+
+    /// Looks at a name that isn't plain.
+    fn refused_name(&mut self, bytes: &[u8]) -> Option<()> {
+        let mut rest = bytes;
+        let (_length, _id) = (integer(&mut rest)?, integer(&mut rest)?);
+        let length = integer(&mut rest)? as usize;
+        let name = &rest[..length];
+        let bad = |byte: &u8| !byte.is_ascii_alphanumeric() && !b"._-/:".contains(byte);
+        self.not_plain_first.extend(name.first().filter(|b| bad(b)));
+        self.not_plain_last.extend(name.last().filter(|b| bad(b)));
+        self.not_plain_at_the_end += u32::from(rest.len() == length);
+        Some(())
     }
 
     /// Looks at the key type and the key length of a definition that is out
@@ -190,6 +212,8 @@ impl Seen {
         self.rebound += (0..TABLES).filter(lost).count() as u32;
         self.times_dropped += u32::from(times(step.store) < step.times_before);
         self.bound_ids.extend(step.record.bound[place]);
+        self.name_bytes
+            .extend(&step.store.table(place).unwrap().name);
     }
 
     /// Looks at an accepted update.
@@ -268,7 +292,7 @@ fn seen() -> Seen {
 fn the_streams_reach_all_rules() {
     let seen = seen();
     let refusals: Vec<u8> = seen.refusals.keys().copied().collect();
-    let expected: Vec<u8> = [1, 2].into_iter().chain(10..=15).chain(20..=29).collect();
+    let expected: Vec<u8> = [1, 2].into_iter().chain(10..=15).chain(20..=30).collect();
     assert_eq!(refusals, expected);
     for (number, &count) in &seen.refusals {
         assert!(count >= 10, "refusal {number}: {count}");
@@ -283,6 +307,7 @@ fn the_streams_reach_all_rules() {
     assert!(seen.reconnections > 200);
     reaches_all_values(&seen);
     reaches_all_bad_keys(&seen);
+    reaches_all_name_bytes(&seen);
     reaches_all_divisions(&seen);
 }
 
@@ -314,6 +339,17 @@ fn reaches_all_bad_keys(seen: &Seen) {
         let found = &seen.bad_key_lengths[&key_type];
         assert!(lengths.iter().all(|n| found.contains(n)), "{key_type}");
     }
+}
+
+/// All plain bytes are accepted; those next to them are refused at both ends
+/// of a name.
+fn reaches_all_name_bytes(seen: &Seen) {
+    assert_eq!(seen.name_bytes.len(), 67);
+    for byte in b",;@[^`{\0\n +?~\x7F\x80\xC1\xFA\xFF" {
+        assert!(seen.not_plain_first.contains(byte), "{byte}");
+        assert!(seen.not_plain_last.contains(byte), "{byte}");
+    }
+    assert!(seen.not_plain_at_the_end >= 10 && seen.not_plain_on_full >= 3);
 }
 
 /// Pieces end after every byte of short messages, in all rooms.

@@ -75,7 +75,7 @@ fn ends() {
 fn other_lines() {
     let mut input = HELLO.to_vec();
     input.extend([0, 0, 0, 2, 0, 3, 0, 4]);
-    input.extend(message(130, &definition(300, &[0xAB, 0x0C], [2, 4, 0])));
+    input.extend(message(130, &definition(300, b"z:", [2, 4, 0])));
     input.extend(message(130, &timed(2, b"b", [2, 4, 0], &[1])));
     input.extend(message(131, &[0xFC, 3]));
     input.extend(message(133, &[9, 0xFF, 0xFF, 0xFF, 0xFE]));
@@ -89,7 +89,7 @@ partial
 reply 0003
 confirm
 heartbeat
-table 0 AB0C
+table 0 7A3A
 table 1 62
 switch 0
 ack 9 4294967294

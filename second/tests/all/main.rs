@@ -5,6 +5,7 @@ mod common;
 mod data;
 mod generator;
 mod handshake;
+mod ill_named;
 mod integer;
 mod listing;
 mod long;

@@ -27,8 +27,9 @@ fn base() -> Session {
 
 type StoreRow = fn(&Store) -> bool;
 
-const STORE_ROWS: [(&str, StoreRow); 14] = [
+const STORE_ROWS: [(&str, StoreRow); 15] = [
     ("name length", names_are_within_limits),
+    ("plain names", names_are_plain),
     ("key type", key_types_are_known),
     ("key length", key_lengths_match_types),
     ("data types", data_types_are_known),
@@ -80,10 +81,15 @@ fn a_sound_store() {
 fn table_names() {
     table_case(&["name length"], |table| table.name = vec![]);
     table_case(&["name length"], |table| table.name = vec![b'n'; 33]);
-    table_case(&[], |table| table.name = vec![0; 32]);
-    table_case(&[], |table| table.name = vec![255]);
+    table_case(&[], |table| table.name = vec![b':'; 32]);
+    for byte in 0..=255u8 {
+        let plain = byte.is_ascii_alphanumeric() || b"._-/:".contains(&byte);
+        let rows: &[&str] = if plain { &[] } else { &["plain names"] };
+        table_case(rows, |table| table.name = vec![byte, b'n']);
+        table_case(rows, |table| table.name = vec![b'n', byte]);
+    }
     table_case(&["distinct names"], |table| table.name = b"b".to_vec());
-    table_case(&[], |table| table.name = b"b\0".to_vec());
+    table_case(&[], |table| table.name = b"b-".to_vec());
 }
 
 #[test]
@@ -255,7 +261,7 @@ fn a_sound_record() {
 #[test]
 fn closing_numbers() {
     for number in 0..=255 {
-        let good = matches!(number, 0 | 1 | 3 | 10..=15 | 20..=29);
+        let good = matches!(number, 0 | 1 | 3 | 10..=15 | 20..=30);
         let rows: &[&str] = if good { &[] } else { &["number"] };
         record_case(rows, |record| record.phase = Phase::Closed(number));
     }

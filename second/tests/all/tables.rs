@@ -28,7 +28,7 @@ fn a_new_table() {
 fn eight_tables_and_a_ninth() {
     let mut session = Session::open();
     for place in 0..8 {
-        let body = definition(100 + place as u64, &[place as u8], [2, 4, 0]);
+        let body = definition(100 + place as u64, &[b'a' + place as u8], [2, 4, 0]);
         assert_eq!(session.one(130, &body), Answer::Table { place });
         assert_eq!(session.record.current, Some(place));
     }
@@ -43,7 +43,7 @@ fn eight_tables_and_a_ninth() {
     assert_eq!(session.store, held.store);
     assert_eq!(session.record.bound, held.record.bound);
     let mut session = held;
-    let again = definition(1, &[3], [2, 4, 0]);
+    let again = definition(1, b"d", [2, 4, 0]);
     assert_eq!(session.one(130, &again), Answer::Table { place: 3 });
 }
 
@@ -69,7 +69,7 @@ fn ids() {
 #[test]
 fn name_lengths() {
     for length in [1, 2, 31, 32] {
-        let body = definition(1, &vec![0; length], [2, 4, 0]);
+        let body = definition(1, &vec![b'-'; length], [2, 4, 0]);
         assert_eq!(defined(&body), Answer::Table { place: 0 });
     }
     for length in [0, 33, 64, 300] {
@@ -78,6 +78,83 @@ fn name_lengths() {
         let start = encoded(&[1, length as u64]);
         assert_eq!(defined(&start), refused(24), "{length}");
     }
+}
+
+/// Whether a byte may be part of a table name.
+fn plain(byte: u8) -> bool {
+    byte.is_ascii_alphanumeric() || matches!(byte, b'.' | b'_' | b'-' | b'/' | b':')
+}
+
+#[test]
+fn names_of_every_byte() {
+    for byte in 0..=255 {
+        let expected = match plain(byte) {
+            true => Answer::Table { place: 0 },
+            false => refused(30),
+        };
+        for length in [1, 2, 32] {
+            for at in [0, length / 2, length - 1] {
+                let mut name = vec![b'n'; length];
+                name[at] = byte;
+                let body = definition(1, &name, [2, 4, 0]);
+                assert_eq!(defined(&body), expected, "{byte} {length} {at}");
+            }
+        }
+    }
+    assert_eq!((0..=255).filter(|&byte| plain(byte)).count(), 67);
+}
+
+#[test]
+fn a_name_that_is_not_plain_closes_the_session() {
+    let base = Session::with_tables(&[&definition(1, b"t", [2, 4, 0])]);
+    let mut session = base.clone();
+    let body = definition(1, b"t\n", [2, 4, 0]);
+    let response = session.respond(&crate::common::message(130, &body));
+    assert_eq!(response.answer, refused(30));
+    assert_eq!(response.reply, [1, 0]);
+    let mut expected = base;
+    expected.record.phase = Phase::Closed(30);
+    assert_eq!(session, expected);
+}
+
+#[test]
+fn a_name_is_judged_when_whole_and_before_the_key_type() {
+    let body = definition(300, b" n", [2, 4, 0]);
+    for length in 0..=body.len() {
+        let expected = if length < 5 { refused(23) } else { refused(30) };
+        assert_eq!(defined(&body[..length]), expected, "{length}");
+    }
+    for shape in [[0, 4, 0], [2, 5, 0], [2, 4, 1 << 19], [u64::MAX; 3]] {
+        assert_eq!(defined(&definition(1, b"n ", shape)), refused(30));
+    }
+    let overflow = [&encoded(&[1, 1])[..], b" ", &[0xFF; 10]].concat();
+    assert_eq!(defined(&overflow), refused(30));
+    assert_eq!(defined(&definition(MAX + 1, b" ", [2, 4, 0])), refused(24));
+    assert_eq!(defined(&definition(1, &[b' '; 33], [2, 4, 0])), refused(24));
+}
+
+#[test]
+fn a_name_that_is_not_plain_on_a_full_store() {
+    let mut session = Session::open();
+    for name in b"abcdefgh" {
+        session.one(130, &definition(u64::from(*name), &[*name], [2, 4, 0]));
+    }
+    assert_eq!(
+        session.would(130, &definition(1, b"i", [2, 4, 0])),
+        refused(26)
+    );
+    assert_eq!(
+        session.would(130, &definition(1, b"i ", [2, 4, 0])),
+        refused(30)
+    );
+    assert_eq!(
+        session.would(130, &definition(1, b"a", [4, 4, 0])),
+        refused(25)
+    );
+    assert_eq!(
+        session.would(130, &definition(1, b"a\0", [4, 4, 0])),
+        refused(30)
+    );
 }
 
 #[test]
@@ -240,7 +317,7 @@ fn a_held_name_must_agree() {
     }
     let agreeing = definition(2, b"t", [6, 10, 4]);
     assert_eq!(base.would(130, &agreeing), Answer::Table { place: 0 });
-    let other_name = definition(2, b"t\0", [6, 11, 4]);
+    let other_name = definition(2, b"t-", [6, 11, 4]);
     assert_eq!(base.would(130, &other_name), Answer::Table { place: 1 });
 }
 

@@ -379,7 +379,8 @@ fn bodies_are_judged_when_whole() {
 fn order_of_definition_refusals() {
     let mut session = Session::open();
     for place in 0..8u8 {
-        session.one(130, &definition(u64::from(place), &[place], [2, 4, 1 << 3]));
+        let name = [b'0' + place];
+        session.one(130, &definition(u64::from(place), &name, [2, 4, 1 << 3]));
     }
     // A new name with 8 tables, cut or out of range.
     let ninth = definition(1, b"x", [2, 4, 1 << 3]);
@@ -388,7 +389,7 @@ fn order_of_definition_refusals() {
     let over = [&ninth[..], &encode(MAX + 1)].concat();
     assert_eq!(session.would(130, &over), refused(24));
     // A held name that disagrees, cut or out of range.
-    let other = definition(1, &[3], [4, 4, 1 << 3]);
+    let other = definition(1, b"3", [4, 4, 1 << 3]);
     assert_eq!(session.would(130, &other), refused(25));
     assert_eq!(session.would(130, &other[..4]), refused(23));
     let over = [&other[..], &encode(MAX + 1)].concat();

@@ -17,11 +17,8 @@ enum-known-update c = search acknowledgement-laws
 enum-told : tie.Need-enum-told
 enum-told c = search acknowledgement-laws
 
-enum-told-2 : tie.Need-enum-told-2
-enum-told-2 c = search acknowledgement-laws
-
-enum-told-3 : tie.Need-enum-told-3
-enum-told-3 c = search acknowledgement-laws
+enum-known-f : tie.Need-enum-known-f
+enum-known-f c = search acknowledgement-laws
 
 returns : tie.Need-returns
 returns c = search acknowledgement-laws
@@ -32,21 +29,7 @@ returns-2 c = search acknowledgement-laws
 returns-3 : tie.Need-returns-3
 returns-3 c = search acknowledgement-laws
 
-returns-4 : tie.Need-returns-4
-returns-4 c = search acknowledgement-laws
-
 pub read-acknowledgement-spec : {M : Type 1} → statement M
 read-acknowledgement-spec =
     tie.close
-    (tie.spec
-    read-word-requires
-    enum-known-id
-    read-number-requires
-    enum-known-update
-    enum-told
-    enum-told-2
-    enum-told-3
-    returns
-    returns-2
-    returns-3
-    returns-4)
+    (tie.spec read-word-requires enum-known-id read-number-requires enum-known-update enum-told enum-known-f returns returns-2 returns-3)

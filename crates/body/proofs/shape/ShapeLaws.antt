@@ -7,16 +7,17 @@ use mathlib.Core.Bool.{Bool, true, false}
 use borrow.Author.Needs.{needs}
 use borrow.Author.Tests.{lt-ltb, le-ltb, lt-leb, le-leb}
 use Rattle.lists.proofs.Cases.{lt-or-le, split, not-passed}
-use Rattle.wire.specs.declared.values.Field.{Field}
-use Rattle.wire.specs.declared.values.Field.the-variants as field
+use Rattle.body.specs.declared.Failure.{Failure}
+use Rattle.body.specs.declared.IntRead.{IntRead}
+use Rattle.body.specs.declared.IntRead.the-variants as int
 use Rattle.store.specs.declared.types.KeyKind.{KeyKind}
 use Rattle.store.specs.Limits.{keyKind, isKnown, dataTypesOk, keyLengthOk}
 use Rattle.store.proofs.Rules.{known-small, key-length-most}
 use Rattle.body.specs.Fields.{andThen, integer, between}
 use Rattle.body.specs.Bodies.{isKeyType, shapeFields}
-use Rattle.body.specs.Results.{fieldRead, shapeRead}
+use Rattle.body.specs.Results.{intRead, shapeRead}
 use Rattle.body.specs.declared.shape.ShapeRead.the-variants as shape-read
-use Rattle.body.proofs.FieldLaws.{same-integer, field-got}
+use Rattle.body.proofs.FieldLaws.{same-integer, int-got}
 use Rattle.body.proofs.Taken.{integer-passed, between-high}
 
 -- ---- `is_key_type`
@@ -43,51 +44,39 @@ small-type : (n : ℕ) → isKeyType n ≡ true → n < 8
 unfolding isKeyType
 small-type n t = known-small n t
 
-module _ (s : List ℕ) (at : ℕ) (f : Field) (p : fieldRead f ≡ integer isKeyType s at) where
-  pub type-short : f ≡ field.Short → shapeRead shape-read.Short ≡ shapeFields s at
-  unfolding shapeFields shapeRead andThen fieldRead
-  type-short e = rw (← p, e)
+module _ (s : List ℕ) (at : ℕ) (f : IntRead) (p : intRead f ≡ integer isKeyType s at) where
+  pub type-failed : (x : Failure) → f ≡ int.Failed x → shapeRead (shape-read.Failed x) ≡ shapeFields s at
+  unfolding shapeFields shapeRead andThen intRead
+  type-failed x e = rw (← p, e)
 
-  pub type-out : f ≡ field.OutOfRange → shapeRead shape-read.OutOfRange ≡ shapeFields s at
-  unfolding shapeFields shapeRead andThen fieldRead
-  type-out e = rw (← p, e)
+  pub type-fits : (kind at₁ : ℕ) → f ≡ int.Value kind at₁ → kind < 2 ^ 32
+  type-fits kind at₁ e = omega (arith, small-type kind (integer-passed isKeyType s at kind at₁ (int-got _ f p kind at₁ e)))
 
-  pub type-fits : (kind at₁ : ℕ) → f ≡ field.Value kind at₁ → kind < 2 ^ 32
-  type-fits kind at₁ e = omega (arith, small-type kind (integer-passed isKeyType s at kind at₁ (field-got _ f p kind at₁ e)))
+  module _ (kind at₁ : ℕ) (e : f ≡ int.Value kind at₁) (g : IntRead) (p₁ : intRead g ≡ integer (keyLengthOk kind) s at₁) where
+    pub len-failed : (x : Failure) → g ≡ int.Failed x → shapeRead (shape-read.Failed x) ≡ shapeFields s at
+    unfolding shapeFields shapeRead andThen intRead
+    len-failed x e₁ = rw (← p, e, ← p₁, e₁)
 
-  module _ (kind at₁ : ℕ) (e : f ≡ field.Value kind at₁) (g : Field) (p₁ : fieldRead g ≡ integer (keyLengthOk kind) s at₁) where
-    pub len-short : g ≡ field.Short → shapeRead shape-read.Short ≡ shapeFields s at
-    unfolding shapeFields shapeRead andThen fieldRead
-    len-short e₁ = rw (← p, e, ← p₁, e₁)
-
-    pub len-out : g ≡ field.OutOfRange → shapeRead shape-read.OutOfRange ≡ shapeFields s at
-    unfolding shapeFields shapeRead andThen fieldRead
-    len-out e₁ = rw (← p, e, ← p₁, e₁)
-
-    module _ (len at₂ : ℕ) (e₁ : g ≡ field.Value len at₂) (h : Field) (p₂ : fieldRead h ≡ integer (between 0 0x7ffff) s at₂) where
-      types-read : fieldRead h ≡ integer dataTypesOk s at₂
+    module _ (len at₂ : ℕ) (e₁ : g ≡ int.Value len at₂) (h : IntRead) (p₂ : intRead h ≡ integer (between 0 0x7ffff) s at₂) where
+      types-read : intRead h ≡ integer dataTypesOk s at₂
       types-read = p₂ ∙ same-integer (between 0 0x7ffff) dataTypesOk types-between s at₂
 
-      pub types-short : h ≡ field.Short → shapeRead shape-read.Short ≡ shapeFields s at
-      unfolding shapeFields shapeRead andThen fieldRead
-      types-short e₂ = rw (← p, e, ← p₁, e₁, ← types-read, e₂)
+      pub types-failed : (x : Failure) → h ≡ int.Failed x → shapeRead (shape-read.Failed x) ≡ shapeFields s at
+      unfolding shapeFields shapeRead andThen intRead
+      types-failed x e₂ = rw (← p, e, ← p₁, e₁, ← types-read, e₂)
 
-      pub types-out : h ≡ field.OutOfRange → shapeRead shape-read.OutOfRange ≡ shapeFields s at
-      unfolding shapeFields shapeRead andThen fieldRead
-      types-out e₂ = rw (← p, e, ← p₁, e₁, ← types-read, e₂)
-
-      pub types-value : (types next : ℕ) → h ≡ field.Value types next → shapeRead (shape-read.Fields kind len types next) ≡ shapeFields s at
-      unfolding shapeFields shapeRead andThen fieldRead
+      pub types-value : (types next : ℕ) → h ≡ int.Value types next → shapeRead (shape-read.Fields kind len types next) ≡ shapeFields s at
+      unfolding shapeFields shapeRead andThen intRead
       types-value types next e₂ = rw (← p, e, ← p₁, e₁, ← types-read, e₂)
 
-pub len-fits : (kind : ℕ) (s : List ℕ) (at : ℕ) (g : Field) → fieldRead g ≡ integer (keyLengthOk kind) s at → (len next : ℕ) → g ≡ field.Value len next
+pub len-fits : (kind : ℕ) (s : List ℕ) (at : ℕ) (g : IntRead) → intRead g ≡ integer (keyLengthOk kind) s at → (len next : ℕ) → g ≡ int.Value len next
     → len < 2 ^ 32
 len-fits kind s at g p len next e =
-    omega (arith, key-length-most kind len (integer-passed (keyLengthOk kind) s at len next (field-got _ g p len next e)))
+    omega (arith, key-length-most kind len (integer-passed (keyLengthOk kind) s at len next (int-got _ g p len next e)))
 
-pub types-fits : (high : ℕ) (s : List ℕ) (at : ℕ) (h : Field) → fieldRead h ≡ integer (between 0 high) s at → high < 2 ^ 32
-    → (types next : ℕ) → h ≡ field.Value types next → types < 2 ^ 32
+pub types-fits : (high : ℕ) (s : List ℕ) (at : ℕ) (h : IntRead) → intRead h ≡ integer (between 0 high) s at → high < 2 ^ 32
+    → (types next : ℕ) → h ≡ int.Value types next → types < 2 ^ 32
 types-fits high s at h p l types next e =
-    omega (arith, between-high 0 high types (integer-passed (between 0 high) s at types next (field-got _ h p types next e)))
+    omega (arith, between-high 0 high types (integer-passed (between 0 high) s at types next (int-got _ h p types next e)))
 
-pub ruleset shape-laws = (needs, type-short, type-out, type-fits, len-fits, len-short, len-out, types-short, types-out, types-value, types-fits)
+pub ruleset shape-laws = (needs, type-failed, type-fits, len-fits, len-failed, types-failed, types-value, types-fits)

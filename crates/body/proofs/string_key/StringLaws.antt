@@ -3,26 +3,23 @@ use Prim.Native.Nat.{ℕ, _-_}
 use mathlib.Core.Path.{_≡_}
 use mathlib.Core.List.{List}
 use borrow.Author.Needs.{needs}
-use Rattle.wire.specs.declared.values.Field.{Field}
-use Rattle.wire.specs.declared.values.Field.the-variants as field
+use Rattle.body.specs.declared.Failure.{Failure}
+use Rattle.body.specs.declared.IntRead.{IntRead}
+use Rattle.body.specs.declared.IntRead.the-variants as int
 use Rattle.body.specs.declared.PartRead.{PartRead}
 use Rattle.body.specs.declared.PartRead.the-variants as part
 use Rattle.body.specs.Fields.{andThen, integer, between, bytes}
 use Rattle.body.specs.Bodies.{stringField}
-use Rattle.body.specs.Results.{fieldRead, partRead}
+use Rattle.body.specs.Results.{intRead, partRead}
 
 -- ---- `read_string`
-module _ (n : ℕ) (s : List ℕ) (at : ℕ) (r : Field) (p : fieldRead r ≡ integer (between 0 n) s at) where
-  pub string-short : r ≡ field.Short → partRead part.Short ≡ stringField n s at
-  unfolding stringField andThen partRead fieldRead
-  string-short e = rw (← p, e)
+module _ (n : ℕ) (s : List ℕ) (at : ℕ) (r : IntRead) (p : intRead r ≡ integer (between 0 n) s at) where
+  pub string-failed : (f : Failure) → r ≡ (int.Failed f) → partRead (part.Failed f) ≡ stringField n s at
+  unfolding stringField andThen partRead intRead
+  string-failed f e = rw (← p, e)
 
-  pub string-out : r ≡ field.OutOfRange → partRead part.OutOfRange ≡ stringField n s at
-  unfolding stringField andThen partRead fieldRead
-  string-out e = rw (← p, e)
-
-  pub string-bytes : (len next : ℕ) → r ≡ field.Value len next → (q : PartRead) → partRead q ≡ bytes len s next → partRead q ≡ stringField n s at
-  unfolding stringField andThen fieldRead
+  pub string-bytes : (len next : ℕ) → r ≡ int.Value len next → (q : PartRead) → partRead q ≡ bytes len s next → partRead q ≡ stringField n s at
+  unfolding stringField andThen intRead
   string-bytes len next e q h = rw (← p, e) h
 
-pub ruleset string-laws = (needs, string-short, string-out, string-bytes)
+pub ruleset string-laws = (needs, string-failed, string-bytes)

@@ -9,14 +9,15 @@ use lib.ListN.{length, replicate}
 use borrow.Author.Needs.{needs}
 use borrow.Author.Tests.{lt-leb, le-leb, eq-eqb, ne-eqb}
 use Rattle.lists.proofs.Cases.{lt-or-le, split}
-use Rattle.wire.specs.declared.values.Field.{Field}
-use Rattle.wire.specs.declared.values.Field.the-variants as field
+use Rattle.body.specs.declared.Failure.{Failure}
+use Rattle.body.specs.declared.IntRead.{IntRead}
+use Rattle.body.specs.declared.IntRead.the-variants as int
 use Rattle.store.specs.Limits.{present}
 use Rattle.body.specs.declared.Word.{Word}
 use Rattle.body.specs.declared.Word.the-variants as word
 use Rattle.body.specs.Fields.{andThen, integer, between, integerOf}
 use Rattle.body.specs.Bodies.{pairField, periodField, periodFields, noTimes, timesThere, timesFields}
-use Rattle.body.specs.Results.{fieldRead, wordRead, readAs, timesStruct, timesResult}
+use Rattle.body.specs.Results.{intRead, wordRead, readAs, timesStruct, timesResult}
 use Rattle.body.specs.declared.Reading.{Reading}
 use Rattle.body.specs.declared.Reading.the-variants as reading
 use Rattle.body.specs.declared.times.TimesRead.{TimesRead}
@@ -46,23 +47,19 @@ module _ (types t : ℕ) (s : List ℕ) (at : ℕ) where
 pub ruleset period-laws = (needs, so-true, so-false, period-absent, period-there)
 
 -- ---- `read_pair`, where r is what was read of the number
-module _ (t : ℕ) (s : List ℕ) (at : ℕ) (r : Field) (p : fieldRead r ≡ integer (between t t) s at) where
-  number-read : fieldRead r ≡ integer (λ n. eqb n t) s at
+module _ (t : ℕ) (s : List ℕ) (at : ℕ) (r : IntRead) (p : intRead r ≡ integer (between t t) s at) where
+  number-read : intRead r ≡ integer (λ n. eqb n t) s at
   number-read = p ∙ same-integer (between t t) (λ n. eqb n t) (exact t) s at
 
-  pub pair-short : r ≡ field.Short → wordRead word.Short ≡ pairField t s at
-  unfolding pairField andThen wordRead fieldRead
-  pair-short e = rw (← number-read, e)
+  pub pair-failed : (f : Failure) → r ≡ (int.Failed f) → wordRead (word.Failed f) ≡ pairField t s at
+  unfolding pairField andThen wordRead intRead
+  pair-failed f e = rw (← number-read, e)
 
-  pub pair-out : r ≡ field.OutOfRange → wordRead word.OutOfRange ≡ pairField t s at
-  unfolding pairField andThen wordRead fieldRead
-  pair-out e = rw (← number-read, e)
-
-  pub pair-number : (v next : ℕ) → r ≡ field.Value v next → (w : Word) → wordRead w ≡ integerOf 32 s next → wordRead w ≡ pairField t s at
-  unfolding pairField andThen fieldRead
+  pub pair-number : (v next : ℕ) → r ≡ int.Value v next → (w : Word) → wordRead w ≡ integerOf 32 s next → wordRead w ≡ pairField t s at
+  unfolding pairField andThen intRead
   pair-number v next e w q = rw (← number-read, e) q
 
-pub ruleset pair-laws = (needs, pair-short, pair-out, pair-number)
+pub ruleset pair-laws = (needs, pair-failed, pair-number)
 
 -- ---- `read_times`, where w is what was read of the expiry, and how and ps what was read of the periods
 module _ (types : ℕ) (s : List ℕ) (at : ℕ) where
@@ -71,24 +68,15 @@ module _ (types : ℕ) (s : List ℕ) (at : ℕ) where
   ended x p h = p ∙ rw (eq-eqb at (length s) h)
 
   module _ (h : at ≡ length s → ⊥) (w : Word) (p : wordRead w ≡ integerOf 32 s at) where
-    pub expiry-short : (x : TimesRead) → x ≡ timesStruct reading.Short noTimes → w ≡ word.Short → x ≡ timesResult (timesFields types s at)
+    pub expiry-failed : (f : Failure) → (x : TimesRead) → x ≡ timesStruct (reading.Failed f) noTimes → w ≡ (word.Failed f) → x ≡ timesResult (timesFields types s at)
     unfolding timesFields timesThere timesResult andThen wordRead
-    expiry-short x q e = q ∙ rw (ne-eqb at (length s) h, ← p, e)
-
-    pub expiry-out : (x : TimesRead) → x ≡ timesStruct reading.OutOfRange noTimes → w ≡ word.OutOfRange → x ≡ timesResult (timesFields types s at)
-    unfolding timesFields timesThere timesResult andThen wordRead
-    expiry-out x q e = q ∙ rw (ne-eqb at (length s) h, ← p, e)
+    expiry-failed f x q e = q ∙ rw (ne-eqb at (length s) h, ← p, e)
 
     module _ (expiry at₁ : ℕ) (e : w ≡ word.Value expiry at₁) (how : Reading) (ps : List ℕ) (p₁ : readAs how ps ≡ periodFields types s at₁) where
-      pub periods-short : (x : TimesRead) → x ≡ timesStruct reading.Short noTimes
-          → how ≡ reading.Short → x ≡ timesResult (timesFields types s at)
+      pub periods-failed : (f : Failure) → (x : TimesRead) → x ≡ timesStruct (reading.Failed f) noTimes
+          → how ≡ (reading.Failed f) → x ≡ timesResult (timesFields types s at)
       unfolding timesFields timesThere timesResult andThen wordRead readAs
-      periods-short x q e₁ = q ∙ rw (ne-eqb at (length s) h, ← p, e, ← p₁, e₁)
-
-      pub periods-out : (x : TimesRead) → x ≡ timesStruct reading.OutOfRange noTimes
-          → how ≡ reading.OutOfRange → x ≡ timesResult (timesFields types s at)
-      unfolding timesFields timesThere timesResult andThen wordRead readAs
-      periods-out x q e₁ = q ∙ rw (ne-eqb at (length s) h, ← p, e, ← p₁, e₁)
+      periods-failed f x q e₁ = q ∙ rw (ne-eqb at (length s) h, ← p, e, ← p₁, e₁)
 
       pub periods-whole : (next : ℕ) → how ≡ reading.Whole next
           → _≡_ {A = TimesRead}
@@ -97,7 +85,7 @@ module _ (types : ℕ) (s : List ℕ) (at : ℕ) where
       unfolding timesFields timesThere timesResult timesStruct andThen wordRead readAs
       periods-whole next e₁ = rw (ne-eqb at (length s) h, ← p, e, ← p₁, e₁)
 
-pub ruleset times-laws = (needs, ended, expiry-short, expiry-out, periods-short, periods-out, periods-whole)
+pub ruleset times-laws = (needs, ended, expiry-failed, periods-failed, periods-whole)
 
 -- ---- `no_times`
 pub none : (how : Reading) → _≡_ {A = TimesRead} (record { reading = how; timed = 0; expiry = 0; periods = replicate 8 0 }) (timesStruct how noTimes)

@@ -18,6 +18,8 @@ use Rattle.wire.specs.declared.fixed.FourBytes.{FourBytes}
 use Rattle.wire.specs.declared.fixed.FourBytes.the-variants as number
 use Rattle.wire.specs.Number.{readNumber}
 use Rattle.store.specs.declared.Table.{Table}
+use Rattle.body.specs.declared.Failure.{Failure}
+use Rattle.body.specs.declared.Failure.the-variants as failure
 use Rattle.body.specs.declared.Reading.{Reading}
 use Rattle.body.specs.declared.Reading.the-variants as reading
 use Rattle.body.specs.declared.update_data.DataRead.{DataRead}
@@ -39,27 +41,17 @@ pub ruleset key-laws = (needs, so-true, so-false, key-string, key-bytes)
 
 -- ---- `read_entry`, where q is what was read of the key and d of the data
 module _ (t : Table) (id : ℕ) (s : List ℕ) (at : ℕ) (q : PartRead) (p : partRead q ≡ keyField (t .«key_type») (t .«key_len») s at) where
-  pub key-short : (x : UpdateBody) → x ≡ updateStruct reading.Short noUpdate
-      → q ≡ part.Short → x ≡ updateBody (entryFields t id s at)
+  pub key-failed : (f : Failure) → (x : UpdateBody) → x ≡ updateStruct (reading.Failed f) noUpdate
+      → q ≡ (part.Failed f) → x ≡ updateBody (entryFields t id s at)
   unfolding entryFields updateBody andThen partRead
-  key-short x h e = h ∙ rw (← p, e)
-
-  pub key-out : (x : UpdateBody) → x ≡ updateStruct reading.OutOfRange noUpdate
-      → q ≡ part.OutOfRange → x ≡ updateBody (entryFields t id s at)
-  unfolding entryFields updateBody andThen partRead
-  key-out x h e = h ∙ rw (← p, e)
+  key-failed f x h e = h ∙ rw (← p, e)
 
   module _ (start len at₁ : ℕ) (e : q ≡ part.Bytes start len at₁)
       (d : DataRead) (p₁ : d ≡ dataResult (dataFields (t .«data_types») s at₁)) where
-    pub data-short : (x : UpdateBody) → x ≡ updateStruct reading.Short noUpdate
-        → d .reading ≡ reading.Short → x ≡ updateBody (entryFields t id s at)
+    pub data-failed : (f : Failure) → (x : UpdateBody) → x ≡ updateStruct (reading.Failed f) noUpdate
+        → d .reading ≡ (reading.Failed f) → x ≡ updateBody (entryFields t id s at)
     unfolding entryFields updateBody andThen partRead readAs
-    data-short x h e₁ = h ∙ rw (← p, e, data-given (dataFields (t .«data_types») s at₁) d p₁, e₁)
-
-    pub data-out : (x : UpdateBody) → x ≡ updateStruct reading.OutOfRange noUpdate
-        → d .reading ≡ reading.OutOfRange → x ≡ updateBody (entryFields t id s at)
-    unfolding entryFields updateBody andThen partRead readAs
-    data-out x h e₁ = h ∙ rw (← p, e, data-given (dataFields (t .«data_types») s at₁) d p₁, e₁)
+    data-failed f x h e₁ = h ∙ rw (← p, e, data-given (dataFields (t .«data_types») s at₁) d p₁, e₁)
 
   pub data-whole : (start len at₁ : ℕ) → q ≡ part.Bytes start len at₁
       → (d : DataRead) → d ≡ dataResult (dataFields (t .«data_types») s at₁)
@@ -70,11 +62,11 @@ module _ (t : Table) (id : ℕ) (s : List ℕ) (at : ℕ) (q : PartRead) (p : pa
   unfolding entryFields updateBody updateStruct andThen partRead readAs
   data-whole start len at₁ e d p₁ next e₁ = rw (← p, e, data-given (dataFields (t .«data_types») s at₁) d p₁, e₁)
 
-pub ruleset entry-laws = (needs, key-short, key-out, data-short, data-out, data-whole)
+pub ruleset entry-laws = (needs, key-failed, data-failed, data-whole)
 
 -- ---- `read_update` and `read_incremental`, where m is what was read of the ID
 module _ (t : Table) (s : List ℕ) (m : FourBytes) (p : m ≡ readNumber s 0) where
-  pub id-short : (x : UpdateBody) → x ≡ updateStruct reading.Short noUpdate
+  pub id-short : (x : UpdateBody) → x ≡ updateStruct (reading.Failed failure.Short) noUpdate
       → m ≡ number.Short → x ≡ updateBody (updateFields t s)
   unfolding updateFields updateBody andThen number4 numberRead
   id-short x h e = h ∙ rw (← p, e)

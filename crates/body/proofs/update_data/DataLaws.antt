@@ -17,6 +17,8 @@ use Rattle.store.specs.Limits.{present, isWide, widthOf}
 use Rattle.body.specs.Fields.{andThen, serverRead, serverId}
 use Rattle.body.specs.Bodies.{serverField, slotField, valueFields, dataFields}
 use Rattle.body.specs.Results.{fieldRead, readAs, dataStruct, noData, dataResult}
+use Rattle.body.specs.declared.Failure.{Failure}
+use Rattle.body.specs.declared.Failure.the-variants as failure
 use Rattle.body.specs.declared.Reading.{Reading}
 use Rattle.body.specs.declared.Reading.the-variants as reading
 use Rattle.body.specs.declared.update_data.DataRead.{DataRead}
@@ -49,29 +51,25 @@ pub ruleset slot-laws = (needs, so-true, so-false, slot-absent, slot-wide, slot-
 
 -- ---- `read_data`, where r is what was read of the server ID, and how and vs what was read of the values
 module _ (types : ℕ) (s : List ℕ) (at : ℕ) (r : ServerId) (p : serverRead r ≡ serverField types s at) where
-  pub server-short : (x : DataRead) → x ≡ dataStruct reading.Short noData → r ≡ server.Short → x ≡ dataResult (dataFields types s at)
+  pub server-short : (x : DataRead) → x ≡ dataStruct (reading.Failed failure.Short) noData → r ≡ server.Short → x ≡ dataResult (dataFields types s at)
   unfolding dataFields dataResult andThen serverRead
   server-short x q e = q ∙ rw (← p, e)
 
-  pub server-out : (x : DataRead) → x ≡ dataStruct reading.OutOfRange noData → r ≡ server.OutOfRange → x ≡ dataResult (dataFields types s at)
+  pub server-out : (x : DataRead) → x ≡ dataStruct (reading.Failed failure.OutOfRange) noData → r ≡ server.OutOfRange → x ≡ dataResult (dataFields types s at)
   unfolding dataFields dataResult andThen serverRead
   server-out x q e = q ∙ rw (← p, e)
 
   module _ (id : ℤ) (at₁ : ℕ) (e : r ≡ server.Id id at₁) (how : Reading) (vs : List ℕ) (p₁ : readAs how vs ≡ valueFields types s at₁) where
-    pub values-short : (x : DataRead) → x ≡ dataStruct reading.Short noData → how ≡ reading.Short → x ≡ dataResult (dataFields types s at)
+    pub values-failed : (f : Failure) → (x : DataRead) → x ≡ dataStruct (reading.Failed f) noData → how ≡ (reading.Failed f) → x ≡ dataResult (dataFields types s at)
     unfolding dataFields dataResult andThen serverRead readAs
-    values-short x q e₁ = q ∙ rw (← p, e, ← p₁, e₁)
-
-    pub values-out : (x : DataRead) → x ≡ dataStruct reading.OutOfRange noData → how ≡ reading.OutOfRange → x ≡ dataResult (dataFields types s at)
-    unfolding dataFields dataResult andThen serverRead readAs
-    values-out x q e₁ = q ∙ rw (← p, e, ← p₁, e₁)
+    values-failed f x q e₁ = q ∙ rw (← p, e, ← p₁, e₁)
 
     pub values-whole : (next : ℕ) → how ≡ reading.Whole next
         → _≡_ {A = DataRead} (record { reading = reading.Whole next; «server_id» = id; values = vs }) (dataResult (dataFields types s at))
     unfolding dataFields dataResult dataStruct andThen serverRead readAs
     values-whole next e₁ = rw (← p, e, ← p₁, e₁)
 
-pub ruleset data-laws = (needs, server-short, server-out, values-short, values-out, values-whole)
+pub ruleset data-laws = (needs, server-short, server-out, values-failed, values-whole)
 
 -- ---- `no_data`
 pub none : (how : Reading) → _≡_ {A = DataRead} (record { reading = how; «server_id» = pos 0; values = replicate 34 0 }) (dataStruct how noData)

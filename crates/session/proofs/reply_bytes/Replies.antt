@@ -20,9 +20,10 @@ module _ (n : ℕ) where
   no-limit a b c = rw (ne-eqb n 22 a, ne-eqb n 26 b, ne-eqb n 29 c)
 
   pub no-error : (n ≡ 20 → ⊥) → (n ≡ 21 → ⊥) → (n ≡ 23 → ⊥) → (n ≡ 24 → ⊥) → (n ≡ 25 → ⊥) → (n ≡ 27 → ⊥) → (n ≡ 28 → ⊥)
-      → false ≡ isProtocolError n
+      → (n ≡ 30 → ⊥) → false ≡ isProtocolError n
   unfolding isProtocolError
-  no-error a b c d e f g = rw (ne-eqb n 20 a, ne-eqb n 21 b, ne-eqb n 23 c, ne-eqb n 24 d, ne-eqb n 25 e, ne-eqb n 27 f, ne-eqb n 28 g)
+  no-error a b c d e f g h =
+      rw (ne-eqb n 20 a, ne-eqb n 21 b, ne-eqb n 23 c, ne-eqb n 24 d, ne-eqb n 25 e, ne-eqb n 27 f, ne-eqb n 28 g, ne-eqb n 30 h)
 
   pub no-line : (o : Reply) → o ≡ replyOf [] → (n ≡ 10 → ⊥) → (n ≡ 11 → ⊥) → (n ≡ 12 → ⊥) → (n ≡ 13 → ⊥) → o ≡ replyOf (refusalLine n)
   unfolding refusalLine

@@ -45,7 +45,7 @@ module _ (n : ℕ) where
       unfolding isClosing
       closing-between l m k = rw (ne-eqb n 0 z, ← o, le-leb 10 n l, lt-leb n 15 m, lt-leb 20 n k)
 
-      pub closing-message : 10 ≤ n → 15 < n → 20 ≤ n → leb n 29 ≡ isClosing n
+      pub closing-message : 10 ≤ n → 15 < n → 20 ≤ n → leb n 30 ≡ isClosing n
       unfolding isClosing
       closing-message l m k = rw (ne-eqb n 0 z, ← o, le-leb 10 n l, lt-leb n 15 m, le-leb 20 n k)
 

@@ -14,29 +14,17 @@ read-times-requires c κs = search rest-laws
 enum-known-how : tie.Need-enum-known-how
 enum-known-how c = search rest-laws
 
-enum-told : tie.Need-enum-told
-enum-told c = search rest-laws
+enum-known-how-2 : tie.Need-enum-known-how-2
+enum-known-how-2 c = search rest-laws
 
 no-definition-requires : tie.Need-no-definition-requires
 no-definition-requires c κs = search rest-laws
 
-enum-told-2 : tie.Need-enum-told-2
-enum-told-2 c = search rest-laws
+enum-known-f : tie.Need-enum-known-f
+enum-known-f c = search rest-laws
 
 no-definition-requires-2 : tie.Need-no-definition-requires-2
 no-definition-requires-2 c κs = search rest-laws
-
-enum-told-3 : tie.Need-enum-told-3
-enum-told-3 c = search rest-laws
-
-no-definition-requires-3 : tie.Need-no-definition-requires-3
-no-definition-requires-3 c κs = search rest-laws
-
-enum-told-4 : tie.Need-enum-told-4
-enum-told-4 c = search rest-laws
-
-no-definition-requires-4 : tie.Need-no-definition-requires-4
-no-definition-requires-4 c κs = search rest-laws
 
 returns : tie.Need-returns
 returns c = search rest-laws
@@ -47,30 +35,7 @@ returns-2 c = search rest-laws
 returns-3 : tie.Need-returns-3
 returns-3 c = search rest-laws
 
-returns-4 : tie.Need-returns-4
-returns-4 c = search rest-laws
-
-returns-5 : tie.Need-returns-5
-returns-5 c = search rest-laws
-
 pub read-rest-spec : {M : Type 1} → statement M
 read-rest-spec =
     tie.close
-    (tie.spec
-    read-shape-requires
-    enum-known-key-type
-    read-times-requires
-    enum-known-how
-    enum-told
-    no-definition-requires
-    enum-told-2
-    no-definition-requires-2
-    enum-told-3
-    no-definition-requires-3
-    enum-told-4
-    no-definition-requires-4
-    returns
-    returns-2
-    returns-3
-    returns-4
-    returns-5)
+    (tie.spec read-shape-requires enum-known-key-type read-times-requires enum-known-how enum-known-how-2 no-definition-requires enum-known-f no-definition-requires-2 returns returns-2 returns-3)

@@ -26,32 +26,23 @@ read-between-requires c κs = search shape-laws
 enum-known-types : tie.Need-enum-known-types
 enum-known-types c = search shape-laws
 
-cast-t17 : tie.Need-cast-t17
-cast-t17 c = search shape-laws
+cast-t20 : tie.Need-cast-t20
+cast-t20 c = search shape-laws
 
-cast-t18 : tie.Need-cast-t18
-cast-t18 c = search shape-laws
+cast-t21 : tie.Need-cast-t21
+cast-t21 c = search shape-laws
 
-cast-t19 : tie.Need-cast-t19
-cast-t19 c = search shape-laws
+cast-t22 : tie.Need-cast-t22
+cast-t22 c = search shape-laws
 
-enum-told : tie.Need-enum-told
-enum-told c = search shape-laws
+enum-known-f : tie.Need-enum-known-f
+enum-known-f c = search shape-laws
 
-enum-told-2 : tie.Need-enum-told-2
-enum-told-2 c = search shape-laws
+enum-known-f-2 : tie.Need-enum-known-f-2
+enum-known-f-2 c = search shape-laws
 
-enum-told-3 : tie.Need-enum-told-3
-enum-told-3 c = search shape-laws
-
-enum-told-4 : tie.Need-enum-told-4
-enum-told-4 c = search shape-laws
-
-enum-told-5 : tie.Need-enum-told-5
-enum-told-5 c = search shape-laws
-
-enum-told-6 : tie.Need-enum-told-6
-enum-told-6 c = search shape-laws
+enum-known-f-3 : tie.Need-enum-known-f-3
+enum-known-f-3 c = search shape-laws
 
 returns : tie.Need-returns
 returns c = search shape-laws
@@ -65,40 +56,7 @@ returns-3 c = search shape-laws
 returns-4 : tie.Need-returns-4
 returns-4 c = search shape-laws
 
-returns-5 : tie.Need-returns-5
-returns-5 c = search shape-laws
-
-returns-6 : tie.Need-returns-6
-returns-6 c = search shape-laws
-
-returns-7 : tie.Need-returns-7
-returns-7 c = search shape-laws
-
 pub read-shape-spec : {M : Type 1} → statement M
 read-shape-spec =
     tie.close
-    (tie.spec
-    read-key-type-requires
-    enum-known-kind
-    cast-read-key-len
-    read-key-len-requires
-    enum-known-len
-    cast-read-between
-    read-between-requires
-    enum-known-types
-    cast-t17
-    cast-t18
-    cast-t19
-    enum-told
-    enum-told-2
-    enum-told-3
-    enum-told-4
-    enum-told-5
-    enum-told-6
-    returns
-    returns-2
-    returns-3
-    returns-4
-    returns-5
-    returns-6
-    returns-7)
+    (tie.spec read-key-type-requires enum-known-kind cast-read-key-len read-key-len-requires enum-known-len cast-read-between read-between-requires enum-known-types cast-t20 cast-t21 cast-t22 enum-known-f enum-known-f-2 enum-known-f-3 returns returns-2 returns-3 returns-4)

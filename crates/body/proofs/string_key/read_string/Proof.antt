@@ -11,11 +11,8 @@ enum-known-len c = search string-laws
 read-part-requires : tie.Need-read-part-requires
 read-part-requires c κs = search string-laws
 
-enum-told : tie.Need-enum-told
-enum-told c = search string-laws
-
-enum-told-2 : tie.Need-enum-told-2
-enum-told-2 c = search string-laws
+enum-known-f : tie.Need-enum-known-f
+enum-known-f c = search string-laws
 
 returns : tie.Need-returns
 returns c = search string-laws
@@ -23,18 +20,7 @@ returns c = search string-laws
 returns-2 : tie.Need-returns-2
 returns-2 c = search string-laws
 
-returns-3 : tie.Need-returns-3
-returns-3 c = search string-laws
-
 pub read-string-spec : {M : Type 1} → statement M
 read-string-spec =
     tie.close
-    (tie.spec
-    read-between-requires
-    enum-known-len
-    read-part-requires
-    enum-told
-    enum-told-2
-    returns
-    returns-2
-    returns-3)
+    (tie.spec read-between-requires enum-known-len read-part-requires enum-known-f returns returns-2)

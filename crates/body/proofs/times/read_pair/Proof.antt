@@ -11,11 +11,8 @@ enum-known-next c = search pair-laws
 read-word-requires : tie.Need-read-word-requires
 read-word-requires c κs = search pair-laws
 
-enum-told : tie.Need-enum-told
-enum-told c = search pair-laws
-
-enum-told-2 : tie.Need-enum-told-2
-enum-told-2 c = search pair-laws
+enum-known-f : tie.Need-enum-known-f
+enum-known-f c = search pair-laws
 
 returns : tie.Need-returns
 returns c = search pair-laws
@@ -23,18 +20,7 @@ returns c = search pair-laws
 returns-2 : tie.Need-returns-2
 returns-2 c = search pair-laws
 
-returns-3 : tie.Need-returns-3
-returns-3 c = search pair-laws
-
 pub read-pair-spec : {M : Type 1} → statement M
 read-pair-spec =
     tie.close
-    (tie.spec
-    read-between-requires
-    enum-known-next
-    read-word-requires
-    enum-told
-    enum-told-2
-    returns
-    returns-2
-    returns-3)
+    (tie.spec read-between-requires enum-known-next read-word-requires enum-known-f returns returns-2)

@@ -38,38 +38,16 @@ loop-less c = search filling-laws
 loop-again : tie.Need-loop-again Inv-loop μ-loop
 loop-again c = search filling-laws
 
-enum-told : tie.Need-enum-told Inv-loop μ-loop
-enum-told c = search filling-laws
+enum-known-f : tie.Need-enum-known-f Inv-loop μ-loop
+enum-known-f c = search filling-laws
 
 returns : tie.Need-returns Inv-loop μ-loop
 returns c = search filling-laws
 
-enum-told-2 : tie.Need-enum-told-2 Inv-loop μ-loop
-enum-told-2 c = search filling-laws
-
 returns-2 : tie.Need-returns-2 Inv-loop μ-loop
 returns-2 c = search filling-laws
-
-returns-3 : tie.Need-returns-3 Inv-loop μ-loop
-returns-3 c = search filling-laws
 
 pub read-periods-spec : {M : Type 1} → statement M
 read-periods-spec =
     tie.close
-    (tie.spec
-    Inv-loop
-    μ-loop
-    loop-holds
-    rate-type-requires
-    read-period-requires
-    enum-known-value
-    mul-periods
-    array-write-periods
-    add-i
-    loop-less
-    loop-again
-    enum-told
-    returns
-    enum-told-2
-    returns-2
-    returns-3)
+    (tie.spec Inv-loop μ-loop loop-holds rate-type-requires read-period-requires enum-known-value mul-periods array-write-periods add-i loop-less loop-again enum-known-f returns returns-2)

@@ -20,29 +20,17 @@ read-periods-requires c κs = search times-laws
 enum-known-how : tie.Need-enum-known-how
 enum-known-how c = search times-laws
 
-enum-told : tie.Need-enum-told
-enum-told c = search times-laws
+enum-known-how-2 : tie.Need-enum-known-how-2
+enum-known-how-2 c = search times-laws
 
 no-times-requires-2 : tie.Need-no-times-requires-2
 no-times-requires-2 c κs = search times-laws
 
-enum-told-2 : tie.Need-enum-told-2
-enum-told-2 c = search times-laws
+enum-known-f : tie.Need-enum-known-f
+enum-known-f c = search times-laws
 
 no-times-requires-3 : tie.Need-no-times-requires-3
 no-times-requires-3 c κs = search times-laws
-
-enum-told-3 : tie.Need-enum-told-3
-enum-told-3 c = search times-laws
-
-no-times-requires-4 : tie.Need-no-times-requires-4
-no-times-requires-4 c κs = search times-laws
-
-enum-told-4 : tie.Need-enum-told-4
-enum-told-4 c = search times-laws
-
-no-times-requires-5 : tie.Need-no-times-requires-5
-no-times-requires-5 c κs = search times-laws
 
 returns-2 : tie.Need-returns-2
 returns-2 c = search times-laws
@@ -53,32 +41,7 @@ returns-3 c = search times-laws
 returns-4 : tie.Need-returns-4
 returns-4 c = search times-laws
 
-returns-5 : tie.Need-returns-5
-returns-5 c = search times-laws
-
-returns-6 : tie.Need-returns-6
-returns-6 c = search times-laws
-
 pub read-times-spec : {M : Type 1} → statement M
 read-times-spec =
     tie.close
-    (tie.spec
-    no-times-requires
-    returns
-    read-word-requires
-    enum-known-expiry
-    read-periods-requires
-    enum-known-how
-    enum-told
-    no-times-requires-2
-    enum-told-2
-    no-times-requires-3
-    enum-told-3
-    no-times-requires-4
-    enum-told-4
-    no-times-requires-5
-    returns-2
-    returns-3
-    returns-4
-    returns-5
-    returns-6)
+    (tie.spec no-times-requires returns read-word-requires enum-known-expiry read-periods-requires enum-known-how enum-known-how-2 no-times-requires-2 enum-known-f no-times-requires-3 returns-2 returns-3 returns-4)

@@ -17,29 +17,17 @@ read-data-requires c κs = search entry-laws
 enum-known-how : tie.Need-enum-known-how
 enum-known-how c = search entry-laws
 
-enum-told : tie.Need-enum-told
-enum-told c = search entry-laws
+enum-known-how-2 : tie.Need-enum-known-how-2
+enum-known-how-2 c = search entry-laws
 
 no-update-requires : tie.Need-no-update-requires
 no-update-requires c κs = search entry-laws
 
-enum-told-2 : tie.Need-enum-told-2
-enum-told-2 c = search entry-laws
+enum-known-f : tie.Need-enum-known-f
+enum-known-f c = search entry-laws
 
 no-update-requires-2 : tie.Need-no-update-requires-2
 no-update-requires-2 c κs = search entry-laws
-
-enum-told-3 : tie.Need-enum-told-3
-enum-told-3 c = search entry-laws
-
-no-update-requires-3 : tie.Need-no-update-requires-3
-no-update-requires-3 c κs = search entry-laws
-
-enum-told-4 : tie.Need-enum-told-4
-enum-told-4 c = search entry-laws
-
-no-update-requires-4 : tie.Need-no-update-requires-4
-no-update-requires-4 c κs = search entry-laws
 
 returns : tie.Need-returns
 returns c = search entry-laws
@@ -50,31 +38,7 @@ returns-2 c = search entry-laws
 returns-3 : tie.Need-returns-3
 returns-3 c = search entry-laws
 
-returns-4 : tie.Need-returns-4
-returns-4 c = search entry-laws
-
-returns-5 : tie.Need-returns-5
-returns-5 c = search entry-laws
-
 pub read-entry-spec : {M : Type 1} → statement M
 read-entry-spec =
     tie.close
-    (tie.spec
-    cast-key-len
-    read-key-requires
-    enum-known-start
-    read-data-requires
-    enum-known-how
-    enum-told
-    no-update-requires
-    enum-told-2
-    no-update-requires-2
-    enum-told-3
-    no-update-requires-3
-    enum-told-4
-    no-update-requires-4
-    returns
-    returns-2
-    returns-3
-    returns-4
-    returns-5)
+    (tie.spec cast-key-len read-key-requires enum-known-start read-data-requires enum-known-how enum-known-how-2 no-update-requires enum-known-f no-update-requires-2 returns returns-2 returns-3)

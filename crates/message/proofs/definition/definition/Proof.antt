@@ -26,17 +26,11 @@ make-table-requires c κs = search reading-definition
 define-named-requires : tie.Need-define-named-requires
 define-named-requires c κs = search reading-definition
 
-enum-told-2 : tie.Need-enum-told-2
-enum-told-2 c = search reading-definition
+enum-known-reading : tie.Need-enum-known-reading
+enum-known-reading c = search reading-definition
 
-refuse-requires : tie.Need-refuse-requires
-refuse-requires c κs = search reading-definition
-
-enum-told-3 : tie.Need-enum-told-3
-enum-told-3 c = search reading-definition
-
-refuse-requires-2 : tie.Need-refuse-requires-2
-refuse-requires-2 c κs = search reading-definition
+refuse-body-requires : tie.Need-refuse-body-requires
+refuse-body-requires c κs = search reading-definition
 
 returns : tie.Need-returns
 returns c = search reading-definition
@@ -44,25 +38,7 @@ returns c = search reading-definition
 returns-2 : tie.Need-returns-2
 returns-2 c = search reading-definition
 
-returns-3 : tie.Need-returns-3
-returns-3 c = search reading-definition
-
 pub definition-spec : {M : Type 1} → statement M
 definition-spec =
     tie.close
-    (tie.spec
-    read-definition-requires
-    enum-told
-    add-end
-    sub-name
-    part-name-start
-    part-name-end
-    make-table-requires
-    define-named-requires
-    enum-told-2
-    refuse-requires
-    enum-told-3
-    refuse-requires-2
-    returns
-    returns-2
-    returns-3)
+    (tie.spec read-definition-requires enum-told add-end sub-name part-name-start part-name-end make-table-requires define-named-requires enum-known-reading refuse-body-requires returns returns-2)

@@ -14,17 +14,11 @@ no-reply-requires c κs = search noting
 no-change-requires : tie.Need-no-change-requires
 no-change-requires c κs = search noting
 
-enum-told : tie.Need-enum-told
-enum-told c = search noting
+enum-known-failure : tie.Need-enum-known-failure
+enum-known-failure c = search noting
 
-refuse-requires : tie.Need-refuse-requires
-refuse-requires c κs = search noting
-
-enum-told-2 : tie.Need-enum-told-2
-enum-told-2 c = search noting
-
-refuse-requires-2 : tie.Need-refuse-requires-2
-refuse-requires-2 c κs = search noting
+refuse-body-requires : tie.Need-refuse-body-requires
+refuse-body-requires c κs = search noting
 
 returns : tie.Need-returns
 returns c = search noting
@@ -32,21 +26,7 @@ returns c = search noting
 returns-2 : tie.Need-returns-2
 returns-2 c = search noting
 
-returns-3 : tie.Need-returns-3
-returns-3 c = search noting
-
 pub acknowledgement-spec : {M : Type 1} → statement M
 acknowledgement-spec =
     tie.close
-    (tie.spec
-    read-acknowledgement-requires
-    enum-known-id
-    no-reply-requires
-    no-change-requires
-    enum-told
-    refuse-requires
-    enum-told-2
-    refuse-requires-2
-    returns
-    returns-2
-    returns-3)
+    (tie.spec read-acknowledgement-requires enum-known-id no-reply-requires no-change-requires enum-known-failure refuse-body-requires returns returns-2)

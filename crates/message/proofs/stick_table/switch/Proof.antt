@@ -8,23 +8,14 @@ read-switch-requires c κs = search switching
 enum-known-value : tie.Need-enum-known-value
 enum-known-value c = search switching
 
-cast-switch-to : tie.Need-cast-switch-to
-cast-switch-to c = search switching
-
 switch-to-requires : tie.Need-switch-to-requires
 switch-to-requires c κs = search switching
 
-enum-told : tie.Need-enum-told
-enum-told c = search switching
+enum-known-failure : tie.Need-enum-known-failure
+enum-known-failure c = search switching
 
-refuse-requires : tie.Need-refuse-requires
-refuse-requires c κs = search switching
-
-enum-told-2 : tie.Need-enum-told-2
-enum-told-2 c = search switching
-
-refuse-requires-2 : tie.Need-refuse-requires-2
-refuse-requires-2 c κs = search switching
+refuse-body-requires : tie.Need-refuse-body-requires
+refuse-body-requires c κs = search switching
 
 returns : tie.Need-returns
 returns c = search switching
@@ -32,21 +23,7 @@ returns c = search switching
 returns-2 : tie.Need-returns-2
 returns-2 c = search switching
 
-returns-3 : tie.Need-returns-3
-returns-3 c = search switching
-
 pub switch-spec : {M : Type 1} → statement M
 switch-spec =
     tie.close
-    (tie.spec
-    read-switch-requires
-    enum-known-value
-    cast-switch-to
-    switch-to-requires
-    enum-told
-    refuse-requires
-    enum-told-2
-    refuse-requires-2
-    returns
-    returns-2
-    returns-3)
+    (tie.spec read-switch-requires enum-known-value switch-to-requires enum-known-failure refuse-body-requires returns returns-2)

@@ -23,17 +23,14 @@ make-entry-requires c κs = search reading-fields
 ask-commit-requires : tie.Need-ask-commit-requires
 ask-commit-requires c κs = search reading-fields
 
-enum-told-2 : tie.Need-enum-told-2
-enum-told-2 c = search reading-fields
+enum-known-reading : tie.Need-enum-known-reading
+enum-known-reading c = search reading-fields
 
-ask-refusal-requires : tie.Need-ask-refusal-requires
-ask-refusal-requires c κs = search reading-fields
+refuse-body-requires : tie.Need-refuse-body-requires
+refuse-body-requires c κs = search reading-fields
 
-enum-told-3 : tie.Need-enum-told-3
-enum-told-3 c = search reading-fields
-
-ask-refusal-requires-2 : tie.Need-ask-refusal-requires-2
-ask-refusal-requires-2 c κs = search reading-fields
+ask-nothing-requires : tie.Need-ask-nothing-requires
+ask-nothing-requires c κs = search reading-fields
 
 returns : tie.Need-returns
 returns c = search reading-fields
@@ -41,24 +38,7 @@ returns c = search reading-fields
 returns-2 : tie.Need-returns-2
 returns-2 c = search reading-fields
 
-returns-3 : tie.Need-returns-3
-returns-3 c = search reading-fields
-
 pub with-fields-spec : {M : Type 1} → statement M
 with-fields-spec =
     tie.close
-    (tie.spec
-    enum-told
-    add-end
-    sub-key
-    part-key-start
-    part-key-end
-    make-entry-requires
-    ask-commit-requires
-    enum-told-2
-    ask-refusal-requires
-    enum-told-3
-    ask-refusal-requires-2
-    returns
-    returns-2
-    returns-3)
+    (tie.spec enum-told add-end sub-key part-key-start part-key-end make-entry-requires ask-commit-requires enum-known-reading refuse-body-requires ask-nothing-requires returns returns-2)

@@ -33,9 +33,13 @@ unfolding isProtocolError
 returns-7 c = rw (c .match .keys7)
 
 returns-8 : tie.Need-returns-8
-returns-8 c = search (needs, no-error)
+unfolding isProtocolError
+returns-8 c = rw (c .match .keys8)
+
+returns-9 : tie.Need-returns-9
+returns-9 c = search (needs, no-error)
 
 pub is-protocol-error-spec : {M : Type 1} → statement M
 is-protocol-error-spec =
     tie.close
-    (tie.spec returns returns-2 returns-3 returns-4 returns-5 returns-6 returns-7 returns-8)
+    (tie.spec returns returns-2 returns-3 returns-4 returns-5 returns-6 returns-7 returns-8 returns-9)

@@ -2,8 +2,8 @@ use Rattle.store_soundness.proofs.table.TableTests.{table-rows}
 use Rattle.store_soundness.proofs.table.held_table_ok.Statement.{statement}
 use Rattle.store_soundness.proofs.table.held_table_ok.Tie as tie
 
-within-requires : tie.Need-within-requires
-within-requires c κs = search table-rows
+table-name-ok-requires : tie.Need-table-name-ok-requires
+table-name-ok-requires c κs = search table-rows
 
 returns : tie.Need-returns
 returns c = search table-rows
@@ -36,7 +36,7 @@ pub held-table-ok-spec : {M : Type 1} → statement M
 held-table-ok-spec =
     tie.close
     (tie.spec
-    within-requires
+    table-name-ok-requires
     returns
     key-kind-requires
     is-known-requires
