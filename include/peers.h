@@ -28,7 +28,7 @@ extern "C" {
 
 /* ---- version */
 
-#define PEERS_VERSION 3 /* of the calls: their names, parameters, numbers and meaning */
+#define PEERS_VERSION 4 /* of the calls: their names, parameters, numbers and meaning */
 #define PEERS_LAYOUT 2  /* of the structs: their fields, order and sizes */
 
 /* The archive's version times 65,536 plus its layout. */
@@ -208,6 +208,11 @@ enum peers_answer {
     PEERS_SKIPPED = 269         /* its type */
 };
 
+/*
+ * PEERS_REFUSED_CUT, PEERS_REFUSED_RANGE and PEERS_REFUSED_TABLE_NAME have one value: the offset in the message's body, from 0, at which the
+ * failing field starts. A field is one integer, also a length or a 4-byte update ID, or the bytes of a name or a key; where no byte of it is
+ * there, the offset is the body's length. Other refusals have no value, and the closed record has the number alone.
+ */
 enum peers_refusal {
     PEERS_REFUSED_ROOM = 1,       /* too little room; nothing changed */
     PEERS_REFUSED_CLOSED = 2,     /* the session is closed; nothing changed */
@@ -222,8 +227,8 @@ enum peers_refusal {
     PEERS_REFUSED_HEADER = 20,    /* unknown class or type */
     PEERS_REFUSED_LENGTH = 21,    /* the body's length overflows */
     PEERS_REFUSED_SIZE = 22,      /* the body is over 1,024 bytes */
-    PEERS_REFUSED_CUT = 23,       /* the body ends before a field is whole */
-    PEERS_REFUSED_RANGE = 24,     /* a field overflows or is out of range */
+    PEERS_REFUSED_CUT = 23,       /* the body ends before a field is whole; its value says which */
+    PEERS_REFUSED_RANGE = 24,     /* a field overflows or is out of range; its value says which */
     PEERS_REFUSED_DISAGREES = 25, /* the held table of this name is another */
     PEERS_REFUSED_TABLES = 26,    /* a new name, and all table places are held */
     PEERS_REFUSED_UNBOUND = 27,   /* no current table, or a switch to an unbound ID */

@@ -63,6 +63,11 @@ fn session(role: Role) -> peers::Session {
     opened.expect("the names are good")
 }
 
+/// The values of a refusal.
+fn offset_values(offset: Option<usize>) -> Vec<u64> {
+    offset.into_iter().map(|offset| offset as u64).collect()
+}
+
 /// The number and values of an answer.
 fn numbers(answer: peers::Answer) -> (u32, Vec<u64>) {
     use peers::Answer;
@@ -89,7 +94,7 @@ fn numbers(answer: peers::Answer) -> (u32, Vec<u64>) {
         }
         Answer::Acknowledgement { id, update } => (268, vec![id.into(), update.into()]),
         Answer::Skipped { kind } => (269, vec![kind.into()]),
-        Answer::Refused(refusal) => (refusal.number().into(), vec![]),
+        Answer::Refused { refusal, offset } => (refusal.number().into(), offset_values(offset)),
     }
 }
 
@@ -266,7 +271,7 @@ fn second_numbers(answer: second::answer::Answer) -> (u32, Vec<u64>) {
         }
         Answer::Acknowledged { id, update } => (268, vec![id.into(), update.into()]),
         Answer::Skipped { kind } => (269, vec![kind.into()]),
-        Answer::Refused { number } => (number.into(), vec![]),
+        Answer::Refused(refusal) => (refusal.number.into(), offset_values(refusal.offset)),
     }
 }
 

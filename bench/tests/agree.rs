@@ -11,6 +11,7 @@ use second::replay::{command, Command};
 const FILL: u8 = 0xAA;
 
 /// The receivers side by side.
+#[derive(Clone)]
 struct All {
     library: Library,
     plain: Plain,
@@ -129,6 +130,47 @@ fn on_every_byte_of_a_name() {
                 all.take(HELLO);
                 all.take(&message(130, &body));
             }
+        }
+    }
+}
+
+/// Bodies of each message, with strings of all data types in the current table.
+fn bodies() -> Vec<(u8, Vec<u8>)> {
+    let ints = |values: &[u64]| values.iter().flat_map(|&value| int(value)).collect();
+    let values: Vec<u8> = ints(&(0..35).map(|n| n * 150).collect::<Vec<_>>());
+    let rates = [3, 5, 8, 10, 12, 14, 16, 18].map(|rate| [rate, 5000]);
+    let times: Vec<u8> = ints(&[&[60_000][..], &rates.concat()].concat());
+    let string = peers::KeyType::String.number();
+    let name_and_keys = [2, b't', b'u', string, 16];
+    let definition = [&int(300), &name_and_keys[..], &int(0x7_FFFF), &times].concat();
+    let key = [&[3][..], b"key", &values].concat();
+    vec![
+        (130, definition),
+        (128, [&[0, 0, 0, 9], &key[..]].concat()),
+        (129, key),
+        (131, int(300)),
+        (133, [&int(300)[..], &[0, 0, 0, 9]].concat()),
+    ]
+}
+
+/// Each byte of a body replaced by several, in the whole body and where the body ends with it.
+#[test]
+fn on_bodies_that_break() {
+    let mut base = All::open(Role::Answerer);
+    base.take(HELLO);
+    for (kind, body) in bodies() {
+        base.take(&message(kind, &body));
+    }
+    for (kind, body) in bodies() {
+        for at in 0..body.len() {
+            for byte in [0, 1, 3, 8, b'\n', 33, 65, 127, 128, 239, 240, 255] {
+                let mut broken = body.clone();
+                broken[at] = byte;
+                base.clone().take(&message(kind, &broken));
+                base.clone().take(&message(kind, &broken[..=at]));
+            }
+            let overflows = [&body[..at], &[255; 10], &body[at..]].concat();
+            base.clone().take(&message(kind, &overflows));
         }
     }
 }

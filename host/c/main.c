@@ -10,6 +10,7 @@ int main(int argc, char **argv) {
         test_bytes();
         test_listing();
         test_definition();
+        test_offsets();
         test_unsound();
         test_random();
         test_freeing();

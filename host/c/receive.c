@@ -4,6 +4,12 @@
 
 static struct peers_store store; /* zeros: empty */
 
+static void print_refusal(const struct peers_outcome *outcome) {
+    printf("refused with %u: %s", (unsigned)outcome->number, peers_refusal_text(outcome->number));
+    if (outcome->count == 1) printf(" (at offset %u of the body)", (unsigned)outcome->values[0]);
+    printf("\n");
+}
+
 static void print_entry(const struct peers_entry *entry) {
     const struct peers_table *table = &store.tables[entry->table];
     printf("%.*s", (int)table->name_len, (const char *)table->name);
@@ -26,7 +32,7 @@ int main(void) {
             struct peers_outcome outcome = peers_read(&session, &store, piece + at, len - at, room, sizeof room);
             at += outcome.taken;
             /* a host sends the first outcome.reply_len bytes of the room to the peer here */
-            if (outcome.number < PEERS_MORE) printf("refused with %u: %s\n", (unsigned)outcome.number, peers_refusal_text(outcome.number));
+            if (outcome.number < PEERS_MORE) print_refusal(&outcome);
             if (outcome.taken == 0) return 1; /* offered again, the bytes would be refused again */
         }
     }

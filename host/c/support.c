@@ -70,6 +70,11 @@ void establish(struct state state) {
     CHECK(call(state, (const uint8_t *)hello, sizeof hello - 1, 12, reply).number == PEERS_HELLO);
 }
 
+/* Whether a refusal says where the body broke. */
+static bool has_offset(uint32_t number) {
+    return number == PEERS_REFUSED_CUT || number == PEERS_REFUSED_RANGE || number == PEERS_REFUSED_TABLE_NAME;
+}
+
 struct peers_outcome call(struct state state, const uint8_t *piece, size_t len, size_t room, uint8_t reply[12]) {
     uint8_t *lent_piece = lend(len), *lent_room = lend(room);
     memcpy(lent_piece, piece, len);
@@ -79,6 +84,7 @@ struct peers_outcome call(struct state state, const uint8_t *piece, size_t len, 
     CHECK(memcmp(lent_piece, piece, len) == 0);
     memcpy(reply, lent_room, outcome.reply_len);
     for (size_t i = outcome.reply_len; i < room; i++) CHECK(lent_room[i] == FILL);
+    if (outcome.number < PEERS_MORE) CHECK(outcome.count == (has_offset(outcome.number) ? 1 : 0) && outcome.values[0] <= 1024);
     for (size_t i = outcome.count; i < 4; i++) CHECK(outcome.values[i] == 0);
     give_back(lent_piece, len);
     give_back(lent_room, room);

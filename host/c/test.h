@@ -43,7 +43,8 @@ void open_answerer_on(struct state state); /* the store stays */
 void open_caller(struct state state);
 void establish(struct state state);
 
-/* One call, with piece and room in such memory. The reply is left in `reply`, and the room past it must stay. */
+/* One call, with piece and room in such memory. The reply is left in `reply`, and the room past it must stay. A refusal must have a value
+ * if it is one that says where the body broke, and no other may. */
 struct peers_outcome call(struct state state, const uint8_t *piece, size_t len, size_t room, uint8_t reply[12]);
 
 /* Offers bytes until all are taken or the session is closed; every answer but "more wanted" goes to `told`. */
@@ -74,6 +75,7 @@ void test_texts(const char *file);
 void test_opening(void);
 void test_listing(void);
 void test_definition(void);
+void test_offsets(void);
 void test_unsound(void);
 void test_random(void);
 void test_freeing(void);

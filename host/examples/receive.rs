@@ -18,8 +18,8 @@ fn main() -> Result<(), Box<dyn std::error::Error>> {
             let step = session.read(&mut store, rest, &mut room);
             rest = &rest[step.taken..];
             // a host sends step.reply to the peer here
-            if let Answer::Refused(refusal) = step.answer {
-                println!("{refusal}");
+            if let Answer::Refused { refusal, .. } = step.answer {
+                println!("{}", step.answer);
                 if step.taken == 0 {
                     return Err(refusal.into()); // offered again, the bytes would be refused again
                 }

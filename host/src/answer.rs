@@ -75,7 +75,14 @@ pub enum Answer {
         kind: u8,
     },
     /// A refusal.
-    Refused(Refusal),
+    Refused {
+        /// Why.
+        refusal: Refusal,
+        /// Where the message's body broke, for [`Refusal::Cut`], [`Refusal::Range`] and [`Refusal::TableName`]: the offset in the body, from
+        /// 0, at which the failing field starts. A field is one integer, also a length or a 4-byte update ID, or the bytes of a name or a
+        /// key; where no byte of it is there, the offset is the body's length.
+        offset: Option<usize>,
+    },
 }
 
 /// Why a call refused.
@@ -234,7 +241,14 @@ impl fmt::Display for Answer {
                 write!(f, "acknowledgement (table ID {id}, update {update})")
             }
             Answer::Skipped { kind } => write!(f, "message skipped (type {kind})"),
-            Answer::Refused(refusal) => refusal.fmt(f),
+            Answer::Refused {
+                refusal,
+                offset: None,
+            } => refusal.fmt(f),
+            Answer::Refused {
+                refusal,
+                offset: Some(offset),
+            } => write!(f, "{refusal} (at offset {offset} of the body)"),
         }
     }
 }
@@ -281,7 +295,7 @@ impl Answer {
             269 => Answer::Skipped {
                 kind: values[0] as u8,
             },
-            number => Answer::refused(number),
+            number => Answer::refused(number, &values[..outcome.count as usize]),
         }
     }
 
@@ -298,8 +312,11 @@ impl Answer {
         }
     }
 
-    fn refused(number: u32) -> Answer {
+    fn refused(number: u32, values: &[u64]) -> Answer {
         let refusal = u8::try_from(number).ok().and_then(Refusal::of);
-        Answer::Refused(refusal.expect("the library gives no other number"))
+        Answer::Refused {
+            refusal: refusal.expect("the library gives no other number"),
+            offset: values.first().map(|&offset| offset as usize),
+        }
     }
 }

@@ -39,7 +39,7 @@ extern "C" {
 }
 
 /// The version of the calls and that of the structs' layout, as in `include/peers.h`.
-pub const VERSION: u32 = 3;
+pub const VERSION: u32 = 4;
 pub const LAYOUT: u32 = 2;
 
 /// The archive's version and layout.

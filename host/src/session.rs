@@ -130,7 +130,7 @@ impl From<layout::Session> for Session {
 /// The session and the length of the reply, or the refusal.
 fn opened(opened: layout::Opened) -> Result<(Session, usize), Refusal> {
     match Answer::of(&opened.outcome) {
-        Answer::Refused(refusal) => Err(refusal),
+        Answer::Refused { refusal, .. } => Err(refusal),
         _ => Ok((opened.session.into(), opened.outcome.reply_len)),
     }
 }

@@ -1,5 +1,7 @@
 //! The answer of a call and what comes with it.
 
+use crate::refusal::{reply, Refusal};
+
 /// Whether an update made an entry or replaced its values.
 #[derive(Clone, Copy, Debug, PartialEq, Eq)]
 pub enum Commit {
@@ -72,10 +74,7 @@ pub enum Answer {
         kind: u8,
     },
     /// A refusal.
-    Refused {
-        /// Its number.
-        number: u8,
-    },
+    Refused(Refusal),
 }
 
 /// An answer of the byte model with its reply.
@@ -100,8 +99,9 @@ impl Response {
     }
 
     /// A refusal with its reply.
-    pub fn refused(number: u8) -> Response {
-        Response::with(Answer::Refused { number }, crate::refusal::reply(number))
+    pub fn refused(refusal: impl Into<Refusal>) -> Response {
+        let refusal = refusal.into();
+        Response::with(Answer::Refused(refusal), reply(refusal.number))
     }
 }
 

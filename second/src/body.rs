@@ -2,7 +2,7 @@
 
 use crate::datatype::{self, MAX_32};
 use crate::fields::Fields;
-use crate::refusal;
+use crate::refusal::Refusal;
 use crate::store::{is_plain, key_lengths, Table, Times, NAME_LIMIT, STRING};
 
 /// The body of a definition.
@@ -15,17 +15,14 @@ pub struct Definition {
 }
 
 /// Reads a definition.
-pub fn definition(body: &[u8]) -> Result<Definition, u8> {
+pub fn definition(body: &[u8]) -> Result<Definition, Refusal> {
     let mut fields = Fields::new(body);
     let id = fields.integer(0..=MAX_32)?;
     let name_length = fields.integer(1..=NAME_LIMIT as u64)?;
-    let name = fields.bytes(name_length as usize)?.to_vec();
-    if !is_plain(&name) {
-        return Err(refusal::NOT_PLAIN);
-    }
-    let key_type = fields.integer(0..=u64::MAX)?;
-    let lengths = key_lengths(key_type).ok_or(refusal::RANGE)?;
-    let key_length = fields.integer(lengths)?;
+    let name = fields.name(name_length as usize, is_plain)?.to_vec();
+    let key_type = fields.integer_if(|number| key_lengths(number).is_some())?;
+    let allowed = |length: u64| key_lengths(key_type).is_some_and(|l| l.contains(&length));
+    let key_length = fields.integer_if(allowed)?;
     let data_types = fields.integer(0..=datatype::LARGEST)?;
     let times = times(&mut fields, data_types)?;
     let table = Table {
@@ -39,7 +36,7 @@ pub fn definition(body: &[u8]) -> Result<Definition, u8> {
 }
 
 /// Reads expiry and periods, unless the body ends before them.
-fn times(fields: &mut Fields, data_types: u64) -> Result<Option<Times>, u8> {
+fn times(fields: &mut Fields, data_types: u64) -> Result<Option<Times>, Refusal> {
     if fields.ended() {
         return Ok(None);
     }
@@ -54,12 +51,12 @@ fn times(fields: &mut Fields, data_types: u64) -> Result<Option<Times>, u8> {
 }
 
 /// Reads the ID of a switch.
-pub fn switch(body: &[u8]) -> Result<u64, u8> {
+pub fn switch(body: &[u8]) -> Result<u64, Refusal> {
     Fields::new(body).integer(0..=MAX_32)
 }
 
 /// Reads the table ID and the update ID of an acknowledgement.
-pub fn acknowledgement(body: &[u8]) -> Result<(u32, u32), u8> {
+pub fn acknowledgement(body: &[u8]) -> Result<(u32, u32), Refusal> {
     let mut fields = Fields::new(body);
     let id = fields.integer(0..=MAX_32)?;
     let update = fields.four_bytes()?;
@@ -67,7 +64,7 @@ pub fn acknowledgement(body: &[u8]) -> Result<(u32, u32), u8> {
 }
 
 /// Reads the key of an update.
-pub fn key<'a>(fields: &mut Fields<'a>, table: &Table) -> Result<&'a [u8], u8> {
+pub fn key<'a>(fields: &mut Fields<'a>, table: &Table) -> Result<&'a [u8], Refusal> {
     let length = match table.key_type {
         STRING => fields.integer(0..=table.key_length)?,
         _ => table.key_length,
@@ -76,14 +73,10 @@ pub fn key<'a>(fields: &mut Fields<'a>, table: &Table) -> Result<&'a [u8], u8> {
 }
 
 /// Reads the values of an update.
-pub fn values(fields: &mut Fields, table: &Table) -> Result<Vec<u64>, u8> {
+pub fn values(fields: &mut Fields, table: &Table) -> Result<Vec<u64>, Refusal> {
     let mut values = Vec::new();
     for number in datatype::values(table.data_types) {
-        let value = fields.integer(0..=u64::MAX)?;
-        if !datatype::fits(number, value) {
-            return Err(refusal::RANGE);
-        }
-        values.push(value);
+        values.push(fields.integer_if(|value| datatype::fits(number, value))?);
     }
     Ok(values)
 }

@@ -66,7 +66,7 @@ fn unchanged(number: u8) -> Outcome {
     Outcome {
         taken: 0,
         reply: 0,
-        answer: Answer::Refused { number },
+        answer: Answer::Refused(number.into()),
     }
 }
 

@@ -40,8 +40,8 @@ pub fn frame(bytes: &[u8]) -> Frame<'_> {
 /// Finds the body of a table message behind its header.
 fn table(kind: u8, rest: &[u8]) -> Frame<'_> {
     match decode(rest) {
-        Decoded::Cut => Frame::Unfinished,
-        Decoded::Overflow => Frame::Refused(refusal::LENGTH),
+        Decoded::Cut { .. } => Frame::Unfinished,
+        Decoded::Overflow { .. } => Frame::Refused(refusal::LENGTH),
         Decoded::Value { value, .. } if value > BODY_LIMIT => Frame::Refused(refusal::SIZE),
         Decoded::Value { value, length } => {
             let body = rest[length..].get(..value as usize);

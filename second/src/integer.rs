@@ -13,9 +13,15 @@ pub const LONGEST: usize = 10;
 #[derive(Clone, Copy, Debug, PartialEq, Eq)]
 pub enum Decoded {
     /// The bytes end before the integer does.
-    Cut,
+    Cut {
+        /// How many bytes were looked at: all there are.
+        looked: usize,
+    },
     /// The integer overflows.
-    Overflow,
+    Overflow {
+        /// How many bytes were looked at.
+        looked: usize,
+    },
     /// A whole integer.
     Value {
         /// The integer.
@@ -43,7 +49,7 @@ pub fn encode(value: u64) -> Vec<u8> {
 /// Reads an encoded integer at the front of `bytes`.
 pub fn decode(bytes: &[u8]) -> Decoded {
     let Some((&first, later)) = bytes.split_first() else {
-        return Decoded::Cut;
+        return Decoded::Cut { looked: 0 };
     };
     if u64::from(first) < LONG {
         return whole(u128::from(first), 1);
@@ -51,8 +57,10 @@ pub fn decode(bytes: &[u8]) -> Decoded {
     let later = &later[..later.len().min(LONGEST - 1)];
     let Some(last) = later.iter().position(|&byte| u64::from(byte) < NEXT) else {
         return match later.len() == LONGEST - 1 {
-            true => Decoded::Overflow,
-            false => Decoded::Cut,
+            true => Decoded::Overflow { looked: LONGEST },
+            false => Decoded::Cut {
+                looked: bytes.len(),
+            },
         };
     };
     // from the last byte on, so that byte k is multiplied by 128 k times
@@ -65,6 +73,6 @@ pub fn decode(bytes: &[u8]) -> Decoded {
 fn whole(value: u128, length: usize) -> Decoded {
     match u64::try_from(value) {
         Ok(value) => Decoded::Value { value, length },
-        Err(_) => Decoded::Overflow,
+        Err(_) => Decoded::Overflow { looked: length },
     }
 }

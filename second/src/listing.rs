@@ -3,6 +3,7 @@
 use crate::answer::{Answer, Commit};
 use crate::call::{open, read, Opening, OPENING_ROOM, READING_ROOM};
 use crate::record::{Phase, Record, Role};
+use crate::refusal::Refusal;
 use crate::store::Store;
 use std::io::{self, Read, Write};
 
@@ -38,7 +39,7 @@ pub fn answer_line(answer: Answer, record: &Record, store: &Store) -> String {
         } => format!("update {table} {id} {entry} {}", commit_word(commit)),
         Answer::Acknowledged { id, update } => format!("ack {id} {update}"),
         Answer::Skipped { kind } => format!("skipped {kind}"),
-        Answer::Refused { number } => format!("refused {number}"),
+        Answer::Refused(refusal) => refusal_line(refusal),
     }
 }
 
@@ -52,6 +53,15 @@ fn hello_line(record: &Record, process: u32, relative: u32) -> String {
 fn table_line(store: &Store, place: usize) -> String {
     let name = store.table(place).map_or(&[][..], |table| &table.name);
     format!("table {place} {}", hex(name))
+}
+
+/// The line of a refusal.
+fn refusal_line(refusal: Refusal) -> String {
+    let number = refusal.number;
+    match refusal.offset {
+        None => format!("refused {number}"),
+        Some(offset) => format!("refused {number} {offset}"),
+    }
 }
 
 /// The last word of an update's line.

@@ -110,7 +110,7 @@ impl Figures {
         self.calls += 1;
         let words: Vec<&str> = line.split(' ').collect();
         let name = match words[..] {
-            ["refused", number] => format!("refused {number}"),
+            ["refused", number, ..] => format!("refused {number}"),
             ["update", .., commit] => format!("update {commit}"),
             [word, ..] => word.to_owned(),
             [] => String::new(),

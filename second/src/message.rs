@@ -6,7 +6,7 @@ use crate::fields::Fields;
 use crate::frame::{Frame, TABLE_CLASS};
 use crate::integer::encode;
 use crate::record::{Phase, Record};
-use crate::refusal;
+use crate::refusal::{self, Refusal};
 use crate::store::{Entry, Store};
 
 /// Type of an update.
@@ -29,7 +29,7 @@ pub const CONFIRMED: &[u8] = &[0, 3];
 pub fn carry_out(record: &mut Record, store: &mut Store, frame: Frame) -> Option<Response> {
     let result = match frame {
         Frame::Unfinished => return None,
-        Frame::Refused(number) => Err(number),
+        Frame::Refused(number) => Err(number.into()),
         Frame::Control(kind) => Ok(control(kind)),
         Frame::Error(kind) => Ok(error(record, kind)),
         Frame::Table(kind, body) => table_message(record, store, kind, body),
@@ -60,7 +60,7 @@ fn table_message(
     store: &mut Store,
     kind: u8,
     body: &[u8],
-) -> Result<Response, u8> {
+) -> Result<Response, Refusal> {
     match kind {
         UPDATE | INCREMENTAL => update(record, store, kind, body),
         DEFINITION => define(record, store, body).map(Response::silent),
@@ -71,13 +71,13 @@ fn table_message(
 }
 
 /// An acknowledgement.
-fn acknowledgement(body: &[u8]) -> Result<Answer, u8> {
+fn acknowledgement(body: &[u8]) -> Result<Answer, Refusal> {
     let (id, update) = body::acknowledgement(body)?;
     Ok(Answer::Acknowledged { id, update })
 }
 
 /// A switch.
-fn switch(record: &mut Record, body: &[u8]) -> Result<Answer, u8> {
+fn switch(record: &mut Record, body: &[u8]) -> Result<Answer, Refusal> {
     let id = body::switch(body)?;
     let place = record.table_of(id).ok_or(refusal::UNBOUND)?;
     record.current = Some(place);
@@ -85,10 +85,10 @@ fn switch(record: &mut Record, body: &[u8]) -> Result<Answer, u8> {
 }
 
 /// A definition.
-fn define(record: &mut Record, store: &mut Store, body: &[u8]) -> Result<Answer, u8> {
+fn define(record: &mut Record, store: &mut Store, body: &[u8]) -> Result<Answer, Refusal> {
     let definition = body::definition(body)?;
     let place = match store.named(&definition.table.name) {
-        Some(place) if !agrees(store, place, &definition) => return Err(refusal::DISAGREES),
+        Some(place) if !agrees(store, place, &definition) => return Err(refusal::DISAGREES.into()),
         Some(place) => place,
         None => store.free_table().ok_or(refusal::TABLES)?,
     };
@@ -105,7 +105,12 @@ fn agrees(store: &Store, place: usize, definition: &body::Definition) -> bool {
 }
 
 /// An update of either form.
-fn update(record: &mut Record, store: &mut Store, kind: u8, body: &[u8]) -> Result<Response, u8> {
+fn update(
+    record: &mut Record,
+    store: &mut Store,
+    kind: u8,
+    body: &[u8],
+) -> Result<Response, Refusal> {
     let table = record.current.ok_or(refusal::UNBOUND)?;
     let bound = record.bound[table].ok_or(refusal::UNBOUND)?;
     let held = store.table(table).ok_or(refusal::UNBOUND)?;
@@ -125,7 +130,7 @@ fn update(record: &mut Record, store: &mut Store, kind: u8, body: &[u8]) -> Resu
 }
 
 /// The ID of an update: its first field, or the one after the previous ID.
-fn update_id(previous: Option<u64>, kind: u8, fields: &mut Fields) -> Result<u32, u8> {
+fn update_id(previous: Option<u64>, kind: u8, fields: &mut Fields) -> Result<u32, Refusal> {
     if kind == UPDATE {
         return fields.four_bytes();
     }
@@ -134,7 +139,7 @@ fn update_id(previous: Option<u64>, kind: u8, fields: &mut Fields) -> Result<u32
 }
 
 /// Puts an entry into the store and gives its place.
-fn commit(store: &mut Store, entry: Entry) -> Result<(usize, Commit), u8> {
+fn commit(store: &mut Store, entry: Entry) -> Result<(usize, Commit), Refusal> {
     let known = store.keyed(entry.table, entry.key());
     let (place, commit) = match known {
         Some(place) => (place, Commit::Replaced),

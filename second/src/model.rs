@@ -15,8 +15,8 @@ pub fn feed(record: &mut Record, store: &mut Store, byte: u8) -> Option<Response
     record.unfinished.push(byte);
     let response = respond(record, store)?;
     record.unfinished.clear();
-    if let Answer::Refused { number } = response.answer {
-        record.phase = Phase::Closed(number);
+    if let Answer::Refused(refusal) = response.answer {
+        record.phase = Phase::Closed(refusal.number);
     }
     Some(response)
 }

@@ -43,6 +43,31 @@ pub const ENTRIES: u8 = 29;
 /// A table name has a byte that isn't plain.
 pub const NOT_PLAIN: u8 = 30;
 
+/// A refusal.
+#[derive(Clone, Copy, Debug, PartialEq, Eq)]
+pub struct Refusal {
+    /// Its number.
+    pub number: u8,
+    /// Where the failing field starts in the body; 23, 24 and 30 have it.
+    pub offset: Option<usize>,
+}
+
+impl Refusal {
+    /// The refusal of a field that starts at `offset`.
+    pub fn at(number: u8, offset: usize) -> Refusal {
+        let offset = Some(offset);
+        Refusal { number, offset }
+    }
+}
+
+impl From<u8> for Refusal {
+    /// A refusal without offset.
+    fn from(number: u8) -> Refusal {
+        let offset = None;
+        Refusal { number, offset }
+    }
+}
+
 /// The reply that goes with a refusal.
 pub fn reply(number: u8) -> &'static [u8] {
     match number {

@@ -32,7 +32,7 @@ pub fn judge(bytes: &[u8]) -> Frame {
 fn judge_body(bytes: &[u8], kind: u8) -> Frame {
     match read_int(&bytes[2..]) {
         Err(Fault::Short) => Frame::Waiting,
-        Err(_) => Frame::Refused {
+        Err(Fault::Range) => Frame::Refused {
             number: 21,
             used: 12,
         },

@@ -2,8 +2,8 @@
 
 use super::frame::{self, Frame};
 use super::key_type::KeyType;
-use super::wire::{write_int, Fault, Reader};
-use super::{Judged, Settled};
+use super::wire::{write_int, Reader};
+use super::{Judged, Refusal, Settled};
 use crate::layout::{Binding, Connection, Entry, Store, Table, KEY_MAX, NAME_MAX, RATES, VALUES};
 
 /// The rate types, ascending.
@@ -29,12 +29,6 @@ pub fn is_wide(data_type: u8) -> bool {
     matches!(data_type, 13 | 15)
 }
 
-/// Whether a table's name has only letters, digits, `.`, `_`, `-`, `/` and `:`.
-pub fn is_plain(name: &[u8]) -> bool {
-    let plain = |b: &u8| b.is_ascii_alphanumeric() || matches!(b, b'.' | b'_' | b'-' | b'/' | b':');
-    name.iter().all(plain)
-}
-
 pub fn judge(connection: &mut Connection, store: &mut Store, bytes: &[u8]) -> Judged {
     let (used, settled) = match frame::judge(bytes) {
         Frame::Waiting => return Judged::Waiting,
@@ -43,7 +37,7 @@ pub fn judge(connection: &mut Connection, store: &mut Store, bytes: &[u8]) -> Ju
         Frame::Refused { number, used } => (used, Settled::refused(connection, number)),
         Frame::Body { kind, start, end } => {
             let done = stick_table(connection, store, kind, &bytes[start..end]);
-            let settled = done.unwrap_or_else(|number| Settled::refused(connection, number));
+            let settled = done.unwrap_or_else(|refusal| Settled::refused(connection, refusal));
             (end, settled)
         }
     };
@@ -70,13 +64,13 @@ fn stick_table(
     store: &mut Store,
     kind: u8,
     body: &[u8],
-) -> Result<Settled, u8> {
+) -> Result<Settled, Refusal> {
     match kind {
         128 => update(connection, store, body, false),
         129 => update(connection, store, body, true),
         130 => definition(connection, store, body),
         131 => switch(connection, body),
-        133 => acknowledgement(body).map_err(Fault::number),
+        133 => acknowledgement(body),
         _ => Ok(Settled::new(269, &[kind.into()], &[])),
     }
 }
@@ -89,19 +83,13 @@ struct Defined {
     table: Table,
 }
 
-fn definition_fields(body: &[u8]) -> Result<Defined, Fault> {
+fn definition_fields(body: &[u8]) -> Result<Defined, Refusal> {
     let mut reader = Reader::new(body);
     let id = reader.word()?;
     let name_len = reader.within(1, NAME_MAX as u64)? as usize;
-    let name = reader.bytes(name_len)?;
-    if !is_plain(name) {
-        return Err(Fault::Name);
-    }
-    let key_type = KeyType::of(reader.int()?).ok_or(Fault::Range)?;
-    let key_len = reader.int()?;
-    if !key_type.takes(key_len) {
-        return Err(Fault::Range);
-    }
+    let name = reader.name(name_len)?;
+    let key_type = reader.int_as(KeyType::of)?;
+    let key_len = reader.int_as(|len| key_type.takes(len).then_some(len as u32))?;
     let data_types = reader.within(0, 0x7_ffff)? as u32;
     let mut table = Table {
         held: 1,
@@ -109,7 +97,7 @@ fn definition_fields(body: &[u8]) -> Result<Defined, Fault> {
         timed: 0,
         data_types,
         name_len,
-        key_len: key_len as u32,
+        key_len,
         expiry: 0,
         periods: [0; RATES],
         name: [0; NAME_MAX],
@@ -123,7 +111,7 @@ fn definition_fields(body: &[u8]) -> Result<Defined, Fault> {
     Ok(Defined { id, table })
 }
 
-fn read_periods(reader: &mut Reader, table: &mut Table) -> Result<(), Fault> {
+fn read_periods(reader: &mut Reader, table: &mut Table) -> Result<(), Refusal> {
     for (period, rate) in table.periods.iter_mut().zip(RATE_TYPES) {
         if has(table.data_types, rate) {
             reader.within(rate.into(), rate.into())?;
@@ -133,8 +121,12 @@ fn read_periods(reader: &mut Reader, table: &mut Table) -> Result<(), Fault> {
     Ok(())
 }
 
-fn definition(connection: &mut Connection, store: &mut Store, body: &[u8]) -> Result<Settled, u8> {
-    let defined = definition_fields(body).map_err(Fault::number)?;
+fn definition(
+    connection: &mut Connection,
+    store: &mut Store,
+    body: &[u8],
+) -> Result<Settled, Refusal> {
+    let defined = definition_fields(body)?;
     let place = place_of(store, &defined.table)?;
     store.tables[place] = defined.table;
     bind(&mut connection.bindings, place, defined.id);
@@ -171,15 +163,15 @@ fn bind(bindings: &mut [Binding], place: usize, id: u32) {
 
 // ---- switch and acknowledgement
 
-fn switch(connection: &mut Connection, body: &[u8]) -> Result<Settled, u8> {
-    let id = Reader::new(body).word().map_err(Fault::number)?;
+fn switch(connection: &mut Connection, body: &[u8]) -> Result<Settled, Refusal> {
+    let id = Reader::new(body).word()?;
     let bound = |b: &Binding| b.bound == 1 && b.id == id;
     let place = connection.bindings.iter().position(bound).ok_or(27)?;
     connection.current = place as u32 + 1;
     Ok(Settled::new(266, &[place as u64], &[]))
 }
 
-fn acknowledgement(body: &[u8]) -> Result<Settled, Fault> {
+fn acknowledgement(body: &[u8]) -> Result<Settled, Refusal> {
     let mut reader = Reader::new(body);
     let id = reader.word()?;
     let update = reader.number()?;
@@ -195,7 +187,7 @@ struct Fields<'a> {
     values: [u64; VALUES],
 }
 
-fn entry_fields<'a>(reader: &mut Reader<'a>, table: &Table) -> Result<Fields<'a>, Fault> {
+fn entry_fields<'a>(reader: &mut Reader<'a>, table: &Table) -> Result<Fields<'a>, Refusal> {
     let key_len = match KeyType::of_table(table) {
         Some(KeyType::String) => reader.within(0, table.key_len.into())? as usize,
         _ => table.key_len as usize,
@@ -225,18 +217,18 @@ fn update(
     store: &mut Store,
     body: &[u8],
     incremental: bool,
-) -> Result<Settled, u8> {
+) -> Result<Settled, Refusal> {
     let place = connection.current.checked_sub(1).ok_or(27)? as usize;
     let binding = &mut connection.bindings[place];
     if incremental && binding.updated != 1 {
-        return Err(28);
+        return Err(28.into());
     }
     let mut reader = Reader::new(body);
     let id = match incremental {
         true => binding.previous.wrapping_add(1),
-        false => reader.number().map_err(Fault::number)?,
+        false => reader.number()?,
     };
-    let fields = entry_fields(&mut reader, &store.tables[place]).map_err(Fault::number)?;
+    let fields = entry_fields(&mut reader, &store.tables[place])?;
     let (entry, replaced) = entry_place(store, place, fields.key)?;
     put_entry(&mut store.entries[entry], place, &fields);
     binding.updated = 1;

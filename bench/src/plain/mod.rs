@@ -25,6 +25,22 @@ struct Settled {
     reply: [u8; READING_ROOM],
 }
 
+/// Why a message is refused: the number, and where in its body the field starts that can't be read.
+struct Refusal {
+    number: u8,
+    offset: Option<usize>,
+}
+
+/// A refusal that isn't a field's.
+impl From<u8> for Refusal {
+    fn from(number: u8) -> Refusal {
+        Refusal {
+            number,
+            offset: None,
+        }
+    }
+}
+
 /// What bytes come to: they end nothing, or their first part does what it says.
 enum Judged {
     Waiting,
@@ -46,10 +62,12 @@ impl Settled {
     }
 
     /// A refusal, which closes the connection.
-    fn refused(connection: &mut Connection, number: u8) -> Settled {
+    fn refused(connection: &mut Connection, refusal: impl Into<Refusal>) -> Settled {
+        let Refusal { number, offset } = refusal.into();
         connection.closed = 1;
         connection.number = number.into();
-        Settled::new(number.into(), &[], refusal_reply(number))
+        let offset = offset.map(|offset| offset as u64);
+        Settled::new(number.into(), offset.as_slice(), refusal_reply(number))
     }
 }
 

@@ -3,7 +3,8 @@
 use super::frame::{self, Frame};
 use super::handshake::{hello_waits, is_name};
 use super::key_type::KeyType;
-use super::message::{has, is_plain, is_wide, SLOT_TYPES};
+use super::message::{has, is_wide, SLOT_TYPES};
+use super::wire::is_plain;
 use crate::layout::{
     Binding, Connection, Entry, Session, Store, Table, BUFFER, ENTRIES, NAME_MAX, TABLES,
     UNFINISHED_MAX,

@@ -1,11 +1,12 @@
 //! The encoded integer and the fields of a body.
 
-/// Why a field can't be read: the body ends before it is whole, it overflows or is out of range, or it is a name that isn't plain.
+use super::Refusal;
+
+/// Why a field can't be read: the body ends before it is whole, or it overflows or is out of range.
 #[derive(Clone, Copy, PartialEq, Eq)]
 pub enum Fault {
     Short,
     Range,
-    Name,
 }
 
 impl Fault {
@@ -14,7 +15,6 @@ impl Fault {
         match self {
             Fault::Short => 23,
             Fault::Range => 24,
-            Fault::Name => 30,
         }
     }
 }
@@ -60,55 +60,84 @@ pub fn write_int(bytes: &mut [u8], value: u64) -> usize {
     len + 1
 }
 
-/// The rest of a body.
+/// Whether a table's name has only letters, digits, `.`, `_`, `-`, `/` and `:`.
+pub fn is_plain(name: &[u8]) -> bool {
+    let plain = |b: &u8| b.is_ascii_alphanumeric() || matches!(b, b'.' | b'_' | b'-' | b'/' | b':');
+    name.iter().all(plain)
+}
+
+/// The rest of a body, and how long all of it is. A field that is refused stays in the rest.
 pub struct Reader<'a> {
     rest: &'a [u8],
+    len: usize,
 }
 
 impl<'a> Reader<'a> {
     pub fn new(body: &'a [u8]) -> Reader<'a> {
-        Reader { rest: body }
+        Reader {
+            rest: body,
+            len: body.len(),
+        }
     }
 
     pub fn is_empty(&self) -> bool {
         self.rest.is_empty()
     }
 
-    pub fn int(&mut self) -> Result<u64, Fault> {
-        let (value, len) = read_int(self.rest)?;
+    /// The refusal of the field that starts here.
+    fn refused(&self, number: u8) -> Refusal {
+        Refusal {
+            number,
+            offset: Some(self.len - self.rest.len()),
+        }
+    }
+
+    /// An integer as what it stands for, which is nothing where it is out of range.
+    pub fn int_as<T>(&mut self, meaning: impl FnOnce(u64) -> Option<T>) -> Result<T, Refusal> {
+        let read = read_int(self.rest);
+        let (value, len) = read.map_err(|fault| self.refused(fault.number()))?;
+        let meant = meaning(value).ok_or_else(|| self.refused(Fault::Range.number()))?;
         self.rest = &self.rest[len..];
-        Ok(value)
+        Ok(meant)
+    }
+
+    pub fn int(&mut self) -> Result<u64, Refusal> {
+        self.int_as(Some)
     }
 
     /// An integer from `low` to `high`.
-    pub fn within(&mut self, low: u64, high: u64) -> Result<u64, Fault> {
-        let value = self.int()?;
-        if value < low || value > high {
-            return Err(Fault::Range);
-        }
-        Ok(value)
+    pub fn within(&mut self, low: u64, high: u64) -> Result<u64, Refusal> {
+        self.int_as(|value| (low..=high).contains(&value).then_some(value))
     }
 
-    pub fn word(&mut self) -> Result<u32, Fault> {
-        u32::try_from(self.int()?).map_err(|_| Fault::Range)
+    pub fn word(&mut self) -> Result<u32, Refusal> {
+        self.int_as(|value| u32::try_from(value).ok())
     }
 
     /// A server ID: a negative one is encoded as its value plus 2^64.
-    pub fn server_id(&mut self) -> Result<i32, Fault> {
-        i32::try_from(self.int()? as i64).map_err(|_| Fault::Range)
+    pub fn server_id(&mut self) -> Result<i32, Refusal> {
+        self.int_as(|value| i32::try_from(value as i64).ok())
     }
 
-    pub fn bytes(&mut self, len: usize) -> Result<&'a [u8], Fault> {
+    pub fn bytes(&mut self, len: usize) -> Result<&'a [u8], Refusal> {
         if self.rest.len() < len {
-            return Err(Fault::Short);
+            return Err(self.refused(Fault::Short.number()));
         }
         let (bytes, rest) = self.rest.split_at(len);
         self.rest = rest;
         Ok(bytes)
     }
 
+    /// A table's name.
+    pub fn name(&mut self, len: usize) -> Result<&'a [u8], Refusal> {
+        if self.rest.get(..len).is_some_and(|name| !is_plain(name)) {
+            return Err(self.refused(30));
+        }
+        self.bytes(len)
+    }
+
     /// A 4-byte big-endian number.
-    pub fn number(&mut self) -> Result<u32, Fault> {
+    pub fn number(&mut self) -> Result<u32, Refusal> {
         let bytes = self.bytes(4)?;
         Ok(u32::from_be_bytes([bytes[0], bytes[1], bytes[2], bytes[3]]))
     }

@@ -2,7 +2,7 @@
 use Prim.Native.Nat.{ℕ, _+_, _-_, _≤_}
 use native.Mathlib.Omega.{arith}
 use mathlib.Core.Logic.{_⊎_, inl, inr}
-use mathlib.Core.Path.{_≡_, refl, ap, _∙_}
+use mathlib.Core.Path.{_≡_, refl, sym, ap, _∙_}
 use mathlib.Core.List.{List, [], _∷_, _++_}
 use mathlib.Core.Bool.{Bool, true, false, cond}
 use lib.ListN.{length, length-append}
@@ -13,18 +13,22 @@ use Rattle.lists.proofs.Cases.{lt-or-le, eq-or-ne, split}
 use Rattle.wire.proofs.Behind.{int-behind, number-behind, server-behind}
 use Rattle.store.specs.declared.Table.{Table}
 use Rattle.store.specs.Limits.{nameMax, keyKind, isString, keyLengthOk, dataTypesOk, present, widthOf, slotTypes, rateTypes}
-use Rattle.body.specs.Fields.{Read, got, failed, short, Reader, andThen, forEach, tested, integer, between, integerOf, bytes, Span, numberRead, number4, serverRead, serverId}
+use Rattle.body.specs.declared.Failure.the-variants as failure
+use Rattle.body.specs.Fields.{Read, got, failed, fault, short, Reader, andThen, forEach, tested, integer, between, integerOf, bytes, Span, numberRead, number4, serverRead, serverId}
 use Rattle.body.specs.Bodies.{nameField, namedFields, isKeyType, shapeFields, pairField, periodField, periodFields, Times, noTimes, timesThere, timesFields, Definition, defined, restFields, definitionFields, switchFields, Acknowledged, acknowledgementFields, stringField, keyField, serverField, slotField, valueFields, dataFields, Update, entryFields, updateFields, incrementalFields}
 use Rattle.body.proofs.Within.{shape-end}
 use Rattle.body.proofs.Spans.{span-behind}
 
 -- It is short, or more bytes behind change nothing.
 module _ {A : Type 0} where
+  abbrev pub Shortened : Read A → Type 0
+  Shortened x = (start : ℕ) × (x ≡ short start)
+
   abbrev pub Steady : Reader A → Type 0
-  Steady f = (s t : List ℕ) (at : ℕ) → (f s at ≡ short) ⊎ (f (s ++ t) at ≡ f s at)
+  Steady f = (s t : List ℕ) (at : ℕ) → Shortened (f s at) ⊎ (f (s ++ t) at ≡ f s at)
 
   pub behind : (f : Reader A) → Steady f → (s t : List ℕ) (at : ℕ) (a : A) (next : ℕ) → f s at ≡ got a next → f (s ++ t) at ≡ got a next
-  behind f h s t at a next e = split (h s t at) (λ q. cc) (λ q. q ∙ e)
+  behind f h s t at a next e = split (h s t at) (λ q. let z : got a next ≡ short (q .0) = sym e ∙ q .1 in cc) (λ q. q ∙ e)
 
   steady-got : (a : A) → Steady λ s at. got a at
   steady-got a s t at = inr refl
@@ -35,11 +39,11 @@ module _ {A : Type 0} where
 
 -- fields one after another
 module _ {A B : Type 0} (f : Reader A) (g : A → Reader B) where
-  then-steady : (s t : List ℕ) (x y : Read A) → (x ≡ short) ⊎ (y ≡ x) → ((a : A) → Steady (g a))
-      → (andThen x (λ a n. g a s n) ≡ short) ⊎ (andThen y (λ a n. g a (s ++ t) n) ≡ andThen x (λ a n. g a s n))
+  then-steady : (s t : List ℕ) (x y : Read A) → Shortened x ⊎ (y ≡ x) → ((a : A) → Steady (g a))
+      → Shortened (andThen x (λ a n. g a s n)) ⊎ (andThen y (λ a n. g a (s ++ t) n) ≡ andThen x (λ a n. g a s n))
   unfolding andThen
-  then-steady s t (got a n) y d k = split d (λ e. inl (cc)) (λ e. rw e (k a s t n))
-  then-steady s t (failed f) y d k = split d (λ e. inl (cc)) (λ e. inr (rw e))
+  then-steady s t (got a n) y d k = split d (λ q. let e : got a n ≡ short (q .0) = q .1 in absurd (let z : _≡_ {A = ℕ} 0 1 = cc in omega arith)) (λ e. rw e (k a s t n))
+  then-steady s t (failed f) y d k = split d (λ q. let e : failed f ≡ short {A = A} (q .0) = q .1 in inl (q .0, (let z : f ≡ fault failure.Short (q .0) = cc in rw z))) (λ e. inr (rw e))
 
   steady-then : Steady f → ((a : A) → Steady (g a)) → Steady λ s at. andThen (f s at) λ a n. g a s n
   steady-then h k s t at = then-steady s t (f s at) (f (s ++ t) at) (h s t at) k
@@ -55,7 +59,7 @@ steady-each field h (t ∷ ts) =
 -- ---- one field
 steady-integer : (ok : ℕ → Bool) → Steady (integer ok)
 unfolding integer tested
-steady-integer ok s t at = split (int-behind s t at) (λ e. inl (rw e)) (λ e. inr (rw e))
+steady-integer ok s t at = split (int-behind s t at) (λ e. inl (at, rw e)) (λ e. inr (rw e))
 
 steady-width : (k : ℕ) → Steady (integerOf k)
 unfolding integerOf
@@ -65,7 +69,7 @@ steady-bytes : (n : ℕ) → Steady (bytes n)
 unfolding bytes
 steady-bytes n s t at =
     split (lt-or-le (length s) (at + n))
-    (λ l. inl (rw (lt-leb (at + n) (length s) l)))
+    (λ l. inl (at, rw (lt-leb (at + n) (length s) l)))
     (λ l.
     let k : at + n ≤ length (s ++ t) = rw length-append (omega arith) in
     inr (rw (le-leb (at + n) (length s) l, le-leb (at + n) (length (s ++ t)) k)))
@@ -74,7 +78,7 @@ steady-name : (n : ℕ) → Steady (nameField n)
 unfolding nameField bytes andThen
 steady-name n s t at =
     split (lt-or-le (length s) (at + n))
-    (λ l. inl (rw (lt-leb (at + n) (length s) l)))
+    (λ l. inl (at, rw (lt-leb (at + n) (length s) l)))
     (λ l.
     let k : at + n ≤ length (s ++ t) = rw length-append (omega arith) in
     let name : Span = record { start = at; len = n } in
@@ -82,11 +86,11 @@ steady-name n s t at =
 
 steady-number : Steady number4
 unfolding number4 numberRead
-steady-number s t at = split (number-behind s t at) (λ e. inl (rw e)) (λ e. inr (rw e))
+steady-number s t at = split (number-behind s t at) (λ e. inl (at, rw e)) (λ e. inr (rw e))
 
 steady-server : Steady serverId
 unfolding serverId serverRead
-steady-server s t at = split (server-behind s t at) (λ e. inl (rw e)) (λ e. inr (rw e))
+steady-server s t at = split (server-behind s t at) (λ e. inl (at, rw e)) (λ e. inr (rw e))
 
 -- ---- a definition's fields
 pub steady-named : Steady namedFields

@@ -57,15 +57,15 @@ pub record Passed (ok : ℕ → Bool) (s : List ℕ) (at v next : ℕ) : Type 0 
   pub here : Stands s (encodeInt v) at next
 
 module _ (s : List ℕ) (b : Bytes s) where
-  integer-read : (ok : ℕ → Bool) (at : ℕ) (i : Int) → readInt s at ≡ i → Holds (Passed ok s at) (tested ok i)
+  integer-read : (ok : ℕ → Bool) (at : ℕ) (i : Int) → readInt s at ≡ i → Holds (Passed ok s at) (tested ok at i)
   unfolding tested Holds
   integer-read ok at (int.Value v next) q =
       let o = one-encoding s at v next b q in
-      holds-cond (Passed ok s at) (ok v) (got v next) outside
+      holds-cond (Passed ok s at) (ok v) (got v next) (outside at)
       (λ h. holds-got (Passed ok s at) v next (record { passed = h; here = stands-part s (encodeInt v) at next (o .0) (o .1) }))
       (λ h. tt)
-  integer-read ok at int.Short q = tt
-  integer-read ok at int.Overflow q = tt
+  integer-read ok at (int.Short k) q = tt
+  integer-read ok at (int.Overflow k) q = tt
 
   pub integer-stands : (ok : ℕ → Bool) (at : ℕ) → Holds (Passed ok s at) (integer ok s at)
   unfolding integer
@@ -78,7 +78,7 @@ module _ (s : List ℕ) (b : Bytes s) where
   unfolding integerOf
   width-encoded k at = integer-encoded _ at
 
-  number-read : (at : ℕ) (i : FourBytes) → readNumber s at ≡ i → Holds (Encoded encodeNumber s at) (numberRead i)
+  number-read : (at : ℕ) (i : FourBytes) → readNumber s at ≡ i → Holds (Encoded encodeNumber s at) (numberRead at i)
   unfolding numberRead Holds
   number-read at (number.Value v next) q =
       let o = number-own s at v next b q in
@@ -90,7 +90,7 @@ module _ (s : List ℕ) (b : Bytes s) where
   unfolding number4
   number-encoded at = number-read at (readNumber s at) refl
 
-  server-read : (at : ℕ) (i : ServerId) → readServerId s at ≡ i → Holds (Encoded (λ z. encodeInt (serverWord z)) s at) (serverRead i)
+  server-read : (at : ℕ) (i : ServerId) → readServerId s at ≡ i → Holds (Encoded (λ z. encodeInt (serverWord z)) s at) (serverRead at i)
   unfolding serverRead Holds
   server-read at (server.Id z next) q =
       let o = one-encoding s at (serverWord z) next b (server-own s at z next q .1) in

@@ -16,14 +16,14 @@ use Rattle.wire.specs.declared.values.Field.the-variants as field
 use Rattle.wire.specs.Integer.{readInt}
 use Rattle.wire.specs.Value.{readWidth, WidthRule}
 use Rattle.wire.proofs.values.Limited.{width-rule}
-use Rattle.body.specs.declared.Failure.{Failure}
+use Rattle.body.specs.declared.Fault.{Fault}
 use Rattle.body.specs.declared.Failure.the-variants as failure
 use Rattle.body.specs.declared.IntRead.{IntRead}
 use Rattle.body.specs.declared.IntRead.the-variants as int-read
 use Rattle.body.specs.declared.Word.{Word}
 use Rattle.body.specs.declared.Word.the-variants as word
 use Rattle.body.specs.declared.PartRead.the-variants as part
-use Rattle.body.specs.Fields.{Read, got, failed, short, outside, tested, integer, between, integerOf, bytes}
+use Rattle.body.specs.Fields.{Read, got, failed, fault, short, outside, tested, integer, between, integerOf, bytes}
 use Rattle.body.specs.Results.{fieldRead, intRead, wordRead, partRead}
 
 -- ---- what a test in the code says, where b is what the called function gives
@@ -39,17 +39,17 @@ module _ (ok : ℕ → Bool) (s : List ℕ) (at : ℕ) (r : Int) (p : r ≡ read
   unfolding integer tested intRead
   passes v next e t = rw (← p, e, t)
 
-  pub fails : (v next : ℕ) → r ≡ int.Value v next → ok v ≡ false → intRead (int-read.Failed failure.OutOfRange) ≡ integer ok s at
+  pub fails : (v next : ℕ) → r ≡ int.Value v next → ok v ≡ false → intRead (int-read.Failed (fault failure.OutOfRange at)) ≡ integer ok s at
   unfolding integer tested intRead
   fails v next e t = rw (← p, e, t)
 
-  pub cut : r ≡ int.Short → intRead (int-read.Failed failure.Short) ≡ integer ok s at
+  pub cut : (k : ℕ) → r ≡ int.Short k → intRead (int-read.Failed (fault failure.Short at)) ≡ integer ok s at
   unfolding integer tested intRead
-  cut e = rw (← p, e)
+  cut k e = rw (← p, e)
 
-  pub overflows : r ≡ int.Overflow → intRead (int-read.Failed failure.OutOfRange) ≡ integer ok s at
+  pub overflows : (k : ℕ) → r ≡ int.Overflow k → intRead (int-read.Failed (fault failure.OutOfRange at)) ≡ integer ok s at
   unfolding integer tested intRead
-  overflows e = rw (← p, e)
+  overflows k e = rw (← p, e)
 
 pub under : (low high v : ℕ) → v < low → between low high v ≡ false
 unfolding between
@@ -66,31 +66,31 @@ inside low high v l h = rw (le-leb low v l, le-leb v high h)
 pub ruleset test-laws = (needs, so-true, so-false, passes, fails, cut, overflows, under, over, inside)
 
 -- two tests that agree
-same-tested : (p q : ℕ → Bool) → ((n : ℕ) → p n ≡ q n) → (i : Int) → tested p i ≡ tested q i
+same-tested : (p q : ℕ → Bool) → ((n : ℕ) → p n ≡ q n) → (start : ℕ) (i : Int) → tested p start i ≡ tested q start i
 unfolding tested
-same-tested p q h (int.Value v next) = rw (h v)
-same-tested p q h int.Short = refl
-same-tested p q h int.Overflow = refl
+same-tested p q h start (int.Value v next) = rw (h v)
+same-tested p q h start (int.Short k) = refl
+same-tested p q h start (int.Overflow k) = refl
 
 pub same-integer : (p q : ℕ → Bool) → ((n : ℕ) → p n ≡ q n) → (s : List ℕ) (at : ℕ) → integer p s at ≡ integer q s at
 unfolding integer
-same-integer p q h s at = same-tested p q h (readInt s at)
+same-integer p q h s at = same-tested p q h at (readInt s at)
 
 -- ---- an integer of k bits: what wire's reader of that width gives, by the one rule over the width
 module _ (k : ℕ) (h : k ≤ 64) (s : List ℕ) (at : ℕ) where
   rule : WidthRule k
   rule = width-rule k h
 
-  width-read : (i : Int) → readInt s at ≡ i → fieldRead (readWidth k s at) ≡ tested (λ v. ltb v (2 ^ k)) i
+  width-read : (i : Int) → readInt s at ≡ i → fieldRead at (readWidth k s at) ≡ tested (λ v. ltb v (2 ^ k)) at i
   unfolding tested fieldRead
   width-read (int.Value v next) e =
       split (lt-or-le v (2 ^ k))
       (λ l. rw (rule .within s at v next e l, lt-ltb v (2 ^ k) l))
       (λ l. rw (rule .over s at v next e l, le-ltb v (2 ^ k) l))
-  width-read int.Short e = rw (rule .short s at e)
-  width-read int.Overflow e = rw (rule .overflow s at e)
+  width-read (int.Short n) e = rw (rule .short s at n e)
+  width-read (int.Overflow n) e = rw (rule .overflow s at n e)
 
-  pub of-width : (r : Field) → r ≡ readWidth k s at → fieldRead r ≡ integerOf k s at
+  pub of-width : (r : Field) → r ≡ readWidth k s at → fieldRead at r ≡ integerOf k s at
   unfolding integerOf integer
   of-width r p = rw p (width-read (readInt s at) refl)
 
@@ -99,17 +99,17 @@ module _ (k : ℕ) (h : k ≤ 64) (s : List ℕ) (at : ℕ) where
   width-small r p v next e = rule .small s at v next (sym p ∙ e)
 
 -- ---- what an enum says was read
-pub field-got : (x : Read ℕ) (r : Field) → fieldRead r ≡ x → (v next : ℕ) → r ≡ field.Value v next → x ≡ got v next
+pub field-got : (at : ℕ) (x : Read ℕ) (r : Field) → fieldRead at r ≡ x → (v next : ℕ) → r ≡ field.Value v next → x ≡ got v next
 unfolding fieldRead
-field-got x r p v next e = sym p ∙ rw e
+field-got at x r p v next e = sym p ∙ rw e
 
-pub field-short : (x : Read ℕ) (r : Field) → fieldRead r ≡ x → r ≡ field.Short → x ≡ short
+pub field-short : (at : ℕ) (x : Read ℕ) (r : Field) → fieldRead at r ≡ x → r ≡ field.Short → x ≡ short at
 unfolding fieldRead
-field-short x r p e = sym p ∙ rw e
+field-short at x r p e = sym p ∙ rw e
 
-pub field-out : (x : Read ℕ) (r : Field) → fieldRead r ≡ x → r ≡ field.OutOfRange → x ≡ outside
+pub field-out : (at : ℕ) (x : Read ℕ) (r : Field) → fieldRead at r ≡ x → r ≡ field.OutOfRange → x ≡ outside at
 unfolding fieldRead
-field-out x r p e = sym p ∙ rw e
+field-out at x r p e = sym p ∙ rw e
 
 pub int-got : (x : Read ℕ) (r : IntRead) → intRead r ≡ x → (v next : ℕ) → r ≡ int-read.Value v next → x ≡ got v next
 unfolding intRead
@@ -119,7 +119,7 @@ pub word-got : (x : Read ℕ) (r : Word) → wordRead r ≡ x → (v next : ℕ)
 unfolding wordRead
 word-got x r p v next e = sym p ∙ rw e
 
-pub word-failed : (x : Read ℕ) (r : Word) → wordRead r ≡ x → (f : Failure) → r ≡ word.Failed f → x ≡ failed f
+pub word-failed : (x : Read ℕ) (r : Word) → wordRead r ≡ x → (f : Fault) → r ≡ word.Failed f → x ≡ failed f
 unfolding wordRead
 word-failed x r p f e = sym p ∙ rw e
 
@@ -127,15 +127,15 @@ word-failed x r p f e = sym p ∙ rw e
 module _ (s : List ℕ) (at : ℕ) (r : Field) (p : r ≡ readWidth 32 s at) where
   pub word-value : (v next : ℕ) → r ≡ field.Value v next → wordRead (word.Value v next) ≡ integerOf 32 s at
   unfolding wordRead
-  word-value v next e = sym (field-got (integerOf 32 s at) r (of-width 32 (lit≤ tt) s at r p) v next e)
+  word-value v next e = sym (field-got at (integerOf 32 s at) r (of-width 32 (lit≤ tt) s at r p) v next e)
 
-  pub word-short : r ≡ field.Short → wordRead (word.Failed failure.Short) ≡ integerOf 32 s at
+  pub word-short : r ≡ field.Short → wordRead (word.Failed (fault failure.Short at)) ≡ integerOf 32 s at
   unfolding wordRead
-  word-short e = sym (field-short (integerOf 32 s at) r (of-width 32 (lit≤ tt) s at r p) e)
+  word-short e = sym (field-short at (integerOf 32 s at) r (of-width 32 (lit≤ tt) s at r p) e)
 
-  pub word-out : r ≡ field.OutOfRange → wordRead (word.Failed failure.OutOfRange) ≡ integerOf 32 s at
+  pub word-out : r ≡ field.OutOfRange → wordRead (word.Failed (fault failure.OutOfRange at)) ≡ integerOf 32 s at
   unfolding wordRead
-  word-out e = sym (field-out (integerOf 32 s at) r (of-width 32 (lit≤ tt) s at r p) e)
+  word-out e = sym (field-out at (integerOf 32 s at) r (of-width 32 (lit≤ tt) s at r p) e)
 
   pub word-fits : (v next : ℕ) → r ≡ field.Value v next → v < 2 ^ 32
   word-fits v next e = width-small 32 (lit≤ tt) s at r p v next e
@@ -144,11 +144,11 @@ pub ruleset word-laws = (needs, word-value, word-short, word-out, word-fits)
 
 -- ---- `read_part`
 module _ (n : ℕ) (s : List ℕ) (at : ℕ) where
-  pub past : length s < at → partRead (part.Failed failure.Short) ≡ bytes n s at
+  pub past : length s < at → partRead (part.Failed (fault failure.Short at)) ≡ bytes n s at
   unfolding bytes partRead
   past h = let l : length s < at + n = omega arith in rw (lt-leb (at + n) (length s) l)
 
-  pub few : length s - at < n → partRead (part.Failed failure.Short) ≡ bytes n s at
+  pub few : length s - at < n → partRead (part.Failed (fault failure.Short at)) ≡ bytes n s at
   unfolding bytes partRead
   few h = let l : length s < at + n = omega arith in rw (lt-leb (at + n) (length s) l)
 

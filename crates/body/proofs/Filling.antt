@@ -8,7 +8,7 @@ use lib.ListN.{length, getD, take, drop, set, replicate, length-set, length-repl
 use lib.Seq.{drop-cons, take-suc-set, take-all}
 use borrow.Author.Needs.{needs}
 use Rattle.store.proofs.Rules.{slot-count, rate-count}
-use Rattle.body.specs.declared.Failure.{Failure}
+use Rattle.body.specs.declared.Fault.{Fault}
 use Rattle.body.specs.declared.Reading.the-variants as reading
 use Rattle.body.specs.Fields.{Read, got, failed, Reader, andThen, forEach}
 use Rattle.body.specs.Results.{readAs}
@@ -64,7 +64,7 @@ module _ {field : ℕ → Reader ℕ} {ts : List ℕ} {n : ℕ} {s : List ℕ} {
         let l : i < length ts = omega (arith, k .size) in
         k .rest ∙ rw (drop-cons ts i 0 l, ← q)
 
-    pub stop : (f : Failure) → field t s position ≡ failed f → readAs (reading.Failed f) vs ≡ forEach field ts s at
+    pub stop : (f : Fault) → field t s position ≡ failed f → readAs (reading.Failed f) vs ≡ forEach field ts s at
     unfolding readAs following andThen
     stop f e = sym (next-one ∙ rw e)
 

@@ -1,7 +1,7 @@
 -- From what a public function gave to what was read of the body.
 use Prim.Native.Nat.{ℕ}
 use mathlib.Core.Path.{_≡_, refl, sym, ap, _∙_}
-use Rattle.body.specs.declared.Failure.{Failure}
+use Rattle.body.specs.declared.Fault.{Fault}
 use Rattle.body.specs.declared.Word.{Word}
 use Rattle.body.specs.declared.Word.the-variants as word
 use Rattle.body.specs.declared.Reading.{Reading}
@@ -65,7 +65,7 @@ module _ (x : Read Definition) (r : DefinitionBody) (p : r ≡ definitionBody x)
   unfolding readAs
   definition-whole next e = definition-given ∙ ap (λ (h : Reading). readAs h (definitionIn r)) e
 
-  pub definition-failed : (f : Failure) → r .reading ≡ reading.Failed f → x ≡ failed f
+  pub definition-failed : (f : Fault) → r .reading ≡ reading.Failed f → x ≡ failed f
   unfolding readAs
   definition-failed f e = definition-given ∙ ap (λ (h : Reading). readAs h (definitionIn r)) e
 
@@ -92,7 +92,7 @@ module _ (x : Read ℕ) (r : Word) (p : wordRead r ≡ x) where
   pub switch-id : (id next : ℕ) → r ≡ word.Value id next → x ≡ got id next
   switch-id id next e = word-got x r p id next e
 
-  pub switch-failed : (f : Failure) → r ≡ word.Failed f → x ≡ failed f
+  pub switch-failed : (f : Fault) → r ≡ word.Failed f → x ≡ failed f
   switch-failed f e = word-failed x r p f e
 
 -- ---- an acknowledgement
@@ -101,6 +101,6 @@ module _ (x : Read Acknowledged) (r : AcknowledgementBody) (p : acknowledgementR
   unfolding acknowledgementRead
   acknowledgement-fields id update next e = sym p ∙ rw e
 
-  pub acknowledgement-failed : (f : Failure) → r ≡ acked.Failed f → x ≡ failed f
+  pub acknowledgement-failed : (f : Fault) → r ≡ acked.Failed f → x ≡ failed f
   unfolding acknowledgementRead
   acknowledgement-failed f e = sym p ∙ rw e

@@ -2,7 +2,7 @@
 use Prim.Native.Nat.{ℕ}
 use mathlib.Core.Path.{_≡_, refl, subst}
 use mathlib.Core.Bool.{Bool, true, false, cond}
-use Rattle.body.specs.declared.Failure.{Failure}
+use Rattle.body.specs.declared.Fault.{Fault}
 use Rattle.body.specs.Fields.{Read, got, failed, andThen}
 
 module _ {A : Type 0} where
@@ -19,7 +19,7 @@ module _ {A : Type 0} (P : A → ℕ → Type 0) where
   unfolding Holds
   holds-got a next h = h
 
-  pub holds-failed : (f : Failure) → Holds P (failed f)
+  pub holds-failed : (f : Fault) → Holds P (failed f)
   unfolding Holds
   holds-failed f = tt
 

@@ -11,3 +11,6 @@ pub mod Encoding
 pub mod UpdateEncoding
 pub mod DefinitionEncoding
 pub mod OneEncoding
+pub mod Breaking
+pub mod BreakingFields
+pub mod BodiesBreak

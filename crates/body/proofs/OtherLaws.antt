@@ -10,12 +10,12 @@ use Rattle.wire.specs.declared.fixed.FourBytes.{FourBytes}
 use Rattle.wire.specs.declared.fixed.FourBytes.the-variants as number
 use Rattle.wire.specs.Value.{readWidth}
 use Rattle.wire.specs.Number.{readNumber}
-use Rattle.body.specs.declared.Failure.{Failure}
+use Rattle.body.specs.declared.Fault.{Fault}
 use Rattle.body.specs.declared.Failure.the-variants as failure
 use Rattle.body.specs.declared.Word.{Word}
 use Rattle.body.specs.declared.Word.the-variants as word
 use Rattle.body.specs.declared.AcknowledgementBody.the-variants as acked
-use Rattle.body.specs.Fields.{andThen, integerOf, numberRead, number4}
+use Rattle.body.specs.Fields.{fault, andThen, integerOf, numberRead, number4}
 use Rattle.body.specs.Bodies.{switchFields, acknowledgementFields}
 use Rattle.body.specs.Results.{wordRead, acknowledgementRead}
 use Rattle.body.proofs.FieldLaws.{of-width}
@@ -28,12 +28,12 @@ pub ruleset switch-laws = (needs, switch-read)
 
 -- ---- where w and m are what was read of the ID and the update ID
 module _ (s : List ℕ) (w : Word) (p : wordRead w ≡ integerOf 32 s 0) where
-  pub id-failed : (f : Failure) → w ≡ word.Failed f → acknowledgementRead (acked.Failed f) ≡ acknowledgementFields s
+  pub id-failed : (f : Fault) → w ≡ word.Failed f → acknowledgementRead (acked.Failed f) ≡ acknowledgementFields s
   unfolding acknowledgementFields acknowledgementRead andThen wordRead
   id-failed f e = rw (← p, e)
 
   module _ (id at : ℕ) (e : w ≡ word.Value id at) (m : FourBytes) (p₁ : m ≡ readNumber s at) where
-    pub update-short : m ≡ number.Short → acknowledgementRead (acked.Failed failure.Short) ≡ acknowledgementFields s
+    pub update-short : m ≡ number.Short → acknowledgementRead (acked.Failed (fault failure.Short at)) ≡ acknowledgementFields s
     unfolding acknowledgementFields acknowledgementRead andThen wordRead number4 numberRead
     update-short e₁ = rw (← p, e, ← p₁, e₁)
 

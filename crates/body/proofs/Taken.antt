@@ -23,7 +23,7 @@ use Rattle.store.specs.Shape.{Cells}
 use Rattle.store.specs.Limits.{plainName}
 use Rattle.body.specs.declared.Failure.the-variants as failure
 use Rattle.body.proofs.Holds.{Holds, held, holds-got, holds-failed, holds-cond, holds-each, holds-then}
-use Rattle.body.specs.Fields.{Read, got, outside, Reader, andThen, forEach, tested, integer, between, integerOf, Span, spanIn, bytes, numberRead, number4, serverRead, serverId}
+use Rattle.body.specs.Fields.{Read, got, fault, outside, Reader, andThen, forEach, tested, integer, between, integerOf, Span, spanIn, bytes, numberRead, number4, serverRead, serverId}
 use Rattle.body.specs.Bodies.{nameField}
 
 -- ---- a value with P, read from `at` up to `next` within the body s
@@ -98,18 +98,18 @@ unfoldable pub Tested : (ℕ → Bool) → ℕ → Type 0
 Tested ok v = (ok v ≡ true) × (v < 2 ^ 64)
 
 tested-cond : (ok : ℕ → Bool) (s : List ℕ) (at v next : ℕ) (b : Bool) → ok v ≡ b → readInt s at ≡ int.Value v next
-    → Holds (Taken (Tested ok) s at) (cond b (got v next) outside)
+    → Holds (Taken (Tested ok) s at) (cond b (got v next) (outside at))
 unfolding Holds Tested
 tested-cond ok s at v next true e q =
     let a = advance s at v next q in
     record { fact = (e, value-small s at v next q); on = omega arith; end = omega arith }
 tested-cond ok s at v next false e q = tt
 
-tested-int : (ok : ℕ → Bool) (s : List ℕ) (at : ℕ) (i : Int) → readInt s at ≡ i → Holds (Taken (Tested ok) s at) (tested ok i)
+tested-int : (ok : ℕ → Bool) (s : List ℕ) (at : ℕ) (i : Int) → readInt s at ≡ i → Holds (Taken (Tested ok) s at) (tested ok at i)
 unfolding Holds tested
 tested-int ok s at (int.Value v next) q = tested-cond ok s at v next (ok v) refl q
-tested-int ok s at int.Short q = tt
-tested-int ok s at int.Overflow q = tt
+tested-int ok s at (int.Short k) q = tt
+tested-int ok s at (int.Overflow k) q = tt
 
 pub integer-holds : (ok : ℕ → Bool) (s : List ℕ) (at : ℕ) → Holds (Taken (Tested ok) s at) (integer ok s at)
 unfolding integer
@@ -152,7 +152,7 @@ module _ (P : Span → ℕ → Type 0) (n : ℕ) (s : List ℕ) (at : ℕ) where
   name-holds h =
       let Q : Span → ℕ → Type 0 = λ name next. P name next × (plainName (spanIn s name) ≡ true) in
       holds-then P Q (bytes n s at) _ h λ name next p.
-      holds-cond Q (plainName (spanIn s name)) _ _ (λ e. holds-got Q name next (p, e)) (λ e. holds-failed Q failure.NotPlain)
+      holds-cond Q (plainName (spanIn s name)) _ _ (λ e. holds-got Q name next (p, e)) (λ e. holds-failed Q (fault failure.NotPlain at))
 
 pub number-holds : (s : List ℕ) (at : ℕ) → Holds (Taken (λ v. Bytes s → v < 2 ^ 32) s at) (number4 s at)
 unfolding Holds number4 numberRead
@@ -163,7 +163,7 @@ number-holds s at =
     rw (number-value s at l)
     (record { fact = λ b. number-own s at _ _ b (number-value s at l) .0; on = omega arith; end = l }))
 
-server-id : (s : List ℕ) (at : ℕ) (r : ServerId) → readServerId s at ≡ r → Holds (Taken (λ z. mag z < 2 ^ 31) s at) (serverRead r)
+server-id : (s : List ℕ) (at : ℕ) (r : ServerId) → readServerId s at ≡ r → Holds (Taken (λ z. mag z < 2 ^ 31) s at) (serverRead at r)
 unfolding Holds serverRead
 server-id s at (server.Id z next) q =
     let a = server-advance s at z next q in
@@ -174,6 +174,19 @@ server-id s at server.OutOfRange q = tt
 pub server-holds : (s : List ℕ) (at : ℕ) → Holds (Taken (λ z. mag z < 2 ^ 31) s at) (serverId s at)
 unfolding serverId
 server-holds s at = server-id s at (readServerId s at) refl
+
+-- an integer that was read stands there
+value-stands : (ok : ℕ → Bool) (s : List ℕ) (at : ℕ) (i : Int) → readInt s at ≡ i → Holds (λ v next. readInt s at ≡ int.Value v next) (tested ok at i)
+unfolding tested
+value-stands ok s at (int.Value v next) q =
+    let P : ℕ → ℕ → Type 0 = λ w end. readInt s at ≡ int.Value w end in
+    holds-cond P (ok v) _ _ (λ t. holds-got P v next q) (λ t. holds-failed P _)
+value-stands ok s at (int.Short k) q = holds-failed (λ w end. readInt s at ≡ int.Value w end) _
+value-stands ok s at (int.Overflow k) q = holds-failed (λ w end. readInt s at ≡ int.Value w end) _
+
+pub integer-value : (ok : ℕ → Bool) (s : List ℕ) (at v next : ℕ) → integer ok s at ≡ got v next → readInt s at ≡ int.Value v next
+unfolding integer
+integer-value ok s at v next e = held (λ w end. readInt s at ≡ int.Value w end) _ (value-stands ok s at (readInt s at) refl) v next e
 
 -- an integer that was read passes its test
 pub integer-passed : (ok : ℕ → Bool) (s : List ℕ) (at v next : ℕ) → integer ok s at ≡ got v next → ok v ≡ true

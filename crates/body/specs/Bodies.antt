@@ -21,7 +21,7 @@ named id start len = record { id = id; name = record { start = start; len = len 
 
 -- "30, .. after the name is whole and before the key type"
 unfoldable pub nameField : ℕ → Reader Span
-nameField n body at = andThen (bytes n body at) λ name at₁. cond (plainName (spanIn body name)) (got name at₁) unplain
+nameField n body at = andThen (bytes n body at) λ name at₁. cond (plainName (spanIn body name)) (got name at₁) (unplain at)
 
 unfoldable pub namedFields : Reader Named
 namedFields body at =

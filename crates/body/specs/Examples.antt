@@ -45,43 +45,43 @@ record DefinitionExamples : Type 0 where
   behind : definitionFields (listed ++ (0xFF ∷ 0xFF ∷ [])) ≡ got (defines 4 (timed 60000 (replicate 8 0))) 10
   without-expiry : definitionFields (take 7 listed) ≡ got (defines 4 noTimes) 7
   -- cut before and inside a field
-  cut-id : definitionFields [] ≡ short
-  cut-length : definitionFields (take 1 listed) ≡ short
-  cut-name : definitionFields (take 3 listed) ≡ short
-  cut-key-type : definitionFields (take 4 listed) ≡ short
-  cut-key-length : definitionFields (take 5 listed) ≡ short
-  cut-types : definitionFields (take 6 listed) ≡ short
-  cut-expiry : definitionFields (take 9 listed) ≡ short
+  cut-id : definitionFields [] ≡ short 0
+  cut-length : definitionFields (take 1 listed) ≡ short 1
+  cut-name : definitionFields (take 3 listed) ≡ short 2
+  cut-key-type : definitionFields (take 4 listed) ≡ short 4
+  cut-key-length : definitionFields (take 5 listed) ≡ short 5
+  cut-types : definitionFields (take 6 listed) ≡ short 6
+  cut-expiry : definitionFields (take 9 listed) ≡ short 7
   -- rate types 3 and 5, with periods 10 and 11
   rates : definitionFields (named (0x02 ∷ 0x04 ∷ 0x28 ∷ 0x07 ∷ 0x03 ∷ 0x0A ∷ 0x05 ∷ 0x0B ∷ []))
       ≡ got (defines 0x28 (timed 7 (10 ∷ 11 ∷ replicate 6 0))) 12
-  cut-number : definitionFields (named (0x02 ∷ 0x04 ∷ 0x28 ∷ 0x07 ∷ 0x03 ∷ 0x0A ∷ [])) ≡ short
-  cut-period : definitionFields (named (0x02 ∷ 0x04 ∷ 0x28 ∷ 0x07 ∷ 0x03 ∷ [])) ≡ short
+  cut-number : definitionFields (named (0x02 ∷ 0x04 ∷ 0x28 ∷ 0x07 ∷ 0x03 ∷ 0x0A ∷ [])) ≡ short 10
+  cut-period : definitionFields (named (0x02 ∷ 0x04 ∷ 0x28 ∷ 0x07 ∷ 0x03 ∷ [])) ≡ short 9
   -- a pair's number out of order, at once
-  other-number : definitionFields (named (0x02 ∷ 0x04 ∷ 0x28 ∷ 0x07 ∷ 0x05 ∷ [])) ≡ outside
+  other-number : definitionFields (named (0x02 ∷ 0x04 ∷ 0x28 ∷ 0x07 ∷ 0x05 ∷ [])) ≡ outside 8
   -- name lengths 0 and 33
-  no-name : definitionFields (0x01 ∷ 0x00 ∷ []) ≡ outside
-  long-name : definitionFields (0x01 ∷ 0x21 ∷ []) ≡ outside
+  no-name : definitionFields (0x01 ∷ 0x00 ∷ []) ≡ outside 1
+  long-name : definitionFields (0x01 ∷ 0x21 ∷ []) ≡ outside 1
   -- the plain bytes at the limits of their ranges, `-./09:AZ_az`, and no key type
-  plain-name : definitionFields (0x01 ∷ 0x0B ∷ 0x2D ∷ 0x2E ∷ 0x2F ∷ 0x30 ∷ 0x39 ∷ 0x3A ∷ 0x41 ∷ 0x5A ∷ 0x5F ∷ 0x61 ∷ 0x7A ∷ []) ≡ short
+  plain-name : definitionFields (0x01 ∷ 0x0B ∷ 0x2D ∷ 0x2E ∷ 0x2F ∷ 0x30 ∷ 0x39 ∷ 0x3A ∷ 0x41 ∷ 0x5A ∷ 0x5F ∷ 0x61 ∷ 0x7A ∷ []) ≡ short 13
   -- `t` and a line feed: cut inside the name, with nothing behind it, and before a key type out of range
-  cut-line-feed : definitionFields (0x01 ∷ 0x03 ∷ 0x74 ∷ 0x0A ∷ []) ≡ short
-  line-feed : definitionFields (0x01 ∷ 0x02 ∷ 0x74 ∷ 0x0A ∷ []) ≡ unplain
-  line-feed-first : definitionFields (0x01 ∷ 0x02 ∷ 0x74 ∷ 0x0A ∷ 0x00 ∷ []) ≡ unplain
+  cut-line-feed : definitionFields (0x01 ∷ 0x03 ∷ 0x74 ∷ 0x0A ∷ []) ≡ short 2
+  line-feed : definitionFields (0x01 ∷ 0x02 ∷ 0x74 ∷ 0x0A ∷ []) ≡ unplain 2
+  line-feed-first : definitionFields (0x01 ∷ 0x02 ∷ 0x74 ∷ 0x0A ∷ 0x00 ∷ []) ≡ unplain 2
   -- the name's length comes before it
-  long-line-feed : definitionFields (0x01 ∷ 0x21 ∷ replicate 33 0x0A) ≡ outside
+  long-line-feed : definitionFields (0x01 ∷ 0x21 ∷ replicate 33 0x0A) ≡ outside 1
   -- key types 0, 1, 3, 8 and 2^32 + 2, with nothing behind them; key length 5 of an integer key, 0 and 65 of a string
-  key-type-0 : definitionFields (named (0x00 ∷ [])) ≡ outside
-  key-type-1 : definitionFields (named (0x01 ∷ [])) ≡ outside
-  key-type-3 : definitionFields (named (0x03 ∷ [])) ≡ outside
-  key-type-8 : definitionFields (named (0x08 ∷ [])) ≡ outside
-  large-key-type : definitionFields (named (0xF2 ∷ 0xF1 ∷ 0xFE ∷ 0xFE ∷ 0x7E ∷ [])) ≡ outside
-  other-length : definitionFields (named (0x02 ∷ 0x05 ∷ [])) ≡ outside
-  no-length : definitionFields (named (0x06 ∷ 0x00 ∷ [])) ≡ outside
-  long-key : definitionFields (named (0x06 ∷ 0x41 ∷ [])) ≡ outside
+  key-type-0 : definitionFields (named (0x00 ∷ [])) ≡ outside 4
+  key-type-1 : definitionFields (named (0x01 ∷ [])) ≡ outside 4
+  key-type-3 : definitionFields (named (0x03 ∷ [])) ≡ outside 4
+  key-type-8 : definitionFields (named (0x08 ∷ [])) ≡ outside 4
+  large-key-type : definitionFields (named (0xF2 ∷ 0xF1 ∷ 0xFE ∷ 0xFE ∷ 0x7E ∷ [])) ≡ outside 4
+  other-length : definitionFields (named (0x02 ∷ 0x05 ∷ [])) ≡ outside 5
+  no-length : definitionFields (named (0x06 ∷ 0x00 ∷ [])) ≡ outside 5
+  long-key : definitionFields (named (0x06 ∷ 0x41 ∷ [])) ≡ outside 5
   -- data types 2^19 - 1 and 2^19
   all-types : definitionFields (named (0x02 ∷ 0x04 ∷ 0xFF ∷ 0xF0 ∷ 0xFE ∷ 0x00 ∷ [])) ≡ got (defines (2 ^ 19 - 1) noTimes) 10
-  more-types : definitionFields (named (0x02 ∷ 0x04 ∷ 0xF0 ∷ 0xF1 ∷ 0xFE ∷ 0x00 ∷ [])) ≡ outside
+  more-types : definitionFields (named (0x02 ∷ 0x04 ∷ 0xF0 ∷ 0xF1 ∷ 0xFE ∷ 0x00 ∷ [])) ≡ outside 6
 
 definition-examples : DefinitionExamples
 unfolding definitionFields restFields namedFields nameField plainName isPlain every among spanIn shapeFields isKeyType timesFields timesThere periodField pairField andThen forEach tested integer between integerOf bytes readInt readFirst withLater laterBytes before weighted fitting keyKind keyLengthOk dataTypesOk present rateTypes
@@ -124,10 +124,10 @@ definition-examples = record {
 record OtherExamples : Type 0 where
   -- IDs 2^32 - 1 and 2^32
   switch : switchFields (0xFF ∷ 0xF0 ∷ 0xFE ∷ 0xFE ∷ 0x7E ∷ []) ≡ got (2 ^ 32 - 1) 5
-  switch-over : switchFields (0xF0 ∷ 0xF1 ∷ 0xFE ∷ 0xFE ∷ 0x7E ∷ []) ≡ outside
-  switch-cut : switchFields (0xF0 ∷ 0xF1 ∷ 0xFE ∷ 0xFE ∷ []) ≡ short
+  switch-over : switchFields (0xF0 ∷ 0xF1 ∷ 0xFE ∷ 0xFE ∷ 0x7E ∷ []) ≡ outside 0
+  switch-cut : switchFields (0xF0 ∷ 0xF1 ∷ 0xFE ∷ 0xFE ∷ []) ≡ short 0
   acknowledgement : acknowledgementFields (0x01 ∷ 0xFF ∷ 0xFF ∷ 0xFF ∷ 0xFF ∷ []) ≡ got (record { id = 1; update = 4294967295 }) 5
-  acknowledgement-cut : acknowledgementFields (0x01 ∷ 0xFF ∷ 0xFF ∷ 0xFF ∷ []) ≡ short
+  acknowledgement-cut : acknowledgementFields (0x01 ∷ 0xFF ∷ 0xFF ∷ 0xFF ∷ []) ≡ short 1
 
 other-examples : OtherExamples
 unfolding switchFields acknowledgementFields andThen tested integer integerOf number4 numberRead readInt readFirst withLater laterBytes before weighted fitting readNumber numberOf
@@ -169,26 +169,26 @@ record UpdateExamples : Type 0 where
   behind : updateFields (table 2 4 4) (update ++ (0xFF ∷ [])) ≡ got (updates 4294967295 4 4 (pos 0) (0 ∷ 4660 ∷ replicate 32 0)) 11
   incremental : incrementalFields (table 2 4 4) 0 (keyed (0x05 ∷ [])) ≡ got (updates 0 0 4 (pos 0) (0 ∷ 5 ∷ replicate 32 0)) 5
   -- cut inside ID, key and value
-  cut-id : updateFields (table 2 4 4) (take 3 update) ≡ short
-  cut-key : updateFields (table 2 4 4) (take 7 update) ≡ short
-  cut-value : updateFields (table 2 4 4) (take 10 update) ≡ short
+  cut-id : updateFields (table 2 4 4) (take 3 update) ≡ short 0
+  cut-key : updateFields (table 2 4 4) (take 7 update) ≡ short 4
+  cut-value : updateFields (table 2 4 4) (take 10 update) ≡ short 8
   -- rate type 3 is three integers
   rate : incrementalFields (table 2 4 8) 0 (keyed (0x07 ∷ 0x08 ∷ 0x09 ∷ []))
       ≡ got (updates 0 0 4 (pos 0) (0 ∷ 0 ∷ 7 ∷ 8 ∷ 9 ∷ replicate 29 0)) 7
-  cut-rate : incrementalFields (table 2 4 8) 0 (keyed (0x07 ∷ 0x08 ∷ [])) ≡ short
+  cut-rate : incrementalFields (table 2 4 8) 0 (keyed (0x07 ∷ 0x08 ∷ [])) ≡ short 6
   -- types 13 and 15 take 64 bits, type 1 takes 32
   bytes-in : incrementalFields (table 2 4 (2 ^ 13)) 0 (keyed largest)
       ≡ got (updates 0 0 4 (pos 0) (replicate 22 0 ++ ((2 ^ 64 - 1) ∷ replicate 11 0))) 14
   bytes-out : incrementalFields (table 2 4 (2 ^ 15)) 0 (keyed largest)
       ≡ got (updates 0 0 4 (pos 0) (replicate 26 0 ++ ((2 ^ 64 - 1) ∷ replicate 7 0))) 14
-  over : incrementalFields (table 2 4 2) 0 (keyed largest) ≡ outside
+  over : incrementalFields (table 2 4 2) 0 (keyed largest) ≡ outside 4
   server : incrementalFields (table 2 4 1) 0 (keyed largest) ≡ got (updates 0 0 4 (negsuc 0) (replicate 34 0)) 14
-  cut-server : incrementalFields (table 2 4 1) 0 (keyed []) ≡ short
+  cut-server : incrementalFields (table 2 4 1) 0 (keyed []) ≡ short 4
   -- a string of 0 to 2 bytes
   empty : incrementalFields (table 6 2 0) 0 (0x00 ∷ []) ≡ got (updates 0 1 0 (pos 0) (replicate 34 0)) 1
   string : incrementalFields (table 6 2 0) 0 (0x02 ∷ 0x61 ∷ 0x62 ∷ []) ≡ got (updates 0 1 2 (pos 0) (replicate 34 0)) 3
-  long-string : incrementalFields (table 6 2 0) 0 (0x03 ∷ []) ≡ outside
-  cut-string : incrementalFields (table 6 2 0) 0 (0x02 ∷ 0x61 ∷ []) ≡ short
+  long-string : incrementalFields (table 6 2 0) 0 (0x03 ∷ []) ≡ outside 0
+  cut-string : incrementalFields (table 6 2 0) 0 (0x02 ∷ 0x61 ∷ []) ≡ short 1
 
 update-examples : UpdateExamples
 unfolding updateFields incrementalFields entryFields keyField stringField dataFields serverField slotField andThen forEach tested integer between integerOf bytes number4 numberRead serverId serverRead readInt readFirst withLater laterBytes before weighted fitting readNumber numberOf readServerId serverOf serverBefore serverIdOf keyKind present isRate isWide among widthOf integersOf slotsFor slotTypes rateTypes

@@ -6,6 +6,7 @@ use lib.ListN.{length, take, drop}
 use lib.Dec.{ltb, leb}
 use lib.IntN.{ℤ}
 use Rattle.body.specs.declared.Failure.{Failure}
+use Rattle.body.specs.declared.Fault.{Fault}
 use Rattle.body.specs.declared.Failure.the-variants as failure
 use Rattle.wire.specs.declared.Int.{Int}
 use Rattle.wire.specs.declared.Int.the-variants as int
@@ -17,23 +18,27 @@ use Rattle.wire.specs.Integer.{readInt}
 use Rattle.wire.specs.Number.{readNumber}
 use Rattle.wire.specs.Server.{readServerId}
 
--- what reading at a position gives: a value and the position after it, or why it fails
+-- what reading at a position gives: a value and the position after it; or why it fails and, by request 10, "the offset in the body, from 0, at
+-- which the failing field starts, a field being one integer or a name's or key's bytes"
 pub data Read (A : Type 0) : Type 0 where
   got : A → ℕ → Read A
-  failed : Failure → Read A
+  failed : Fault → Read A
+
+abbrev pub fault : Failure → ℕ → Fault
+fault f start = record { failure = f; start = start }
 
 module _ {A : Type 0} where
   -- "body ends before a field is whole"
-  abbrev pub short : Read A
-  short = failed failure.Short
+  abbrev pub short : ℕ → Read A
+  short start = failed (fault failure.Short start)
 
   -- "field overflows or is out of range"
-  abbrev pub outside : Read A
-  outside = failed failure.OutOfRange
+  abbrev pub outside : ℕ → Read A
+  outside start = failed (fault failure.OutOfRange start)
 
   -- a name with another byte than "letters, digits, `.`, `_`, `-`, `/` and `:`"
-  abbrev pub unplain : Read A
-  unplain = failed failure.NotPlain
+  abbrev pub unplain : ℕ → Read A
+  unplain start = failed (fault failure.NotPlain start)
 
 -- what reads at a position of a body
 abbrev pub Reader : Type 0 → Type 0
@@ -53,14 +58,14 @@ forEach field (t ∷ ts) body at =
     andThen (forEach field ts body at₁) λ values at₂.
     got (value ∷ values) at₂
 
--- an encoded integer that passes the test
-unfoldable pub tested : (ℕ → Bool) → Int → Read ℕ
-tested ok (int.Value v next) = cond (ok v) (got v next) outside
-tested ok int.Short = short
-tested ok int.Overflow = outside
+-- an encoded integer that passes the test, and starts at a position
+unfoldable pub tested : (ℕ → Bool) → ℕ → Int → Read ℕ
+tested ok start (int.Value v next) = cond (ok v) (got v next) (outside start)
+tested ok start (int.Short looked) = short start
+tested ok start (int.Overflow looked) = outside start
 
 unfoldable pub integer : (ℕ → Bool) → Reader ℕ
-integer ok body at = tested ok (readInt body at)
+integer ok body at = tested ok at (readInt body at)
 
 -- from low up to high
 unfoldable pub between : ℕ → ℕ → ℕ → Bool
@@ -81,21 +86,21 @@ spanIn body span = take (span .len) (drop (span .start) body)
 
 -- n bytes
 unfoldable pub bytes : ℕ → Reader Span
-bytes n body at = cond (leb (at + n) (length body)) (got (record { start = at; len = n }) (at + n)) short
+bytes n body at = cond (leb (at + n) (length body)) (got (record { start = at; len = n }) (at + n)) (short at)
 
 -- a 4-byte big-endian number
-unfoldable pub numberRead : FourBytes → Read ℕ
-numberRead (number.Value v next) = got v next
-numberRead number.Short = short
+unfoldable pub numberRead : ℕ → FourBytes → Read ℕ
+numberRead start (number.Value v next) = got v next
+numberRead start number.Short = short start
 
 unfoldable pub number4 : Reader ℕ
-number4 body at = numberRead (readNumber body at)
+number4 body at = numberRead at (readNumber body at)
 
 -- a server ID
-unfoldable pub serverRead : ServerId → Read ℤ
-serverRead (server.Id id next) = got id next
-serverRead server.Short = short
-serverRead server.OutOfRange = outside
+unfoldable pub serverRead : ℕ → ServerId → Read ℤ
+serverRead start (server.Id id next) = got id next
+serverRead start server.Short = short start
+serverRead start server.OutOfRange = outside start
 
 unfoldable pub serverId : Reader ℤ
-serverId body at = serverRead (readServerId body at)
+serverId body at = serverRead at (readServerId body at)

@@ -2,4 +2,5 @@ pub mod Fields
 pub mod Bodies
 pub mod Results
 pub mod Encodings
+pub mod Breaks
 pub mod Examples

@@ -31,10 +31,10 @@ use Rattle.body.specs.Bodies.{Named, Shape, Times, noTimes, Definition, 
 
 -- ---- of one field
 
-unfoldable pub fieldRead : Field → Read ℕ
-fieldRead (field.Value v next) = got v next
-fieldRead field.Short = short
-fieldRead field.OutOfRange = outside
+unfoldable pub fieldRead : ℕ → Field → Read ℕ
+fieldRead start (field.Value v next) = got v next
+fieldRead start field.Short = short start
+fieldRead start field.OutOfRange = outside start
 
 unfoldable pub intRead : IntRead → Read ℕ
 intRead (int.Value v next) = got v next

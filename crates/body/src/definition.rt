@@ -3,6 +3,7 @@ ghost use mathlib.Core.Path.{_≡_};
 ghost use Rattle.body.specs.Bodies.{named, nameField, namedFields, restFields, definitionFields};
 ghost use Rattle.body.specs.Results.{partRead, namedRead, definitionStruct, noDefinition, definitionBody};
 use crate::Failure;
+use crate::Fault;
 use crate::IntRead;
 use crate::PartRead;
 use crate::Reading;
@@ -25,7 +26,7 @@ pub enum NamedRead {
         name_len: usize,
         next: usize,
     },
-    Failed(Failure),
+    Failed(Fault),
 }
 
 // The fields of a definition. Its name stands in the body from `name_at` on. `timed` is 1 where the body has expiry and periods.
@@ -51,7 +52,10 @@ fn read_name(n: usize, body: &[u8], at: usize) -> PartRead
             if plain_name(&body[start..next]) {
                 return PartRead::Bytes { start, len, next };
             }
-            PartRead::Failed(Failure::NotPlain)
+            PartRead::Failed(Fault {
+                failure: Failure::NotPlain,
+                start: at,
+            })
         }
         PartRead::Failed(f) => PartRead::Failed(f),
     }

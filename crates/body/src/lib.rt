@@ -21,10 +21,16 @@ pub enum Failure {
     NotPlain,
 }
 
+// A field that can't be read: why, and the position at which it starts.
+pub struct Fault {
+    pub failure: Failure,
+    pub start: usize,
+}
+
 // How far a body could be read: all its known fields, up to the position after them; or up to a field that fails.
 pub enum Reading {
     Whole(usize),
-    Failed(Failure),
+    Failed(Fault),
 }
 
 // ---- fields
@@ -32,13 +38,13 @@ pub enum Reading {
 // What reading an encoded integer with a test finds.
 pub enum IntRead {
     Value { value: u64, next: usize },
-    Failed(Failure),
+    Failed(Fault),
 }
 
 // What reading a number of 32 bits finds.
 pub enum Word {
     Value { value: u32, next: usize },
-    Failed(Failure),
+    Failed(Fault),
 }
 
 // What reading a part of a body finds: `len` bytes from `start` on.
@@ -48,7 +54,7 @@ pub enum PartRead {
         len: usize,
         next: usize,
     },
-    Failed(Failure),
+    Failed(Fault),
 }
 
 // The encoded integer at `at`, which may be from `low` to `high`.
@@ -58,15 +64,27 @@ pub fn read_between(low: u64, high: u64, body: &[u8], at: usize) -> IntRead
     match wire::read_int(body, at) {
         Int::Value { value, next } => {
             if value < low {
-                return IntRead::Failed(Failure::OutOfRange);
+                return IntRead::Failed(Fault {
+                    failure: Failure::OutOfRange,
+                    start: at,
+                });
             }
             if high < value {
-                return IntRead::Failed(Failure::OutOfRange);
+                return IntRead::Failed(Fault {
+                    failure: Failure::OutOfRange,
+                    start: at,
+                });
             }
             IntRead::Value { value, next }
         }
-        Int::Short => IntRead::Failed(Failure::Short),
-        Int::Overflow => IntRead::Failed(Failure::OutOfRange),
+        Int::Short { looked: _ } => IntRead::Failed(Fault {
+            failure: Failure::Short,
+            start: at,
+        }),
+        Int::Overflow { looked: _ } => IntRead::Failed(Fault {
+            failure: Failure::OutOfRange,
+            start: at,
+        }),
     }
 }
 
@@ -79,8 +97,14 @@ pub fn read_word(body: &[u8], at: usize) -> Word
             value: value as u32,
             next,
         },
-        Field::Short => Word::Failed(Failure::Short),
-        Field::OutOfRange => Word::Failed(Failure::OutOfRange),
+        Field::Short => Word::Failed(Fault {
+            failure: Failure::Short,
+            start: at,
+        }),
+        Field::OutOfRange => Word::Failed(Fault {
+            failure: Failure::OutOfRange,
+            start: at,
+        }),
     }
 }
 
@@ -89,10 +113,16 @@ pub fn read_part(n: usize, body: &[u8], at: usize) -> PartRead
     ensures { λ r. ⌜ partRead r ≡ bytes n (now (body .entry)) at ⌝ }
 {
     if body.len() < at {
-        return PartRead::Failed(Failure::Short);
+        return PartRead::Failed(Fault {
+            failure: Failure::Short,
+            start: at,
+        });
     }
     if body.len() - at < n {
-        return PartRead::Failed(Failure::Short);
+        return PartRead::Failed(Fault {
+            failure: Failure::Short,
+            start: at,
+        });
     }
     PartRead::Bytes {
         start: at,
@@ -113,7 +143,7 @@ pub fn read_switch(body: &[u8]) -> Word
 // What reading an acknowledgement finds.
 pub enum AcknowledgementBody {
     Fields { id: u32, update: u32, next: usize },
-    Failed(Failure),
+    Failed(Fault),
 }
 
 // The fields of an acknowledgement: its ID and its update ID.
@@ -130,7 +160,10 @@ pub fn read_acknowledgement(body: &[u8]) -> AcknowledgementBody
                 update,
                 next: end,
             },
-            FourBytes::Short => AcknowledgementBody::Failed(Failure::Short),
+            FourBytes::Short => AcknowledgementBody::Failed(Fault {
+                failure: Failure::Short,
+                start: next,
+            }),
         },
         Word::Failed(f) => AcknowledgementBody::Failed(f),
     }

@@ -5,6 +5,7 @@ ghost use Rattle.body.specs.Fields.{integer};
 ghost use Rattle.body.specs.Bodies.{isKeyType, shapeFields};
 ghost use Rattle.body.specs.Results.{intRead, shapeRead};
 use crate::Failure;
+use crate::Fault;
 use crate::IntRead;
 use crate::read_between;
 use store::DATA_TYPES_MAX;
@@ -18,7 +19,7 @@ pub enum ShapeRead {
         data_types: u32,
         next: usize,
     },
-    Failed(Failure),
+    Failed(Fault),
 }
 
 // Whether a number is a key type.
@@ -40,10 +41,19 @@ fn read_key_type(body: &[u8], at: usize) -> IntRead
             if is_key_type(value) {
                 return IntRead::Value { value, next };
             }
-            IntRead::Failed(Failure::OutOfRange)
+            IntRead::Failed(Fault {
+                failure: Failure::OutOfRange,
+                start: at,
+            })
         }
-        Int::Short => IntRead::Failed(Failure::Short),
-        Int::Overflow => IntRead::Failed(Failure::OutOfRange),
+        Int::Short { looked: _ } => IntRead::Failed(Fault {
+            failure: Failure::Short,
+            start: at,
+        }),
+        Int::Overflow { looked: _ } => IntRead::Failed(Fault {
+            failure: Failure::OutOfRange,
+            start: at,
+        }),
     }
 }
 
@@ -56,10 +66,19 @@ fn read_key_len(key_type: u32, body: &[u8], at: usize) -> IntRead
             if store::types::key_length_ok(key_type, value as usize) {
                 return IntRead::Value { value, next };
             }
-            IntRead::Failed(Failure::OutOfRange)
+            IntRead::Failed(Fault {
+                failure: Failure::OutOfRange,
+                start: at,
+            })
         }
-        Int::Short => IntRead::Failed(Failure::Short),
-        Int::Overflow => IntRead::Failed(Failure::OutOfRange),
+        Int::Short { looked: _ } => IntRead::Failed(Fault {
+            failure: Failure::Short,
+            start: at,
+        }),
+        Int::Overflow { looked: _ } => IntRead::Failed(Fault {
+            failure: Failure::OutOfRange,
+            start: at,
+        }),
     }
 }
 

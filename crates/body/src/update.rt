@@ -1,5 +1,6 @@
 // The fields of an update, read from its body.
 use crate::Failure;
+use crate::Fault;
 use crate::PartRead;
 use crate::Reading;
 use crate::read_part;
@@ -67,7 +68,10 @@ pub fn read_update(table: Table, body: &[u8]) -> UpdateBody
 {
     match wire::fixed::read_number(body, 0) {
         FourBytes::Value { value, next } => read_entry(table, value, body, next),
-        FourBytes::Short => no_update(Reading::Failed(Failure::Short)),
+        FourBytes::Short => no_update(Reading::Failed(Fault {
+            failure: Failure::Short,
+            start: 0,
+        })),
     }
 }
 

@@ -4,6 +4,7 @@ ghost use Rattle.body.specs.Fields.{serverRead};
 ghost use Rattle.body.specs.Bodies.{serverField, slotField, valueFields, dataFields};
 ghost use Rattle.body.specs.Results.{fieldRead, valuesRead, dataStruct, noData, dataResult};
 use crate::Failure;
+use crate::Fault;
 use crate::Reading;
 use store::VALUES;
 use wire::values::Field;
@@ -24,7 +25,7 @@ pub struct DataRead {
 
 // The server ID at `at`, if it is among the data types.
 fn read_server(types: u32, body: &[u8], at: usize) -> ServerId
-    ensures { λ r. ⌜ serverRead r ≡ serverField types (now (body .entry)) at ⌝ }
+    ensures { λ r. ⌜ serverRead at r ≡ serverField types (now (body .entry)) at ⌝ }
 {
     if store::types::present(types, 0) {
         return wire::values::read_server_id(body, at);
@@ -34,7 +35,7 @@ fn read_server(types: u32, body: &[u8], at: usize) -> ServerId
 
 // An integer of data type `t` at `at`, if that type is present.
 fn read_slot(types: u32, t: usize, body: &[u8], at: usize) -> Field
-    ensures { λ r. ⌜ fieldRead r ≡ slotField types t (now (body .entry)) at ⌝ }
+    ensures { λ r. ⌜ fieldRead at r ≡ slotField types t (now (body .entry)) at ⌝ }
 {
     if store::types::present(types, t) {
         if store::types::is_wide(t) {
@@ -61,13 +62,19 @@ fn read_values(types: u32, body: &[u8], at: usize) -> ValuesRead
             }
             Field::Short => {
                 return ValuesRead {
-                    reading: Reading::Failed(Failure::Short),
+                    reading: Reading::Failed(Fault {
+                        failure: Failure::Short,
+                        start: position,
+                    }),
                     values,
                 };
             }
             Field::OutOfRange => {
                 return ValuesRead {
-                    reading: Reading::Failed(Failure::OutOfRange),
+                    reading: Reading::Failed(Fault {
+                        failure: Failure::OutOfRange,
+                        start: position,
+                    }),
                     values,
                 };
             }
@@ -97,8 +104,14 @@ pub fn read_data(types: u32, body: &[u8], at: usize) -> DataRead
                 Reading::Failed(f) => no_data(Reading::Failed(f)),
             }
         }
-        ServerId::Short => no_data(Reading::Failed(Failure::Short)),
-        ServerId::OutOfRange => no_data(Reading::Failed(Failure::OutOfRange)),
+        ServerId::Short => no_data(Reading::Failed(Fault {
+            failure: Failure::Short,
+            start: at,
+        })),
+        ServerId::OutOfRange => no_data(Reading::Failed(Fault {
+            failure: Failure::OutOfRange,
+            start: at,
+        })),
     }
 }
 

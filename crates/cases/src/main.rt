@@ -365,7 +365,15 @@ fn messages() {
         b"refusal 23: a definition that ends in its name",
         b"\x0a\x82\x03\x01\x02t",
     );
+    after_hello(
+        b"refusal 23: an update that ends in its string key",
+        b"\x0a\x82\x06\x01\x01t\x06\x04\x00\x0a\x80\x08\x00\x00\x00\x01\x04abc",
+    );
     after_hello(b"refusal 24: a name of 33 bytes", b"\x0a\x82\x02\x01\x21");
+    after_hello(
+        b"refusal 24: an update whose second value is 2^32",
+        b"\x0a\x82\x06\x01\x01t\x02\x04\x06\x0a\x80\x0e\x00\x00\x00\x01\x00\x00\x00\x2a\x05\xf0\xf1\xfe\xfe\x7e",
+    );
     after_hello(
         b"refusal 25: another key type under a held name",
         b"\x0a\x82\x06\x01\x01t\x02\x04\x00\x0a\x82\x06\x01\x01t\x04\x04\x00",

@@ -11,13 +11,13 @@ use Rattle.wire.specs.declared.Int.the-variants as int
 use Rattle.wire.specs.Integer.{readInt}
 use Rattle.lists.proofs.Cases.{lt-or-le, split}
 use Rattle.wire.proofs.Behind.{int-behind}
+use Rattle.wire.proofs.Decided.{Past, int-past}
 use Rattle.frame.specs.declared.Header.{Header}
 use Rattle.frame.specs.declared.Header.the-variants as header
 use Rattle.frame.specs.declared.Frame.{Frame}
 use Rattle.frame.specs.declared.Frame.the-variants as frame
 use Rattle.frame.specs.Frame.{headerOf, withLength, withHeader, judgeFrame}
 use Rattle.frame.proofs.Judging.{header-waits, by-header, length-short, length-over, too-long, body-waits, body-whole}
-use Rattle.frame.proofs.Lengths.{Past, int-past}
 use Rattle.frame.proofs.Limits.{FrameFacts, frame-facts, whole-facts}
 
 -- ---- a body that is whole ends past position p
@@ -36,10 +36,10 @@ beyond-header p w (frame.Error type) h q = tt
 beyond-header p w (frame.Body kind start end) h q = omega arith
 beyond-header p w (frame.Refused n) h q = tt
 
-beyond-length : (p kind : ℕ) (w : List ℕ) (i : Int) → Past p i → Beyond p (withLength kind w i)
+beyond-length : (p kind : ℕ) (w : List ℕ) (i : Int) → Past 2 p i → Beyond p (withLength kind w i)
 unfolding Beyond Past withLength
-beyond-length p kind w int.Short q = tt
-beyond-length p kind w int.Overflow q = tt
+beyond-length p kind w (int.Short k) q = tt
+beyond-length p kind w (int.Overflow k) q = tt
 beyond-length p kind w (int.Value n start) q =
     split (lt-or-le 1024 n)
     (λ l. rw (lt-ltb 1024 n l) tt)
@@ -53,18 +53,18 @@ Onward : List ℕ → Frame → Frame → Type 0
 Onward u f g = ((f ≡ frame.Waiting) × Beyond (length u) g) ⊎ (g ≡ f)
 
 module _ (u v : List ℕ) (kind : ℕ) where
-  beyond-short : 2 ≤ length u → readInt u 2 ≡ int.Short → Beyond (length u) (withLength kind (u ++ v) (readInt (u ++ v) 2))
+  beyond-short : (k : ℕ) → 2 ≤ length u → readInt u 2 ≡ int.Short k → Beyond (length u) (withLength kind (u ++ v) (readInt (u ++ v) 2))
   unfolding Beyond
-  beyond-short h e =
+  beyond-short k h e =
       split (int-past u v 2 h)
       (λ q. beyond-length (length u) kind (u ++ v) (readInt (u ++ v) 2) q)
-      (λ q. subst (Beyond (length u)) (length-short (u ++ v) _ refl kind (q ∙ e)) tt)
+      (λ q. subst (Beyond (length u)) (length-short (u ++ v) _ refl kind k (q ∙ e)) tt)
 
   onward-same : (i : Int) → i ≡ readInt u 2 → i ≡ readInt (u ++ v) 2
       → Onward u (withLength kind u (readInt u 2)) (withLength kind (u ++ v) (readInt (u ++ v) 2))
   unfolding Onward Beyond
-  onward-same int.Short p q = inr (sym (length-short (u ++ v) _ q kind refl) ∙ length-short u _ p kind refl)
-  onward-same int.Overflow p q = inr (sym (length-over (u ++ v) _ q kind refl) ∙ length-over u _ p kind refl)
+  onward-same (int.Short k) p q = inr (sym (length-short (u ++ v) _ q kind k refl) ∙ length-short u _ p kind k refl)
+  onward-same (int.Overflow k) p q = inr (sym (length-over (u ++ v) _ q kind k refl) ∙ length-over u _ p kind k refl)
   onward-same (int.Value n start) p q =
       split (lt-or-le 1024 n)
       (λ l. inr (sym (too-long (u ++ v) _ q kind n start refl 1024 l refl) ∙ too-long u _ p kind n start refl 1024 l refl))
@@ -85,7 +85,7 @@ module _ (u v : List ℕ) (kind : ℕ) where
   unfolding Onward
   onward-length h =
       split (int-behind u v 2)
-      (λ e. inl (sym (length-short u _ refl kind e), beyond-short h e))
+      (λ e. inl (sym (length-short u _ refl kind _ e), beyond-short _ h e))
       (λ q. onward-same (readInt u 2) refl (sym q))
 
 onward-header : (u v : List ℕ) (h : Header) → 2 ≤ length u → Onward u (withHeader u h) (withHeader (u ++ v) h)

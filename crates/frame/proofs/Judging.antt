@@ -59,13 +59,13 @@ module _ (s : List ℕ) (i : Int) (p : i ≡ readInt s 2) where
   end-fits n start m e h t = let l : start ≤ 2 + 10 = at-most-ten s 2 n start (sym p ∙ e) in record { fits = omega (arith, ltb-true m (2 ^ 32) t) }
 
   module _ (kind : ℕ) where
-    pub length-short : i ≡ int.Short → frame.Waiting ≡ withLength kind s (readInt s 2)
+    pub length-short : (k : ℕ) → i ≡ int.Short k → frame.Waiting ≡ withLength kind s (readInt s 2)
     unfolding withLength
-    length-short e = rw (← p, e)
+    length-short k e = rw (← p, e)
 
-    pub length-over : i ≡ int.Overflow → frame.Refused 21 ≡ withLength kind s (readInt s 2)
+    pub length-over : (k : ℕ) → i ≡ int.Overflow k → frame.Refused 21 ≡ withLength kind s (readInt s 2)
     unfolding withLength
-    length-over e = rw (← p, e)
+    length-over k e = rw (← p, e)
 
     module _ (n start : ℕ) (e : i ≡ int.Value n start) where
       pub too-long : (m : ℕ) → m < n → leb 1024 m ≡ true → frame.Refused 22 ≡ withLength kind s (readInt s 2)

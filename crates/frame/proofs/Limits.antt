@@ -59,10 +59,10 @@ FrameFacts u (frame.Refused n) = (20 ≤ n) × (n ≤ 22)
 
 facts-by-length : (u : List ℕ) (kind : ℕ) (i : Int) → i ≡ readInt u 2 → kind ≡ getD u 1 0 → 128 ≤ kind → FrameFacts u (withLength kind u (readInt u 2))
 unfolding FrameFacts
-facts-by-length u kind int.Short p t h =
-    let few : length u ≤ 2 + 9 = short-few u 2 (sym p) in
-    subst (FrameFacts u) (length-short u _ p kind refl) (omega arith)
-facts-by-length u kind int.Overflow p t h = subst (FrameFacts u) (length-over u _ p kind refl) (omega arith, omega arith)
+facts-by-length u kind (int.Short k) p t h =
+    let few : length u ≤ 2 + 9 = short-few u 2 k (sym p) in
+    subst (FrameFacts u) (length-short u _ p kind k refl) (omega arith)
+facts-by-length u kind (int.Overflow k) p t h = subst (FrameFacts u) (length-over u _ p kind k refl) (omega arith, omega arith)
 facts-by-length u kind (int.Value n start) p t h =
     split (lt-or-le 1024 n)
     (λ l. subst (FrameFacts u) (too-long u _ p kind n start refl 1024 l refl) (omega arith, omega arith))

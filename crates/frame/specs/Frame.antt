@@ -27,8 +27,8 @@ bodyMax = 1024
 -- "Class 10 continues with the encoded body length, judged at its last byte (21 at the byte that shows an overflow), then the body, judged
 -- when whole."
 unfoldable pub withLength : ℕ → List ℕ → Int → Frame
-withLength kind u int.Short = frame.Waiting
-withLength kind u int.Overflow = frame.Refused 21
+withLength kind u (int.Short looked) = frame.Waiting
+withLength kind u (int.Overflow looked) = frame.Refused 21
 withLength kind u (int.Value n start) =
     cond (ltb bodyMax n) (frame.Refused 22)
     (cond (ltb (length u) (start + n)) frame.Waiting (frame.Body kind start (start + n)))

@@ -50,8 +50,8 @@ fn judge_body(s: &[u8], kind: u8) -> Frame
     ensures { λ r. ⌜ r ≡ withLength kind (now (s .entry)) (readInt (now (s .entry)) 2) ⌝ }
 {
     match wire::read_int(s, 2) {
-        wire::Int::Short => Frame::Waiting,
-        wire::Int::Overflow => Frame::Refused(21),
+        wire::Int::Short { looked: _ } => Frame::Waiting,
+        wire::Int::Overflow { looked: _ } => Frame::Refused(21),
         wire::Int::Value { value, next } => {
             if BODY_MAX < value {
                 return Frame::Refused(22);

@@ -1,6 +1,6 @@
 // Runs the wire's numbers through the compiled code. Each line of the output is one case:
 //   int V HEX R N        the encoding of V, and the value R and next position N read back from it
-//   read HEX ANSWER      what stands at position 0 of the bytes: a value and the next position, `short` or `overflow`
+//   read HEX ANSWER      what stands at position 0 of the bytes: a value and the next position; `short` or `overflow` and the bytes looked at
 //   limit L V ANSWER     V's encoding read with the limit L: a value and the next position, `short` or `out`
 //   id V ANSWER          the server ID read from the encoding of the word V, and its word again; or `short` or `out`
 //   number V HEX R N     the four bytes of V, and the number R and next position N read back from them
@@ -40,11 +40,13 @@ fn show_int(r: wire::Int) {
         wire::Int::Value { value, next } => {
             show_value(value, next);
         }
-        wire::Int::Short => {
-            io::write_all(1, b"short");
+        wire::Int::Short { looked } => {
+            io::write_all(1, b"short ");
+            decimal(looked as u64);
         }
-        wire::Int::Overflow => {
-            io::write_all(1, b"overflow");
+        wire::Int::Overflow { looked } => {
+            io::write_all(1, b"overflow ");
+            decimal(looked as u64);
         }
     }
 }

@@ -20,7 +20,8 @@ commitWord commit.Replaced = ascii "replaced"
 
 -- "hello west 7 0", "table 0 7431", "update 0 4294967295 0 new", "finished"; "Other lines: `status`, `request`, `partial`, `confirm`,
 -- `heartbeat`, `error` and its type, `switch` and the table place, `ack` with ID and update ID, `skipped` and the type. An update shows
--- table place, update ID and entry place. Numbers are decimal, table names and replies hex. .. A refusal prints `refused` and its number".
+-- table place, update ID and entry place. Numbers are decimal, table names and replies hex. .. A refusal prints `refused` and its number"; request 10:
+-- "`peerlist` prints that number [the offset] after the refusal's".
 -- A hello's name is the accepted peer's, a table's that of the table at its place. More wanted is no line of the listing; its word is `more`.
 unfoldable pub answerLine : Connection → List Table → Answer → List ℕ
 answerLine c tables answer.More = line (ascii "more") []
@@ -38,3 +39,4 @@ answerLine c tables (answer.Update table id entry how) = line (ascii "update") (
 answerLine c tables (answer.Acknowledgement id update) = line (ascii "ack") (decimal id ∷ decimal update ∷ [])
 answerLine c tables (answer.Skipped kind) = line (ascii "skipped") (decimal kind ∷ [])
 answerLine c tables (answer.Refused number) = line (ascii "refused") (decimal number ∷ [])
+answerLine c tables (answer.RefusedAt number offset) = line (ascii "refused") (decimal number ∷ decimal offset ∷ [])

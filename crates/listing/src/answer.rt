@@ -53,5 +53,12 @@ pub fn put_answer(
         ),
         Answer::Skipped(kind) => number_line(room, at, b"skipped", kind as u64),
         Answer::Refused(number) => number_line(room, at, b"refused", number as u64),
+        Answer::RefusedAt { number, offset } => numbers_line(
+            room,
+            at,
+            b"refused",
+            number as u64,
+            offset as u64,
+        ),
     }
 }

@@ -17,7 +17,7 @@ use Rattle.session.specs.Answers.{replyOf}
 use Rattle.session.specs.Session.{noBinding, bindingAt, committed}
 use Rattle.lists.proofs.Maps.{length-mapped}
 use Rattle.session.proofs.Basics.{blank}
-use Rattle.body.specs.declared.Failure.{Failure}
+use Rattle.body.specs.declared.Fault.{Fault}
 use Rattle.body.specs.declared.Reading.{Reading}
 use Rattle.body.specs.declared.Reading.the-variants as reading
 use Rattle.body.specs.declared.update.UpdateBody.{UpdateBody}
@@ -66,7 +66,7 @@ module _ (c : Connection) (body : List ℕ) (table : ℕ) (r : UpdateBody) where
   by-reading how e = ap (λ (h : Reading). withFields c body table (read h)) e
 
   module _ (a : Asked) where
-    pub fields-failed : (f : Failure) → r .reading ≡ reading.Failed f → (x : EffectStruct) → x ≡ effectStruct (refuseBody c f) → a ≡ asksNothing x
+    pub fields-failed : (f : Fault) → r .reading ≡ reading.Failed f → (x : EffectStruct) → x ≡ effectStruct (refuseBody c f) → a ≡ asksNothing x
         → a ≡ asked c (withFields c body table (updateRead r))
     unfolding withFields fieldsThen readAs asked
     fields-failed f e x p q = q ∙ ap asksNothing p ∙ ap (asked c) (sym (by-reading (reading.Failed f) e))

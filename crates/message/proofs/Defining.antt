@@ -21,7 +21,7 @@ use Rattle.session.specs.declared.Reply.{Reply}
 use Rattle.session.specs.declared.Answer.the-variants as answer
 use Rattle.session.specs.Answers.{replyOf}
 use Rattle.session.specs.Session.{bind}
-use Rattle.body.specs.declared.Failure.{Failure}
+use Rattle.body.specs.declared.Fault.{Fault}
 use Rattle.body.specs.declared.Reading.the-variants as reading
 use Rattle.body.specs.declared.definition.DefinitionBody.{DefinitionBody}
 use Rattle.body.specs.Fields.{spanIn}
@@ -104,7 +104,7 @@ module _ (body : List ℕ) (d : DefinitionBody) (p : d ≡ definitionBody (defin
   name-fits next w h = record { fits = omega (arith, name-inside next w) }
 
   module _ (c : Connection) (tables : List Table) (x : EffectStruct) where
-    pub fields-failed : (f : Failure) → d .reading ≡ reading.Failed f → x ≡ effectStruct (refuseBody c f) → x ≡ effectStruct (definition c tables body)
+    pub fields-failed : (f : Fault) → d .reading ≡ reading.Failed f → x ≡ effectStruct (refuseBody c f) → x ≡ effectStruct (definition c tables body)
     unfolding definition fieldsThen
     fields-failed f w q = rw (definition-failed (definitionFields body) d p f w) q
 

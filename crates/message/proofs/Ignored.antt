@@ -14,13 +14,13 @@ use Rattle.session.specs.declared.Connection.{Connection}
 use Rattle.session.specs.declared.Answer.{Answer}
 use Rattle.session.specs.declared.Answer.the-variants as answer
 use Rattle.session.specs.Session.{bindingAt, isUpdated}
-use Rattle.body.specs.declared.Failure.{Failure}
+use Rattle.body.specs.declared.Fault.{Fault}
 use Rattle.body.specs.Fields.{Read, got, failed, spanIn}
 use Rattle.body.specs.Bodies.{Definition, definitionFields, switchFields, acknowledgementFields, Update, updateFields, incrementalFields}
 use Rattle.body.proofs.Behind.{definition-behind, update-behind, incremental-behind, switch-behind, acknowledgement-behind}
 use Rattle.body.proofs.Spans.{span-behind}
 use Rattle.body.proofs.Within.{definition-within, update-within, incremental-within}
-use Rattle.message.specs.Effects.{Effect, Asks, does, commits, refuse, refusal, refuseBody, fieldsThen, definedTable, definition, switch, acknowledgement, updatedEntry, withFields, followingId, incrementalOf, update, incremental, stickTable}
+use Rattle.message.specs.Effects.{Effect, Asks, does, commits, refuseWith, refuse, refusal, refuseBody, fieldsThen, definedTable, definition, switch, acknowledgement, updatedEntry, withFields, followingId, incrementalOf, update, incremental, stickTable}
 
 -- an answer that is no refusal
 abbrev pub isAccepted : Answer → Bool
@@ -39,6 +39,7 @@ isAccepted (answer.Update table id entry how) = true
 isAccepted (answer.Acknowledgement id update) = true
 isAccepted (answer.Skipped kind) = true
 isAccepted (answer.Refused n) = false
+isAccepted (answer.RefusedAt n offset) = false
 
 abbrev pub Accepted : Effect → Type 0
 Accepted e = isAccepted (e .answer) ≡ true
@@ -50,15 +51,15 @@ AcceptedAsk (commits id e) = Unit {0}
 
 module _ (c : Connection) (tables : List Table) where
   refused-not : (n : ℕ) → Accepted (refuse c n) → ⊥
-  unfolding refuse
+  unfolding refuse refuseWith
   refused-not n a = true≢false (sym a)
 
-  broken-not : (f : Failure) → Accepted (refuseBody c f) → ⊥
-  unfolding refuseBody
-  broken-not f a = refused-not _ a
+  broken-not : (f : Fault) → Accepted (refuseBody c f) → ⊥
+  unfolding refuseBody refuseWith
+  broken-not f a = true≢false (sym a)
 
   -- the same fields, and what they do
-  module _ {A X : Type 0} (P : X → Type 0) (refused : Failure → X) (no : (f : Failure) → P (refused f) → ⊥) where
+  module _ {A X : Type 0} (P : X → Type 0) (refused : Fault → X) (no : (f : Fault) → P (refused f) → ⊥) where
     fields-same : (x y : Read A) (f g : A → X) → P (fieldsThen refused x f) → ((a : A) (n : ℕ) → x ≡ got a n → (y ≡ got a n) × (g a ≡ f a))
         → fieldsThen refused y g ≡ fieldsThen refused x f
     unfolding fieldsThen

@@ -32,6 +32,7 @@ use Rattle.session.specs.declared.Connection.{Connection}
 use Rattle.session.specs.declared.Commit.{Commit}
 use Rattle.session.specs.declared.Commit.the-variants as commit
 use Rattle.session.specs.declared.Answer.{Answer}
+use Rattle.session.specs.declared.Answer.the-variants as answer
 use Rattle.session.specs.Session.{closedWith, makeCurrent, bind, committed, findBound, bindingAt}
 use Rattle.session_soundness.specs.Sound.{isClosing, refusesOpening}
 use Rattle.session.specs.Shape.{ConnectionShape}
@@ -151,9 +152,13 @@ module _ (c : Connection) (s : Store) (h : Held c s) where
   unfolding changed noChange
   stays-kept g = g
 
-  pub refuse-kept : (n : ℕ) → isClosing n ≡ true → n < 2 ^ 8 → Kept s (Effects.refuse c n)
+  pub refuse-with-kept : (n : ℕ) (a : Answer) → isClosing n ≡ true → n < 2 ^ 8 → Kept s (Effects.refuseWith c n a)
+  unfolding Effects.refuseWith
+  refuse-with-kept n a k l = stays-kept (close-kept n k l)
+
+  refuse-kept : (n : ℕ) → isClosing n ≡ true → n < 2 ^ 8 → Kept s (Effects.refuse c n)
   unfolding Effects.refuse
-  refuse-kept n k l = stays-kept (close-kept n k l)
+  refuse-kept n k l = refuse-with-kept n (answer.Refused n) k l
 
   pub error-kept : (type : ℕ) → Kept s (Effects.peerError c type)
   unfolding Effects.peerError Effects.note

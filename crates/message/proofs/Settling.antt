@@ -16,6 +16,7 @@ use Rattle.session.specs.declared.Answer.the-variants as answer
 use Rattle.session.specs.Answers.{refusalReply, replyOf}
 use Rattle.session.specs.Session.{closedWith, makeCurrent, findBound}
 use Rattle.body.specs.declared.Failure.{Failure}
+use Rattle.body.specs.declared.Fault.{Fault}
 use Rattle.body.specs.declared.Failure.the-variants as failure
 use Rattle.body.specs.declared.Word.{Word}
 use Rattle.body.specs.declared.Word.the-variants as word
@@ -28,7 +29,7 @@ use Rattle.message.specs.declared.Change.{Change}
 use Rattle.message.specs.declared.Effect.{Effect as EffectStruct}
 use Rattle.message.specs.declared.Asked.{Asked}
 use Rattle.message.specs.Changes.{noChange, tableChange, entryChange}
-use Rattle.message.specs.Effects.{note, refuse, refusal, failureNumber, refuseBody, fieldsThen, controlAnswer, controlReply, control, peerError, switchTo, switch, acknowledgement, skipped}
+use Rattle.message.specs.Effects.{note, refuseWith, refuse, refusal, failureNumber, refuseBody, fieldsThen, controlAnswer, controlReply, control, peerError, switchTo, switch, acknowledgement, skipped}
 use Rattle.message.specs.Structs.{effectStruct, asksNothing, asksCommit, asked}
 
 abbrev pub struct : Answer → Reply → Connection → Change → EffectStruct
@@ -73,10 +74,10 @@ pub ruleset asking = (needs, asked-nothing, asked-commit, asked-refusal)
 -- ---- messages that leave the store as it is
 
 module _ (c : Connection) (r : Reply) (d : Change) (z : d ≡ noChange) where
-  pub refuses : (n : ℕ) (k : Connection) → k ≡ closedWith c n → r ≡ replyOf (refusalReply n)
-      → struct (answer.Refused n) r k d ≡ effectStruct (refuse c n)
-  unfolding effectStruct refuse
-  refuses n k p q = rw (p, q, z)
+  pub refuses : (n : ℕ) (a : Answer) (k : Connection) → k ≡ closedWith c n → r ≡ replyOf (refusalReply n)
+      → struct a r k d ≡ effectStruct (refuseWith c n a)
+  unfolding effectStruct refuseWith
+  refuses n a k p q = rw (p, q, z)
 
   pub controls : (type : ℕ) (a : Answer) → a ≡ controlAnswer type → r ≡ replyOf (controlReply type) → struct a r c d ≡ effectStruct (control c type)
   unfolding effectStruct control note
@@ -90,6 +91,10 @@ module _ (c : Connection) (r : Reply) (d : Change) (z : d ≡ noChange) where
   unfolding effectStruct skipped note
   skips kind q = rw (q, z)
 
+pub refused-alone : (c : Connection) (n : ℕ) (x : EffectStruct) → x ≡ effectStruct (refuseWith c n (answer.Refused n)) → x ≡ effectStruct (refuse c n)
+unfolding refuse
+refused-alone c n x q = q
+
 pub number-short : (f : Failure) → f ≡ failure.Short → 23 ≡ failureNumber f
 unfolding failureNumber
 number-short f e = rw e
@@ -102,11 +107,12 @@ pub number-unplain : (f : Failure) → f ≡ failure.NotPlain → 30 ≡ failure
 unfolding failureNumber
 number-unplain f e = rw e
 
-pub body-refused : (c : Connection) (f : Failure) (n : ℕ) (x : EffectStruct) → n ≡ failureNumber f → x ≡ effectStruct (refuse c n) → x ≡ effectStruct (refuseBody c f)
+pub body-refused : (c : Connection) (f : Fault) (n : ℕ) (x : EffectStruct) → n ≡ failureNumber (f .failure)
+    → x ≡ effectStruct (refuseWith c n (answer.RefusedAt n (f .start))) → x ≡ effectStruct (refuseBody c f)
 unfolding refuseBody
-body-refused c f n x p q = q ∙ ap (λ (k : ℕ). effectStruct (refuse c k)) p
+body-refused c f n x p q = q ∙ ap (λ (k : ℕ). effectStruct (refuseWith c k (answer.RefusedAt k (f .start)))) p
 
-pub ruleset settling = (needs, refuses, controls, errs, skips, number-short, number-outside, number-unplain, body-refused)
+pub ruleset settling = (needs, refuses, refused-alone, controls, errs, skips, number-short, number-outside, number-unplain, body-refused)
 
 -- ---- switch, where f is the place that was found
 module _ (c : Connection) (id : ℕ) (f : Found) (p : f ≡ findBound c id) where
@@ -125,7 +131,7 @@ module _ (body : List ℕ) (r : Word) (p : wordRead r ≡ switchFields body) (c 
   unfolding switch fieldsThen
   id-read id next e q = rw (switch-id (switchFields body) r p id next e) q
 
-  pub id-failed : (f : Failure) → r ≡ word.Failed f → x ≡ effectStruct (refuseBody c f) → x ≡ effectStruct (switch c body)
+  pub id-failed : (f : Fault) → r ≡ word.Failed f → x ≡ effectStruct (refuseBody c f) → x ≡ effectStruct (switch c body)
   unfolding switch fieldsThen
   id-failed f e q = rw (switch-failed (switchFields body) r p f e) q
 
@@ -138,7 +144,7 @@ module _ (body : List ℕ) (r : AcknowledgementBody) (p : acknowledgementRead r 
   unfolding effectStruct acknowledgement fieldsThen note
   ids-read id update next k d e q z = rw (acknowledgement-fields (acknowledgementFields body) r p id update next e, q, z)
 
-  pub ids-failed : (x : EffectStruct) (f : Failure) → r ≡ acked.Failed f → x ≡ effectStruct (refuseBody c f) → x ≡ effectStruct (acknowledgement c body)
+  pub ids-failed : (x : EffectStruct) (f : Fault) → r ≡ acked.Failed f → x ≡ effectStruct (refuseBody c f) → x ≡ effectStruct (acknowledgement c body)
   unfolding acknowledgement fieldsThen
   ids-failed x f e q = rw (acknowledgement-failed (acknowledgementFields body) r p f e) q
 

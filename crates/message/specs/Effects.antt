@@ -23,6 +23,7 @@ use Rattle.session.specs.Answers.{refusalReply}
 use Rattle.session.specs.Session.{closedWith, makeCurrent, bind, committed, findBound, bindingAt, isUpdated}
 use Rattle.body.specs.declared.Failure.{Failure}
 use Rattle.body.specs.declared.Failure.the-variants as failure
+use Rattle.body.specs.declared.Fault.{Fault}
 use Rattle.body.specs.Fields.{Read, got, failed, spanIn}
 use Rattle.body.specs.Bodies.{Definition, definitionFields, switchFields, acknowledgementFields, Update, updateFields, incrementalFields}
 use Rattle.message.specs.declared.Change.{Change}
@@ -43,8 +44,11 @@ pub data Asks : Type 0 where
   commits : ℕ → Entry → Asks
 
 -- "From 10 up the record is closed with that number", with the reply of the table of refusals; tables and entries stay
+unfoldable pub refuseWith : Connection → ℕ → Answer → Effect
+refuseWith c n a = record { answer = a; reply = refusalReply n; connection = closedWith c n; change = noChange }
+
 unfoldable pub refuse : Connection → ℕ → Effect
-refuse c n = record { answer = answer.Refused n; reply = refusalReply n; connection = closedWith c n; change = noChange }
+refuse c n = refuseWith c n (answer.Refused n)
 
 -- an accepted message that leaves the store as it is
 unfoldable pub note : Connection → Answer → List ℕ → Effect
@@ -56,13 +60,14 @@ failureNumber failure.Short = 23
 failureNumber failure.OutOfRange = 24
 failureNumber failure.NotPlain = 30
 
--- a message whose body can't be read
-unfoldable pub refuseBody : Connection → Failure → Effect
-refuseBody c f = refuse c (failureNumber f)
+-- a message whose body can't be read; request 10: "refusals 23, 24 and 30 give the offset in the body, from 0, at which the failing field
+-- starts"
+unfoldable pub refuseBody : Connection → Fault → Effect
+refuseBody c f = let n = failureNumber (f .failure) in refuseWith c n (answer.RefusedAt n (f .start))
 
 -- fields, then what the message does; "Bytes after the known fields are ignored."
 module _ {A X : Type 0} where
-  unfoldable pub fieldsThen : (Failure → X) → Read A → (A → X) → X
+  unfoldable pub fieldsThen : (Fault → X) → Read A → (A → X) → X
   fieldsThen refused (got a at) whole = whole a
   fieldsThen refused (failed f) whole = refused f
 

@@ -1,7 +1,7 @@
 // What a message puts into the store, what it asks before the entries are looked at, and refusals.
 ghost use mathlib.Core.Path.{_≡_};
 ghost use Rattle.message.specs.Changes.{noChange, tableChange, entryChange};
-ghost use Rattle.message.specs.Effects.{refuse, refusal, failureNumber, refuseBody};
+ghost use Rattle.message.specs.Effects.{refuseWith, refuse, refusal, failureNumber, refuseBody};
 ghost use Rattle.message.specs.Structs.{effectStruct, asksNothing, asksCommit, asked};
 use crate::Asked;
 use crate::Change;
@@ -10,6 +10,7 @@ use crate::PUTS_ENTRY;
 use crate::PUTS_NOTHING;
 use crate::PUTS_TABLE;
 use body::Failure;
+use body::Fault;
 use session::Answer;
 use session::Connection;
 use session::reply_bytes::no_reply;
@@ -92,18 +93,25 @@ pub fn ask_commit(connection: Connection, id: u32, entry: Entry) -> Asked
 }
 
 // A message that is refused with a number: it closes the session, and changes nothing else.
-pub fn refuse(connection: Connection, number: u8) -> Effect
-    ensures { λ r. ⌜ r ≡ effectStruct (refuse connection number) ⌝ }
+fn refuse_with(connection: Connection, number: u8, answer: Answer) -> Effect
+    ensures { λ r. ⌜ r ≡ effectStruct (refuseWith connection number answer) ⌝ }
 {
     let closed = session::close_connection(connection, number);
     let reply = session::reply_bytes::refusal_reply(number);
     let change = no_change();
     Effect {
-        answer: Answer::Refused(number),
+        answer,
         reply,
         connection: closed,
         change,
     }
+}
+
+// A message that is refused with a number alone.
+pub fn refuse(connection: Connection, number: u8) -> Effect
+    ensures { λ r. ⌜ r ≡ effectStruct (refuse connection number) ⌝ }
+{
+    refuse_with(connection, number, Answer::Refused(number))
 }
 
 // The number of a failure.
@@ -117,12 +125,17 @@ fn failure_number(failure: Failure) -> u8
     }
 }
 
-// A message whose body can't be read.
-pub fn refuse_body(connection: Connection, failure: Failure) -> Effect
-    ensures { λ r. ⌜ r ≡ effectStruct (refuseBody connection failure) ⌝ }
+// A message whose body can't be read, with the offset at which the failing field starts.
+pub fn refuse_body(connection: Connection, fault: Fault) -> Effect
+    ensures { λ r. ⌜ r ≡ effectStruct (refuseBody connection fault) ⌝ }
 {
+    let failure = fault.failure;
     let number = failure_number(failure);
-    refuse(connection, number)
+    let answer = Answer::RefusedAt {
+        number,
+        offset: fault.start,
+    };
+    refuse_with(connection, number, answer)
 }
 
 // A refusal, asked before the entries are looked at.

@@ -98,6 +98,6 @@ pub fn definition(connection: Connection, tables: [Table; TABLES], body: &[u8]) 
             let table = store::make_table(name, described);
             define_named(connection, tables, d.id, table, name)
         }
-        Reading::Failed(failure) => refuse_body(connection, failure),
+        Reading::Failed(fault) => refuse_body(connection, fault),
     }
 }

@@ -47,7 +47,7 @@ pub fn switch(connection: Connection, body: &[u8]) -> Effect
 {
     match body::read_switch(body) {
         Word::Value { value, next: _ } => switch_to(connection, value),
-        Word::Failed(failure) => refuse_body(connection, failure),
+        Word::Failed(fault) => refuse_body(connection, fault),
     }
 }
 
@@ -70,7 +70,7 @@ pub fn acknowledgement(connection: Connection, body: &[u8]) -> Effect
                 change,
             }
         }
-        AcknowledgementBody::Failed(failure) => refuse_body(connection, failure),
+        AcknowledgementBody::Failed(fault) => refuse_body(connection, fault),
     }
 }
 

@@ -32,7 +32,7 @@ fn with_fields(connection: Connection, body: &[u8], table: usize, fields: Update
             let entry = store::make_entry(table, key, fields.server_id, values);
             ask_commit(connection, fields.id, entry)
         }
-        Reading::Failed(failure) => ask_nothing(refuse_body(connection, failure)),
+        Reading::Failed(fault) => ask_nothing(refuse_body(connection, fault)),
     }
 }
 

@@ -56,6 +56,7 @@ kind-of (answer.Switch x0) = inr (inr ((λ place q. absurd (let z : _≡_ {A = �
 kind-of (answer.Acknowledgement x0 x1) = inr (inr ((λ place q. absurd (let z : _≡_ {A = ℕ} 0 1 = cc in omega arith)), (λ table id place how q. absurd (let z : _≡_ {A = ℕ} 0 1 = cc in omega arith))))
 kind-of (answer.Skipped x0) = inr (inr ((λ place q. absurd (let z : _≡_ {A = ℕ} 0 1 = cc in omega arith)), (λ table id place how q. absurd (let z : _≡_ {A = ℕ} 0 1 = cc in omega arith))))
 kind-of (answer.Refused x0) = inr (inr ((λ place q. absurd (let z : _≡_ {A = ℕ} 0 1 = cc in omega arith)), (λ table id place how q. absurd (let z : _≡_ {A = ℕ} 0 1 = cc in omega arith))))
+kind-of (answer.RefusedAt x0 x1) = inr (inr ((λ place q. absurd (let z : _≡_ {A = ℕ} 0 1 = cc in omega arith)), (λ table id place how q. absurd (let z : _≡_ {A = ℕ} 0 1 = cc in omega arith))))
 kind-of (answer.Table place) = inr (inl (place, refl))
 kind-of (answer.Update table id place how) = inl (table, (id, (place, (how, refl))))
 

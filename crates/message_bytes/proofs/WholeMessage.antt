@@ -37,7 +37,7 @@ use Rattle.session_soundness.proofs.Records.{sound-session, open-facts}
 use Rattle.session_soundness.proofs.Waiting.{waits-frame, frame-is-waiting}
 use Rattle.body.specs.Encodings.{messageBytes, bodyStart}
 use Rattle.body.proofs.Encoding.{Stands, stands-part}
-use Rattle.message.specs.Effects.{Effect, refuse, note, done}
+use Rattle.message.specs.Effects.{Effect, refuseWith, refuse, note, done}
 use Rattle.message.proofs.Kept.{Held}
 use Rattle.reassembly.specs.Judge.{Judged, waiting, settled, helloJudged, statusJudged, asksNone, judgeBytes, doneOf, judge}
 use Rattle.reassembly.specs.Pieces.{Part, takePiece}
@@ -95,8 +95,8 @@ header-is class type =
 
 length-is : (u : List ℕ) (kind : ℕ) (i : Int) → readInt u 2 ≡ i → getD u 0 0 ≡ 10 → getD u 1 0 ≡ kind → 2 ≤ length u → FrameIs u (withLength kind u i)
 unfolding withLength FrameIs
-length-is u kind int.Short e c t l = tt
-length-is u kind int.Overflow e c t l = tt
+length-is u kind (int.Short k) e c t l = tt
+length-is u kind (int.Overflow k) e c t l = tt
 length-is u kind (int.Value n start) e c t l =
     by-test (ltb 1024 n)
     (λ a. rw a tt)
@@ -198,19 +198,20 @@ StickTable (answer.Update table id entry how) = Unit {0}
 StickTable (answer.Acknowledgement id update) = ⊥
 StickTable (answer.Skipped kind) = ⊥
 StickTable (answer.Refused n) = ⊥
+StickTable (answer.RefusedAt n offset) = ⊥
 
 abbrev Other : Judged Effect → Type 0
 Other waiting = Unit {0}
 Other (settled e) = StickTable (e .answer) → ⊥
 
 hello-other : (c : Connection) (h : Hello) → Other (helloJudged c h)
-unfolding helloJudged note refuse
+unfolding helloJudged note refuse refuseWith
 hello-other c hello.Waiting = tt
 hello-other c (hello.Accepted process relative) = λ k. k
 hello-other c (hello.Refused n) = λ k. k
 
 status-other : (c : Connection) (h : Status) → Other (statusJudged c h)
-unfolding statusJudged note refuse
+unfolding statusJudged note refuse refuseWith
 status-other c status.Waiting = tt
 status-other c status.Accepted = λ k. k
 status-other c (status.Refused n) = λ k. k

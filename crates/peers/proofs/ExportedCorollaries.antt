@@ -3,6 +3,7 @@ use Prim.Native.Nat.{ℕ, _<_}
 use native.Mathlib.Omega.{arith}
 use mathlib.Core.Path.{_≡_, refl, sym, ap, _∙_, subst}
 use mathlib.Core.Logic.{_⊎_, inl, inr, ⊎-elim}
+use mathlib.Core.Option.{some}
 use mathlib.Core.Bool.{true}
 use mathlib.Core.List.{List, [], _∷_, _++_, map, map-append}
 use lib.ListN.{length, getD}
@@ -12,7 +13,7 @@ use Rattle.session.specs.declared.Session.{Session}
 use Rattle.session.specs.declared.Commit.{Commit}
 use Rattle.session.specs.declared.Answer.{Answer}
 use Rattle.session.specs.declared.Answer.the-variants as answer
-use Rattle.session.specs.Answers.{answerNumber, answerValues, refusalReply}
+use Rattle.session.specs.Answers.{refusalOf, answerNumber, answerValues, refusalReply}
 use Rattle.session.specs.Session.{unfinished, holding, closedWith, bindingAt}
 use Rattle.session.proofs.answers.OneToOne.{RefusedByte}
 use Rattle.session_soundness.specs.Sound.{sound}
@@ -145,7 +146,7 @@ raw-other-records-sound s t m other p f = other-records-sound s t (madeBy s t m)
 -- the number 267 is an update's alone
 updates : (a : Answer) → RefusedByte a → answerNumber a ≡ 267
     → (table : ℕ) × ((id : ℕ) × ((how : Commit) × (a ≡ answer.Update table id (getD (answerValues a) 2 0) how)))
-unfolding answerNumber answerValues
+unfolding answerNumber answerValues refusalOf
 updates answer.More h e = absurd (omega (arith, e))
 updates (answer.Hello process relative) h e = absurd (omega (arith, e))
 updates answer.Status h e = absurd (omega (arith, e))
@@ -161,6 +162,7 @@ updates (answer.Update table id entry how) h e = (table, (id, (how, refl)))
 updates (answer.Acknowledgement id update) h e = absurd (omega (arith, e))
 updates (answer.Skipped type) h e = absurd (omega (arith, e))
 updates (answer.Refused n) h e = let l = h n refl in absurd (omega (arith, l, e))
+updates (answer.RefusedAt n offset) h e = let l = h n refl in absurd (omega (arith, l, e))
 
 none-updates : (s : Session) (t : Store) (place : ℕ) (ms : List Made) → Chain s t ms → NoneUpdates place ms → RawNoneUpdates place (map rawOf ms)
 unfolding Chain NoneUpdates RawNoneUpdates rawOutcome
@@ -233,7 +235,7 @@ module _ (s : Session) (t : Store) (ms : List Made) (place : ℕ) (c : Chain s t
 
 -- the number 265 is a definition's alone
 defines : (a : Answer) → RefusedByte a → answerNumber a ≡ 265 → (place : ℕ) × (a ≡ answer.Table place)
-unfolding answerNumber
+unfolding answerNumber refusalOf
 defines answer.More h e = absurd (omega (arith, e))
 defines (answer.Hello process relative) h e = absurd (omega (arith, e))
 defines answer.Status h e = absurd (omega (arith, e))
@@ -249,6 +251,7 @@ defines (answer.Update table id entry how) h e = absurd (omega (arith, e))
 defines (answer.Acknowledgement id update) h e = absurd (omega (arith, e))
 defines (answer.Skipped type) h e = absurd (omega (arith, e))
 defines (answer.Refused n) h e = let l = h n refl in absurd (omega (arith, l, e))
+defines (answer.RefusedAt n offset) h e = let l = h n refl in absurd (omega (arith, l, e))
 
 module _ (s : Session) (t : Store) (m : Made) (place : ℕ) (a : m .outcome .answer ≡ answer.Table place) where
   table-answered : m ≡ answering (answer.Table place) (rawOf m)

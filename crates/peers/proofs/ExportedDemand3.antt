@@ -3,6 +3,7 @@ use Prim.Native.Nat.{ℕ}
 use native.Mathlib.Omega.{arith}
 use mathlib.Core.Path.{_≡_, refl, sym, ap, _∙_, subst}
 use mathlib.Core.Logic.{_⊎_, inl, inr}
+use mathlib.Core.Option.{some}
 use mathlib.Core.Bool.{true, false, true≢false}
 use mathlib.Core.List.{List, [], _∷_, _++_, map, flatten}
 use lib.ListN.{length, take, drop}
@@ -14,12 +15,12 @@ use Rattle.store.specs.declared.Store.{Store}
 use Rattle.session.specs.declared.Session.{Session}
 use Rattle.session.specs.declared.Answer.{Answer}
 use Rattle.session.specs.declared.Answer.the-variants as answer
-use Rattle.session.specs.Answers.{answerNumber, answerValues}
+use Rattle.session.specs.Answers.{refusalOf, answerNumber, answerValues}
 use Rattle.session.specs.Session.{unfinished}
 use Rattle.session.proofs.answers.OneToOne.{RefusedByte}
 use Rattle.session_soundness.specs.Sound.{sound}
 use Rattle.streams.specs.Model.{Ended}
-use Rattle.receiver.specs.Model.{heldBy, ends}
+use Rattle.receiver.specs.Model.{endsRefused, heldBy, ends}
 use Rattle.receiver.specs.Promise.{Made}
 use Rattle.receiver.specs.Ledger.{Ledger, startLedger, post, RightReply}
 use Rattle.receiver.specs.Demand3.{Chain, replyIn, takenBy, lastSession, lastStore, responsesOf, repliesOf, cameTo, callMade, CallAsModel, EachCall, OffersTo, WithinCutsOf, RoomsAre, Offering, endedBy, AcknowledgedCalls, NeverUnsound}
@@ -49,7 +50,7 @@ four n h =
     (λ c. absurd (true≢false (rw (z, a, b, c) at h))))))
 
 ends-number : (a : Answer) → RefusedByte a → endsNumber (answerNumber a) ≡ ends a
-unfolding endsNumber answerNumber ends
+unfolding endsNumber answerNumber ends endsRefused refusalOf
 ends-number answer.More h = refl
 ends-number (answer.Hello process relative) h = refl
 ends-number answer.Status h = refl
@@ -65,6 +66,7 @@ ends-number (answer.Update table id entry how) h = refl
 ends-number (answer.Acknowledgement id update) h = refl
 ends-number (answer.Skipped type) h = refl
 ends-number (answer.Refused n) h = let l = h n refl in rw (ne-eqb n 256 (λ e. omega (arith, l, e)))
+ends-number (answer.RefusedAt n offset) h = let l = h n refl in rw (ne-eqb n 256 (λ e. omega (arith, l, e)))
 
 -- ---- what the calls took, wrote and left
 
@@ -176,7 +178,7 @@ module _ (l : Ledger) (message reply : List ℕ) where
   ended a = record { message = message; answer = a; reply = reply }
 
   posted : (a : Answer) → RefusedByte a → rawPost l message (answerNumber a) (answerValues a) ≡ post l (ended a)
-  unfolding rawPost post answerNumber answerValues
+  unfolding rawPost post answerNumber answerValues refusalOf
   posted answer.More h = refl
   posted (answer.Hello process relative) h = refl
   posted answer.Status h = refl
@@ -194,9 +196,12 @@ module _ (l : Ledger) (message reply : List ℕ) where
   posted (answer.Refused n) h =
       let k = h n refl in
       rw (ne-eqb n 265 (λ e. omega (arith, k, e)), ne-eqb n 266 (λ e. omega (arith, k, e)), ne-eqb n 267 (λ e. omega (arith, k, e)))
+  posted (answer.RefusedAt n offset) h =
+      let k = h n refl in
+      rw (ne-eqb n 265 (λ e. omega (arith, k, e)), ne-eqb n 266 (λ e. omega (arith, k, e)), ne-eqb n 267 (λ e. omega (arith, k, e)))
 
 right : (l : Ledger) (message reply : List ℕ) (a : Answer) → RefusedByte a → RightReply l message reply a → RawRightReply l message reply (answerNumber a) (answerValues a)
-unfolding RawRightReply answerNumber answerValues
+unfolding RawRightReply answerNumber answerValues refusalOf
 right l message reply answer.More h r = r
 right l message reply (answer.Hello process relative) h r = r
 right l message reply answer.Status h r = r
@@ -212,6 +217,7 @@ right l message reply (answer.Update table id entry how) h r = r
 right l message reply (answer.Acknowledgement id update) h r = r
 right l message reply (answer.Skipped type) h r = r
 right l message reply (answer.Refused n) h r = let k = h n refl in rw (ne-eqb n 267 (λ e. omega (arith, k, e)), ne-eqb n 266 (λ e. omega (arith, k, e))) r
+right l message reply (answer.RefusedAt n offset) h r = let k = h n refl in rw (ne-eqb n 267 (λ e. omega (arith, k, e)), ne-eqb n 266 (λ e. omega (arith, k, e))) r
 
 -- one call, before others of which it holds
 pub acknowledged-call : (l : Ledger) (u : List ℕ) (m : Made) (ms : List Made) (others : List RawMade) → RefusedByte (m .outcome .answer)
@@ -241,7 +247,7 @@ acknowledged-calls s t l u (m ∷ ms) c k =
 never-4 : (ms : List Made) → NeverUnsound ms → RawNeverUnsound (map rawOf ms)
 unfolding NeverUnsound RawNeverUnsound rawOutcome
 never-4 [] h = tt
-never-4 (m ∷ ms) h = ((λ e. h .0 (refused-is (m .outcome .answer) (omega (arith, e)) ∙ ap answer.Refused e)), never-4 ms (h .1))
+never-4 (m ∷ ms) h = ((λ e. h .0 (refused-is (m .outcome .answer) (omega (arith, e)) ∙ ap some e)), never-4 ms (h .1))
 
 -- ---- the claim
 

@@ -3,7 +3,7 @@ use Prim.Native.Nat.{ℕ, _+_, _*_}
 
 -- of the calls: their names, parameters, numbers and meaning
 unfoldable pub version : ℕ
-version = 3
+version = 4
 
 -- of the structs: their fields, order and sizes
 unfoldable pub layout : ℕ

@@ -18,7 +18,7 @@ ghost use Rattle.peers.specs.Reading.{RawPromise};
 ghost use Rattle.peers.specs.Version.{archiveVersion};
 
 // The version of the calls, and that of the structs' layout.
-const VERSION: u32 = 3;
+const VERSION: u32 = 4;
 
 const LAYOUT: u32 = 2;
 

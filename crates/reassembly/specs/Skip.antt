@@ -11,8 +11,8 @@ use Rattle.session.specs.Session.{established}
 
 -- how many bytes a message has, by the encoded length behind its header; 0 where the length isn't there, or is refused
 unfoldable pub messageEnd : Int → ℕ
-messageEnd int.Short = 0
-messageEnd int.Overflow = 0
+messageEnd (int.Short looked) = 0
+messageEnd (int.Overflow looked) = 0
 messageEnd (int.Value n start) = cond (ltb bodyMax n) 0 (start + n)
 
 -- waiting bytes wait on while they are fewer than this; a hello and a status have no length

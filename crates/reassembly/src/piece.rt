@@ -32,8 +32,8 @@ fn waits_until(phase: u32, u: &[u8]) -> usize
         return 0;
     }
     match wire::read_int(u, 2) {
-        wire::Int::Short => 0,
-        wire::Int::Overflow => 0,
+        wire::Int::Short { looked: _ } => 0,
+        wire::Int::Overflow { looked: _ } => 0,
         wire::Int::Value { value, next } => {
             if BODY_MAX < value {
                 return 0;

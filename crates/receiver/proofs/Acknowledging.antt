@@ -3,6 +3,7 @@ use Prim.Native.Nat.{ℕ, zero, suc, _-_, _<_, _^_}
 use native.Mathlib.Omega.{arith}
 use mathlib.Core.Path.{_≡_, refl, sym, ap, _∙_, subst}
 use mathlib.Core.Logic.{_⊎_, inl, inr}
+use mathlib.Core.Option.{some}
 use mathlib.Core.Bool.{true, false, _&&_}
 use mathlib.Core.List.{List, [], _∷_, _++_}
 use lib.ListN.{length, take, drop, getD}
@@ -23,7 +24,9 @@ use Rattle.session.specs.declared.Answer.{Answer}
 use Rattle.session.specs.declared.Answer.the-variants as answer
 use Rattle.session.specs.Session.{unfinished, holding}
 use Rattle.message.specs.Changes.{noChange, changed}
-use Rattle.message.specs.Effects.{Effect, refuse, updatedEntry}
+use Rattle.session.specs.Answers.{refusalOf}
+use Rattle.session.proofs.answers.Refusals.{no-number, same-number}
+use Rattle.message.specs.Effects.{Effect, refuseWith, updatedEntry}
 use Rattle.opening.specs.Opening.{Role, Opening, refuseOpening, accept, refusedOpening, «open», openRoom}
 use Rattle.message.proofs.Kept.{Held}
 use Rattle.reassembly.specs.Judge.{settled, judge}
@@ -84,9 +87,9 @@ module _ (s : Session) (t : Store) (m : Made) (p : ReadPromise s t m) where
         room = p .final ∙ (ap (λ (l : List ℕ). front l (m .room)) r ∙ no-front (m .room));
       }
 
-  closed : (n : ℕ) (e : Effect) → Judging s t (m .piece) call e → e ≡ refuse (s .connection) n → OnlyClosed s t m n
-  unfolding refuse changed noChange
-  closed n e j q = record {
+  closed : (n : ℕ) (a : Answer) (e : Effect) → Judging s t (m .piece) call e → e ≡ refuseWith (s .connection) n a → OnlyClosed s t m n
+  unfolding refuseWith changed noChange
+  closed n a e j q = record {
     session =
         record-holds s t m p (j .some)
         ∙ (ap (λ (k : State). holding (k .connection) (k .unfinished)) (j .state) ∙ ap (λ (x : Effect). holding (x .connection) []) q);
@@ -95,15 +98,16 @@ module _ (s : Session) (t : Store) (m : Made) (p : ReadPromise s t m) where
     room = room-past s t m p;
   }
 
-  by-refusal : (n : ℕ) → m .outcome .answer ≡ answer.Refused n → Way s t (m .piece) call → RefusedCall s t m n
+  by-refusal : (n : ℕ) → refusalOf (m .outcome .answer) ≡ some n → Way s t (m .piece) call → RefusedCall s t m n
+  unfolding refusalOf
   by-refusal n a (staying k h q) =
-      let e : k ≡ n = let r = sym (ap (λ (x : Call State Answer). x .answer) q) ∙ (sym (answer-is s t m p) ∙ a) in cc in
+      let e : k ≡ n = same-number k n (sym (ap (λ (x : Call State Answer). refusalOf (x .answer)) q) ∙ (sym (ap refusalOf (answer-is s t m p)) ∙ a)) in
       inl (subst Early e h, stayed k q)
-  by-refusal n a (waiting-on w) = absurd (let r = sym (w .answer) ∙ (sym (answer-is s t m p) ∙ a) in let z : _≡_ {A = ℕ} 0 1 = cc in omega arith)
+  by-refusal n a (waiting-on w) = absurd (no-number n (sym (ap refusalOf (w .answer)) ∙ (sym (ap refusalOf (answer-is s t m p)) ∙ a)))
   by-refusal n a (judging e j) =
-      let r = sym (j .answer) ∙ (sym (answer-is s t m p) ∙ a) in
+      let r = sym (ap refusalOf (j .answer)) ∙ (sym (ap refusalOf (answer-is s t m p)) ∙ a) in
       let k = settled-refused (s .connection) t _ e (j .judged) n r in
-      inr (k .0, closed n e j (k .1))
+      inr (k .0, closed n (k .1 .0) e j (k .1 .1))
 
 pub refused-untouched : RefusedUntouched
 refused-untouched s t m n p a = by-refusal s t m p n a (ways s t m p)
@@ -138,6 +142,7 @@ only-updates l message reply (answer.Update table id place how) r h = (table, (i
 only-updates l message reply (answer.Acknowledgement id update) r h = never h (r .other)
 only-updates l message reply (answer.Skipped kind) r h = never h (r .other)
 only-updates l message reply (answer.Refused n) r h = never h (r .other)
+only-updates l message reply (answer.RefusedAt n offset) r h = never h (r .other)
 
 pub put-here : (t : Store) (place : ℕ) (e : Entry) → place < length (t .entries) → getD (putEntry t place e .entries) place noEntry ≡ e
 unfolding putEntry
@@ -242,11 +247,10 @@ module _ (role : Role) (local remote room : List ℕ) where
   unfolding «open»
   opens-accepted a b = cond-false (ltb (length room) 101) _ _ a ∙ cond-true (nameOk local && nameOk remote) _ _ b
 
-  refused-opening : (k n : ℕ) → (k ≡ 1) ⊎ (k ≡ 3) → opening ≡ refuseOpening k → opening .answer ≡ answer.Refused n → RefusedOpening role local remote room n
-  unfolding openRoom
+  refused-opening : (k n : ℕ) → (k ≡ 1) ⊎ (k ≡ 3) → opening ≡ refuseOpening k → refusalOf (opening .answer) ≡ some n → RefusedOpening role local remote room n
+  unfolding openRoom refusalOf
   refused-opening k n h q a =
-      let r = sym (ap (λ (x : Opening). x .answer) q) ∙ a in
-      let e : k ≡ n = cc in
+      let e : k ≡ n = same-number k n (sym (ap (λ (x : Opening). refusalOf (x .answer)) q) ∙ a) in
       record {
         number = subst (λ (j : ℕ). (j ≡ 1) ⊎ (j ≡ 3)) e h;
         session = ap (λ (x : Opening). x .session) q ∙ ap refusedOpening e;
@@ -254,17 +258,15 @@ module _ (role : Role) (local remote room : List ℕ) where
         room = ap (λ (x : Opening). front (x .reply) room) q ∙ no-front room;
       }
 
-  by-opening : (n : ℕ) → opening .answer ≡ answer.Refused n → RefusedOpening role local remote room n
+  by-opening : (n : ℕ) → refusalOf (opening .answer) ≡ some n → RefusedOpening role local remote room n
+  unfolding refusalOf
   by-opening n a =
       by-test (ltb (length room) 101)
       (λ b. refused-opening 1 n (inl refl) (opens-short b) a)
       (λ b.
       by-test (nameOk local && nameOk remote)
       (λ d.
-      absurd
-      (let r = sym (ap (λ (x : Opening). x .answer) (opens-accepted b d)) ∙ a in
-      let z : _≡_ {A = ℕ} 0 1 = cc in
-      omega arith))
+      absurd (no-number n (sym (ap (λ (x : Opening). refusalOf (x .answer)) (opens-accepted b d)) ∙ a)))
       (λ d. refused-opening 3 n (inr refl) (opens-names b d) a))
 
 pub refused-opening-untouched : RefusedOpeningUntouched

@@ -4,6 +4,7 @@ use native.Mathlib.Omega.{arith}
 use mathlib.Core.Path.{_≡_, refl, sym, ap, subst, _∙_}
 use mathlib.Core.Logic.{_⊎_, inl, inr, ⊎-elim}
 use mathlib.Core.List.{List, [], _∷_, _++_}
+use mathlib.Core.Option.{some}
 use mathlib.Core.Bool.{true, false, cond, true≢false}
 use lib.ListN.{length, getD, take, drop, length-append}
 use lib.Seq.{length-take-le}
@@ -13,6 +14,8 @@ use Rattle.lists.specs.Lists.{every}
 use Rattle.lists.proofs.Cases.{by-test, cond-true, cond-false}
 use Rattle.store.specs.declared.Store.{Store}
 use Rattle.session.specs.declared.Session.{Session}
+use Rattle.session.specs.Answers.{refusalOf}
+use Rattle.session.proofs.answers.Refusals.{of-refusal, no-number, same-number}
 use Rattle.session.specs.declared.Answer.{Answer}
 use Rattle.session.specs.declared.Answer.the-variants as answer
 use Rattle.session.specs.Session.{holding, isClosed, unfinished}
@@ -24,7 +27,7 @@ use Rattle.streams.specs.Claim.{Lawful}
 use Rattle.streams.proofs.Basics.{by-fed, every-nil, every-cons, every-both}
 use Rattle.streams.proofs.OneCall.{scan-nil, scan-quiet, scan-answered, call-short, call-closed, call-reads}
 use Rattle.streams.proofs.Theorem.{call-inside, call-good}
-use Rattle.receiver.specs.Model.{State, Event, heldBy, soundState, ends, feed, isByte, peers}
+use Rattle.receiver.specs.Model.{endsRefused, State, Event, heldBy, soundState, ends, feed, isByte, peers}
 use Rattle.receiver.specs.Good.{Good}
 use Rattle.receiver.specs.Promise.{Made, Shaped, ReadPromise}
 use Rattle.receiver.specs.Demand3.{Chain, takenBy, lastSession, lastStore, responsesOf, repliesOf, cameTo, callMade, OffersTo}
@@ -173,17 +176,21 @@ module _ (law : Lawful peers Good) where
         (λ c. rw (call-reads peers s p n l (g .sound) c) (scan-has s p g q)))
 
   -- 4 is none of them
-  Not4 : Answer → List ℕ → Type 0
-  Not4 a r = a ≡ answer.Refused 4 → ⊥
+  four-left : (a : Answer) → refusalOf a ≡ some 4 → ends a ≡ false
+  unfolding ends endsRefused
+  four-left = of-refusal (λ (b : Answer). ends b ≡ false) 4 refl (λ offset. refl)
 
-  pub not-4 : (s : State) (p : List ℕ) (n : ℕ) → Good s → every isByte p ≡ true → readCall peers s p n .answer ≡ answer.Refused 4 → ⊥
+  Not4 : Answer → List ℕ → Type 0
+  Not4 a r = refusalOf a ≡ some 4 → ⊥
+
+  pub not-4 : (s : State) (p : List ℕ) (n : ℕ) → Good s → every isByte p ≡ true → refusalOf (readCall peers s p n .answer) ≡ some 4 → ⊥
   unfolding Not4
   not-4 s p n g q =
       call-has Not4
-      (λ k b a r k′ g′ q′ h e. true≢false (sym (law .answers-end k b a r k′ h) ∙ (ap ends e ∙ unfold ends in refl)))
-      (λ e. let z : _≡_ {A = ℕ} 0 1 = cc in omega arith)
-      (λ e. let z : _≡_ {A = ℕ} 0 1 = cc in omega arith)
-      (λ e. let z : _≡_ {A = ℕ} 0 1 = cc in omega arith)
+      (λ k b a r k′ g′ q′ h e. true≢false (sym (law .answers-end k b a r k′ h) ∙ four-left a e))
+      (λ e. no-number 4 (unfold refusalOf in e))
+      (λ e. omega (arith, same-number 1 4 (unfold refusalOf in e)))
+      (λ e. omega (arith, same-number 2 4 (unfold refusalOf in e)))
       s p n g q
 
   -- ---- the record at the end

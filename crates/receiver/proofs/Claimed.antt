@@ -4,6 +4,7 @@ use native.Mathlib.Omega.{arith}
 use mathlib.Core.Path.{_≡_, refl, sym, ap, subst, _∙_}
 use mathlib.Core.Logic.{_⊎_, inl, inr, ⊎-elim}
 use mathlib.Core.List.{List, [], _∷_, flatten}
+use mathlib.Core.Option.{some}
 use mathlib.Core.Bool.{Bool, true, false, cond, not, true≢false, _||_}
 use lib.ListN.{length}
 use lib.Dec.{eqb}
@@ -12,6 +13,7 @@ use Rattle.lists.specs.Lists.{every}
 use Rattle.lists.proofs.Cases.{by-test, cond-true}
 use Rattle.store.specs.declared.Store.{Store}
 use Rattle.session.specs.declared.Session.{Session}
+use Rattle.session.specs.Answers.{refusalOf}
 use Rattle.session.specs.declared.Answer.{Answer}
 use Rattle.session.specs.declared.Answer.the-variants as answer
 use Rattle.session.specs.Session.{holding, isClosed, unfinished}
@@ -23,7 +25,7 @@ use Rattle.streams.specs.Fold.{AllAlong, Folds}
 use Rattle.streams.proofs.OneCall.{as-model}
 use Rattle.streams.proofs.Theorem.{every-division, feedAll-closed}
 use Rattle.streams.proofs.Timeline.{folded, taken-bytes}
-use Rattle.receiver.specs.Model.{State, Event, heldBy, ends, feed, isByte, peers}
+use Rattle.receiver.specs.Model.{endsRefused, State, Event, heldBy, ends, feed, isByte, peers}
 use Rattle.receiver.specs.Good.{Good}
 use Rattle.receiver.specs.Promise.{Made, ReadPromise}
 use Rattle.receiver.specs.Ledger.{Ledger, startLedger, post, Acknowledged}
@@ -48,8 +50,11 @@ three n h =
     (λ c. inr (inr (eqb-true n 4 c)))
     (λ c. absurd (true≢false (rw (a, b, c) at h)))))
 
-pub left-out : (a : Answer) → ends a ≡ false → (a ≡ answer.More) ⊎ ((a ≡ answer.Refused 1) ⊎ ((a ≡ answer.Refused 2) ⊎ (a ≡ answer.Refused 4)))
-unfolding ends
+one-of : (n : ℕ) → (n ≡ 1) ⊎ ((n ≡ 2) ⊎ (n ≡ 4)) → (some n ≡ some 1) ⊎ ((some n ≡ some 2) ⊎ (some n ≡ some 4))
+one-of n h = ⊎-elim (λ e. inl (ap some e)) (λ r. ⊎-elim (λ e. inr (inl (ap some e))) (λ e. inr (inr (ap some e))) r) h
+
+pub left-out : (a : Answer) → ends a ≡ false → (a ≡ answer.More) ⊎ ((refusalOf a ≡ some 1) ⊎ ((refusalOf a ≡ some 2) ⊎ (refusalOf a ≡ some 4)))
+unfolding ends endsRefused refusalOf
 left-out answer.More h = inl refl
 left-out (answer.Hello p r) h = absurd (true≢false h)
 left-out answer.Status h = absurd (true≢false h)
@@ -64,8 +69,8 @@ left-out (answer.Switch place) h = absurd (true≢false h)
 left-out (answer.Update table id entry how) h = absurd (true≢false h)
 left-out (answer.Acknowledgement id update) h = absurd (true≢false h)
 left-out (answer.Skipped kind) h = absurd (true≢false h)
-left-out (answer.Refused n) h =
-    ⊎-elim (λ e. inr (inl (ap answer.Refused e))) (λ r. ⊎-elim (λ e. inr (inr (inl (ap answer.Refused e)))) (λ e. inr (inr (inr (ap answer.Refused e)))) r) (three n h)
+left-out (answer.Refused n) h = inr (one-of n (three n h))
+left-out (answer.RefusedAt n offset) h = inr (one-of n (three n h))
 
 module _ (law : Lawful peers Good)
     (short : (k : State) (b : ℕ) (a : Answer) (r : List ℕ) (k′ : State) → Good k → isByte b ≡ true → feed k b ≡ answered a r k′ → length r ≤ 12)
@@ -112,7 +117,7 @@ module _ (law : Lawful peers Good)
   unfolding Chain NeverUnsound
   never s t [] h f g = tt
   never s t (m ∷ ms) h f g = (
-    (λ e. not-4 law (heldBy s t) (m .piece) (length (m .room)) g (h .0 .bytes) (sym (made-answer s t m (h .0) f) ∙ e)),
+    (λ e. not-4 law (heldBy s t) (m .piece) (length (m .room)) g (h .0 .bytes) (sym (ap refusalOf (made-answer s t m (h .0) f)) ∙ e)),
     never (m .session) (m .store) ms (h .1) (made-sound s t m (h .0) f law g) (made-good s t m (h .0) f law g),
   )
 

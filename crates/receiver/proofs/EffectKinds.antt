@@ -4,6 +4,7 @@ use Prim.Native.Nat.{ℕ, _-_, _≤_, _<_}
 use native.Mathlib.Omega.{arith}
 use mathlib.Core.Path.{_≡_, refl, ap, _∙_, subst}
 use mathlib.Core.Logic.{_⊎_, inl, inr}
+use mathlib.Core.Option.{some}
 use mathlib.Core.Bool.{true, false}
 use mathlib.Core.List.{List, []}
 use lib.ListN.{length, take, drop, getD}
@@ -34,12 +35,13 @@ use Rattle.session.specs.declared.Commit.the-variants as commit
 use Rattle.session.specs.declared.Answer.{Answer}
 use Rattle.session.specs.declared.Answer.the-variants as answer
 use Rattle.session.specs.Session.{localName, remoteName, bindingAt, isUpdated}
-use Rattle.body.specs.declared.Failure.{Failure}
+use Rattle.body.specs.declared.Fault.{Fault}
 use Rattle.body.specs.Fields.{Read, got, failed, spanIn}
 use Rattle.body.specs.Bodies.{Definition, Update, definitionFields, updateFields, incrementalFields}
 use Rattle.message.specs.Targets.{keyedAs, goesTo}
 use Rattle.message.proofs.Kept.{failure-least, failure-most}
-use Rattle.message.specs.Effects.{Effect, refuse, refusal, failureNumber, refuseBody, note, fieldsThen, control, controlAnswer, peerError, definedTable, defineAt, defineNew, defineNamed, agrees, definition, switchTo, switch, acknowledgement, skipped, updatedEntry, commitAt, commitEntry, withFields, followingId, incrementalOf, update, incremental, stickTable, done}
+use Rattle.session.specs.Answers.{refusalOf}
+use Rattle.message.specs.Effects.{Effect, refuseWith, refuse, refusal, failureNumber, refuseBody, note, fieldsThen, control, controlAnswer, peerError, definedTable, defineAt, defineNew, defineNamed, agrees, definition, switchTo, switch, acknowledgement, skipped, updatedEntry, commitAt, commitEntry, withFields, followingId, incrementalOf, update, incremental, stickTable, done}
 use Rattle.reassembly.specs.Judge.{Judged, waiting, settled, helloJudged, statusJudged, frameJudged, asksNone, judgeBytes, doneOf, judge}
 use Rattle.receiver.specs.Corollaries.{closes, fieldsOf}
 
@@ -60,6 +62,7 @@ Noted (answer.Update table id entry how) = ⊥
 Noted (answer.Acknowledgement id update) = Unit {0}
 Noted (answer.Skipped kind) = Unit {0}
 Noted (answer.Refused n) = ⊥
+Noted (answer.RefusedAt n offset) = ⊥
 
 abbrev pub bodyIn : List ℕ → ℕ → ℕ → List ℕ
 bodyIn u start end = take (end - start) (drop start u)
@@ -89,7 +92,7 @@ pub record Defining (c : Connection) (t : Store) (u : List ℕ) (fields : Defini
   pub inside : place < length (t .tables)
 
 pub data Kind (c : Connection) (t : Store) (u : List ℕ) : Effect → Type 0 where
-  refused : (n : ℕ) → closes n ≡ true → Kind c t u (refuse c n)
+  refused : (n : ℕ) (a : Answer) → closes n ≡ true → refusalOf a ≡ some n → Kind c t u (refuseWith c n a)
   noted : (d : Connection) (a : Answer) (reply : List ℕ) → Noted a → Kind c t u (note d a reply)
   errored : (type : ℕ) → Kind c t u (peerError c type)
   defined : (fields : Definition) (body : List ℕ) (place : ℕ) → Defining c t u fields body place
@@ -110,12 +113,18 @@ closes-high n a b = rw (le-leb 10 n (let z : 10 ≤ n = omega arith in z), lt-le
 -- ---- messages of class 10
 
 module _ (c : Connection) (t : Store) (u : List ℕ) where
-  refused-with : (n : ℕ) → 20 ≤ n → n ≤ 30 → Kind c t u (refuse c n)
-  refused-with n a b = refused n (closes-high n a b)
+  refuses : (n : ℕ) → closes n ≡ true → Kind c t u (refuse c n)
+  unfolding refuse
+  refuses n h = refused n (answer.Refused n) h (unfold refusalOf in refl)
 
-  body-kind : (f : Failure) → Kind c t u (refuseBody c f)
+  refused-with : (n : ℕ) → 20 ≤ n → n ≤ 30 → Kind c t u (refuse c n)
+  refused-with n a b = refuses n (closes-high n a b)
+
+  body-kind : (f : Fault) → Kind c t u (refuseBody c f)
   unfolding refuseBody
-  body-kind f = refused-with (failureNumber f) (failure-least f) (failure-most f)
+  body-kind f =
+      let n = failureNumber (f .failure) in
+      refused n (answer.RefusedAt n (f .start)) (closes-high n (failure-least (f .failure)) (failure-most (f .failure))) (unfold refusalOf in refl)
 
   fields-kind : {A : Type 0} (r : Read A) (f : A → Effect) → ((a : A) → Kind c t u (f a)) → Kind c t u (fieldsThen (refuseBody c) r f)
   unfolding fieldsThen
@@ -244,13 +253,13 @@ module _ (c : Connection) (t : Store) (u : List ℕ) where
   unfolding helloJudged
   hello-kind hello.Waiting e = tt
   hello-kind (hello.Accepted p r) e = noted _ _ _ tt
-  hello-kind (hello.Refused n) e = let k = hello-refusal (localName c) (remoteName c) u n e in refused n (closes-low n (k .0) (omega (arith, k .1)))
+  hello-kind (hello.Refused n) e = let k = hello-refusal (localName c) (remoteName c) u n e in refuses c t u n (closes-low n (k .0) (omega (arith, k .1)))
 
   status-kind : (h : Status) → judgeStatus u ≡ h → JudgedKind c t u (statusJudged c h)
   unfolding statusJudged
   status-kind status.Waiting e = tt
   status-kind status.Accepted e = noted _ _ _ tt
-  status-kind (status.Refused n) e = let k = status-refusal u n e in refused n (closes-low n (omega (arith, k .0)) (k .1))
+  status-kind (status.Refused n) e = let k = status-refusal u n e in refuses c t u n (closes-low n (omega (arith, k .0)) (k .1))
 
   frame-kind : (f : Frame) → judgeFrame u ≡ f → JudgedKind c t u (doneOf c (t .entries) (frameJudged c (t .tables) u f))
   unfolding doneOf frameJudged done refusal
@@ -258,7 +267,7 @@ module _ (c : Connection) (t : Store) (u : List ℕ) where
   frame-kind (frame.Control type) e = unfold control in noted c (controlAnswer type) _ (control-noted type)
   frame-kind (frame.Error type) e = errored type
   frame-kind (frame.Body kind start end) e = stick-kind c t u kind start end e
-  frame-kind (frame.Refused n) e = let k = refused-number u n e in refused n (closes-high n (k .0) (omega (arith, k .1)))
+  frame-kind (frame.Refused n) e = let k = refused-number u n e in refuses c t u n (closes-high n (k .0) (omega (arith, k .1)))
 
   none-kind : (j : Judged Effect) → JudgedKind c t u j → JudgedKind c t u (doneOf c (t .entries) (asksNone j))
   unfolding doneOf asksNone done

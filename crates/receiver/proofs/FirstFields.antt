@@ -21,10 +21,10 @@ use Rattle.frame.specs.declared.Header.the-variants as header
 use Rattle.frame.specs.declared.Frame.{Frame}
 use Rattle.frame.specs.declared.Frame.the-variants as frame
 use Rattle.frame.specs.Frame.{headerOf, withLength, withHeader, judgeFrame}
-use Rattle.body.specs.Fields.{Read, got, failed, outside, andThen, tested, integer, integerOf, numberRead, number4}
+use Rattle.body.specs.Fields.{Read, got, failed, andThen, integerOf, numberRead, number4}
 use Rattle.body.specs.Bodies.{Named, namedFields, shapeFields, timesFields, Definition, restFields, definitionFields, switchFields, Update, updateFields}
 use Rattle.body.proofs.Holds.{held}
-use Rattle.body.proofs.Taken.{Taken}
+use Rattle.body.proofs.Taken.{Taken, integer-value}
 use Rattle.body.proofs.Within.{EntryWithin, entry-holds}
 use Rattle.receiver.specs.Ledger.{afterInt, bodyStart, valueOf, tableId, numberValue, explicitId}
 
@@ -39,8 +39,8 @@ Starts n (frame.Refused k) = Unit {0}
 
 length-starts : (kind : ℕ) (u : List ℕ) (r : Int) → Starts (afterInt r) (withLength kind u r)
 unfolding Starts afterInt withLength
-length-starts kind u int.Short = tt
-length-starts kind u int.Overflow = tt
+length-starts kind u (int.Short k) = tt
+length-starts kind u (int.Overflow k) = tt
 length-starts kind u (int.Value n start) =
     by-test (ltb 1024 n) (λ a. rw a tt) (λ a. rw a (by-test (ltb (length u) (start + n)) (λ b. rw b tt) (λ b. rw b refl)))
 
@@ -102,23 +102,14 @@ unfolding andThen
 then-got (got a k) f b n e = (a, k, refl, e)
 then-got (failed g) f b n e = absurd (let z : _≡_ {A = ℕ} 0 1 = cc in omega arith)
 
-tested-got : (ok : ℕ → Bool) (r : Int) (v n : ℕ) → tested ok r ≡ got v n → r ≡ int.Value v n
-unfolding tested
-tested-got ok (int.Value w k) v n e =
-    by-test (ok w)
-    (λ t. let q : got w k ≡ got v n = sym (cond-true (ok w) (got w k) outside t) ∙ e in cc)
-    (λ t. let q : outside ≡ got v n = sym (cond-false (ok w) (got w k) outside t) ∙ e in absurd (let z : _≡_ {A = ℕ} 0 1 = cc in omega arith))
-tested-got ok int.Short v n e = absurd (let z : _≡_ {A = ℕ} 0 1 = cc in omega arith)
-tested-got ok int.Overflow v n e = absurd (let z : _≡_ {A = ℕ} 0 1 = cc in omega arith)
-
 named-id : (body : List ℕ) (m : Named) (k : ℕ) → namedFields body 0 ≡ got m k → (n : ℕ) × (readInt body 0 ≡ int.Value (m .id) n)
-unfolding namedFields integerOf integer
+unfolding namedFields integerOf
 named-id body m k e =
     let a = then-got (integerOf 32 body 0) _ m k e in
     let b = then-got _ _ m k (a .3) in
     let c = then-got _ _ m k (b .3) in
     let q : m .id ≡ a .0 = sym (ap (readNamed (a .0)) (c .3)) in
-    (a .1, tested-got _ (readInt body 0) (m .id) (a .1) (a .2 ∙ ap (λ (x : ℕ). got x (a .1)) (sym q)))
+    (a .1, integer-value _ body 0 (m .id) (a .1) (a .2 ∙ ap (λ (x : ℕ). got x (a .1)) (sym q)))
   where
     readNamed : ℕ → Read Named → ℕ
     readNamed d (got x y) = x .id
@@ -149,15 +140,15 @@ definition-id u kind start end d next e h g =
 -- so is a switch's
 pub switch-id : (u : List ℕ) (kind start end : ℕ) (id next : ℕ) → judgeFrame u ≡ frame.Body kind start end → start ≤ length u
     → switchFields (take (end - start) (drop start u)) ≡ got id next → tableId u ≡ id
-unfolding tableId valueOf switchFields integerOf integer
+unfolding tableId valueOf switchFields integerOf
 switch-id u kind start end id next e h g =
     let body = take (end - start) (drop start u) in
-    ap valueOf (ap (readInt u) (body-starts u kind start end e) ∙ int-there u start (end - start) h id next (tested-got _ (readInt body 0) id next g))
+    ap valueOf (ap (readInt u) (body-starts u kind start end e) ∙ int-there u start (end - start) h id next (integer-value _ body 0 id next g))
 
-number-got : (r : FourBytes) (v n : ℕ) → numberRead r ≡ got v n → r ≡ number.Value v n
+number-got : (at : ℕ) (r : FourBytes) (v n : ℕ) → numberRead at r ≡ got v n → r ≡ number.Value v n
 unfolding numberRead
-number-got (number.Value w k) v n e = cc
-number-got number.Short v n e = absurd (let z : _≡_ {A = ℕ} 0 1 = cc in omega arith)
+number-got at (number.Value w k) v n e = cc
+number-got at number.Short v n e = absurd (let z : _≡_ {A = ℕ} 0 1 = cc in omega arith)
 
 -- the ID of an update is the number that its body begins with
 pub update-explicit : (u : List ℕ) (kind start end : ℕ) (t : Table) (x : Update) (next : ℕ) → judgeFrame u ≡ frame.Body kind start end → start ≤ length u
@@ -166,7 +157,7 @@ unfolding explicitId numberValue updateFields number4
 update-explicit u kind start end t x next e h g =
     let body = take (end - start) (drop start u) in
     let a = then-got (number4 body 0) _ x next g in
-    let r = number-got (readNumber body 0) (a .0) (a .1) (a .2) in
+    let r = number-got 0 (readNumber body 0) (a .0) (a .1) (a .2) in
     let w = held (Taken (EntryWithin t (a .0) body) body (a .1)) _ (entry-holds t (a .0) body (a .1)) x next (a .3) in
     let i = number-there u start (end - start) h (a .0) (a .1) r in
     ap numberValue (ap (readNumber u) (body-starts u kind start end e) ∙ i) ∙ sym (w .fact .same)

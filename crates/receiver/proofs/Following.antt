@@ -19,11 +19,12 @@ use Rattle.session.specs.declared.Connection.{Connection}
 use Rattle.session.specs.declared.Commit.{Commit}
 use Rattle.session.specs.declared.Answer.{Answer}
 use Rattle.session.specs.declared.Answer.the-variants as answer
-use Rattle.session.specs.Answers.{refusalReply, isSizeLimit, isProtocolError}
+use Rattle.session.specs.Answers.{refusalOf, refusalReply, isSizeLimit, isProtocolError}
+use Rattle.session.proofs.answers.Refusals.{of-refusal}
 use Rattle.session.specs.Session.{bindingAt, noBinding, isBound, isUpdated, boundTo, closedWith, establish, makeCurrent, withTables, bind, bindTo, unbind, committed, commitTo}
 use Rattle.session.proofs.CurrentTable.{current-within}
 use Rattle.session.proofs.Bindings.{bound-here, bound-lost, bound-kept, bind-cases, commit-cases, committed-here, committed-other}
-use Rattle.message.specs.Effects.{Effect, refuse, note, peerError, control, controlAnswer, controlReply, defineAt, commitAt, acknowledge}
+use Rattle.message.specs.Effects.{Effect, refuseWith, note, peerError, control, controlAnswer, controlReply, defineAt, commitAt, acknowledge}
 use Rattle.streams.specs.Model.{Ended}
 use Rattle.receiver.specs.Ledger.{Ledger, startLedger, post, defines, switches, commits, without, at, tableId, updateId, isAcknowledgement, Carried, RightReply, NoAcknowledgement}
 
@@ -124,9 +125,13 @@ same-ledger c d e b l f = record {
   last = λ p. f .last p ∙ ap (λ (bs : List Binding). cond (isUpdated (getD bs p noBinding)) (some (getD bs p noBinding .previous)) none) (sym b);
 }
 
-pub refuse-follow : (c : Connection) (n : ℕ) (m : List ℕ) → Follow c m (refuse c n)
-unfolding refuse post closedWith
-refuse-follow c n m = record { follows = same-ledger c (closedWith c n) refl refl; right = λ l f. refusal-none n }
+pub refuse-follow : (c : Connection) (n : ℕ) (a : Answer) (m : List ℕ) → refusalOf a ≡ some n → Follow c m (refuseWith c n a)
+unfolding refuseWith post closedWith
+refuse-follow c n a m q =
+    of-refusal (λ (b : Answer). Follow c m (refuseWith c n b)) n
+    (record { follows = same-ledger c (closedWith c n) refl refl; right = λ l f. refusal-none n })
+    (λ offset. record { follows = same-ledger c (closedWith c n) refl refl; right = λ l f. refusal-none n })
+    a q
 
 pub hello-follow : (c : Connection) (p r : ℕ) (m : List ℕ) → Follow c m (note (establish c) (answer.Hello p r) (statusLine 200))
 unfolding note post establish

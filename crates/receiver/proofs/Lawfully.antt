@@ -26,7 +26,7 @@ use Rattle.streams.specs.Model.{Fed, quiet, answered, stateOf, endedBy}
 use Rattle.streams.specs.Claim.{Lawful}
 use Rattle.streams.specs.Fold.{Folds}
 use Rattle.reassembly.specs.Judge.{Judged, waiting, settled, judge}
-use Rattle.receiver.specs.Model.{State, joined, feed, ends, soundState, heldBy, isByte, peers}
+use Rattle.receiver.specs.Model.{endsRefused, State, joined, feed, ends, soundState, heldBy, isByte, peers}
 use Rattle.receiver.specs.Good.{Good}
 use Rattle.receiver.specs.Ledger.{Ledger, startLedger, post, Acknowledged}
 use Rattle.receiver.proofs.Piece.{judged-as, judged-settled, feed-open, feed-waits}
@@ -156,7 +156,7 @@ feed-ends s b =
 
 pub lawful : Lawful peers Good
 lawful = record {
-  more-not-end = unfold ends in refl;
+  more-not-end = unfold ends endsRefused in refl;
   refusals-not-end = refusals;
   answers-end = λ s b a r t e. subst AnswerEnds e (feed-ends s b);
   closed-ignores = feed-closed;
@@ -167,7 +167,7 @@ lawful = record {
 }
   where
     refusals : (ends (answer.Refused 1) ≡ false) × (ends (answer.Refused 2) ≡ false) × (ends (answer.Refused 4) ≡ false)
-    refusals = (unfold ends in refl, unfold ends in refl, unfold ends in refl)
+    refusals = (unfold ends endsRefused in refl, unfold ends endsRefused in refl, unfold ends endsRefused in refl)
 
 -- ---- every reply is short
 

@@ -43,14 +43,15 @@ use Rattle.session_soundness.specs.Sound.{isClosing, refusesOpening}
 use Rattle.session.proofs.Bindings.{found-bound, committed-previous}
 use Rattle.session_soundness.proofs.Keeping.{establish-keeps}
 use Rattle.session.proofs.Shapes.{establish-shape}
-use Rattle.body.specs.declared.Failure.{Failure}
+use Rattle.body.specs.declared.Fault.{Fault}
 use Rattle.body.specs.Fields.{Read, got, failed, spanIn}
 use Rattle.body.specs.Bodies.{definitionFields, switchFields, acknowledgementFields, Update, updateFields, incrementalFields}
 use Rattle.body.proofs.Within.{UpdateWithin, update-within, update-id, incremental-within}
 use Rattle.message.specs.Targets.{goesTo}
-use Rattle.message.specs.Effects.{Effect, refuse, refusal, failureNumber, refuseBody, note, fieldsThen, control, controlAnswer, controlReply, peerError, defineAt, defineNew, defineNamed, agrees, definition, switchTo, switch, acknowledgement, skipped, commitAt, commitEntry, withFields, followingId, incrementalOf, update, incremental, definedTable, updatedEntry, stickTable, done}
+use Rattle.session.specs.Answers.{refusalOf}
+use Rattle.message.specs.Effects.{Effect, refuseWith, refuse, refusal, failureNumber, refuseBody, note, fieldsThen, control, controlAnswer, controlReply, peerError, defineAt, defineNew, defineNamed, agrees, definition, switchTo, switch, acknowledgement, skipped, commitAt, commitEntry, withFields, followingId, incrementalOf, update, incremental, definedTable, updatedEntry, stickTable, done}
 use Rattle.message.proofs.Acknowledging.{acknowledge-short}
-use Rattle.message.proofs.Kept.{Held, Kept, failure-least, failure-most, stays-kept, refuse-kept, error-kept, note-kept, switch-kept, definition-kept, update-kept}
+use Rattle.message.proofs.Kept.{Held, Kept, failure-least, failure-most, stays-kept, refuse-with-kept, error-kept, note-kept, switch-kept, definition-kept, update-kept}
 use Rattle.receiver.specs.Ledger.{Ledger, tableId, updateId, at, kindOf, nextId, explicitId}
 use Rattle.reassembly.specs.Judge.{Judged, waiting, settled, helloJudged, statusJudged, frameJudged, asksNone, judgeBytes, doneOf, judge}
 use Rattle.receiver.proofs.Following.{Follows, Follow, refusal-none, current-some, last-some, refuse-follow, hello-follow, status-follow, error-follow, control-follow, skipped-follow, acknowledgement-follow, switch-follow, define-follow, commit-follow}
@@ -87,12 +88,16 @@ unfolding statusLine hb.decimal hb.decimalIn lf
 accepted-short = omega arith
 
 module _ (c : Connection) (s : Store) (h : Held c s) (m : List ℕ) where
-  pub refuse-right : (n : ℕ) → 10 ≤ n → n < 2 ^ 8 → isClosing n ≡ true → Right c s m (refuse c n)
-  refuse-right n l b k = record {
-    short = unfold refuse in omega (arith, refusal-none n .short);
-    kept = refuse-kept c s h n k b;
-    follow = refuse-follow c n m;
+  refuse-with-right : (n : ℕ) (a : Answer) → n < 2 ^ 8 → isClosing n ≡ true → refusalOf a ≡ some n → Right c s m (refuseWith c n a)
+  refuse-with-right n a b k q = record {
+    short = unfold refuseWith in omega (arith, refusal-none n .short);
+    kept = refuse-with-kept c s h n a k b;
+    follow = refuse-follow c n a m q;
   }
+
+  pub refuse-right : (n : ℕ) → n < 2 ^ 8 → isClosing n ≡ true → Right c s m (refuse c n)
+  unfolding refuse
+  refuse-right n b k = refuse-with-right n (answer.Refused n) b k (unfold refusalOf in refl)
 
   established : (a : Answer) (r : List ℕ) → Kept s (note (establish c) a r)
   unfolding note
@@ -136,7 +141,7 @@ module _ (c : Connection) (s : Store) (h : Held c s) (m : List ℕ) where
   }
   hello-right (hello.Refused n) e =
       let k = hello-refusal (localName c) (remoteName c) m n e in
-      refuse-right c s h m n (k .0) (omega (arith, k .1)) (closing-hello n (k .0) (omega (arith, k .1)))
+      refuse-right c s h m n (omega (arith, k .1)) (closing-hello n (k .0) (omega (arith, k .1)))
 
   status-right : (j : Status) → judgeStatus m ≡ j → JudgedRight c s m (statusJudged c j)
   unfolding statusJudged
@@ -148,17 +153,20 @@ module _ (c : Connection) (s : Store) (h : Held c s) (m : List ℕ) where
   }
   status-right (status.Refused n) e =
       let k = status-refusal m n e in
-      refuse-right c s h m n (omega (arith, k .0)) (omega (arith, k .1)) (closing-hello n (omega (arith, k .0)) (k .1))
+      refuse-right c s h m n (omega (arith, k .1)) (closing-hello n (omega (arith, k .0)) (k .1))
 
 -- ---- messages of class 10
 
 module _ (c : Connection) (s : Store) (h : Held c s) (m : List ℕ) where
   message-refused : (n : ℕ) → 20 ≤ n → n ≤ 30 → Right c s m (refuse c n)
-  message-refused n a b = refuse-right c s h m n (omega arith) (omega arith) (closing-message n a b)
+  message-refused n a b = refuse-right c s h m n (omega arith) (closing-message n a b)
 
-  body-refused : (f : Failure) → Right c s m (refuseBody c f)
+  body-refused : (f : Fault) → Right c s m (refuseBody c f)
   unfolding refuseBody
-  body-refused f = message-refused (failureNumber f) (failure-least f) (failure-most f)
+  body-refused f =
+      let n = failureNumber (f .failure) in
+      let most = failure-most (f .failure) in
+      refuse-with-right c s h m n _ (omega arith) (closing-message n (failure-least (f .failure)) most) (unfold refusalOf in refl)
 
   noted : (a : Answer) → Follow c m (note c a []) → Right c s m (note c a [])
   noted a f = record { short = unfold note in omega arith; kept = note-kept c s h a []; follow = f }
@@ -393,7 +401,7 @@ module _ (c : Connection) (s : Store) (h : Held c s) (m : List ℕ) (mb : Bytes 
   frame-right (frame.Body kind start end) e = stick-right c s h m mb kind start end e
   frame-right (frame.Refused n) e =
       let k = refused-number m n e in
-      refuse-right c s h m n (omega (arith, k .0)) (omega (arith, k .1)) (closing-message n (k .0) (omega (arith, k .1)))
+      refuse-right c s h m n (omega (arith, k .1)) (closing-message n (k .0) (omega (arith, k .1)))
 
   none-right : (j : Judged Effect) → JudgedRight c s m j → JudgedRight c s m (doneOf c (s .entries) (asksNone j))
   unfolding doneOf asksNone done

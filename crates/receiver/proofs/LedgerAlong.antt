@@ -16,7 +16,7 @@ use Rattle.session_soundness.specs.Sound.{sound}
 use Rattle.message.specs.Effects.{Effect}
 use Rattle.streams.specs.Model.{Ended}
 use Rattle.streams.specs.Calls.{Call, stay}
-use Rattle.receiver.specs.Model.{State, heldBy, ends}
+use Rattle.receiver.specs.Model.{endsRefused, State, heldBy, ends}
 use Rattle.receiver.specs.Good.{Good}
 use Rattle.receiver.specs.Promise.{Made, ReadPromise, callOf}
 use Rattle.receiver.specs.Ledger.{Ledger, startLedger, post, RightReply}
@@ -32,11 +32,11 @@ use Rattle.receiver.proofs.Ways.{Way, Early, Waiting, Judging, staying,
 use Rattle.receiver.proofs.Acknowledging.{right}
 
 early-ends : (n : ℕ) → Early n → ends (answer.Refused n) ≡ false
-unfolding ends
+unfolding ends endsRefused
 early-ends n h = ⊎-elim (λ e. rw e) (λ k. ⊎-elim (λ e. rw e) (λ e. rw e) k) h
 
 more-ends : ends answer.More ≡ false
-unfolding ends
+unfolding ends endsRefused
 more-ends = refl
 
 module _ (s : Session) (t : Store) (m : Made) (p : ReadPromise s t m) (f : sound s t ≡ true) (g : Good (heldBy s t)) where

@@ -4,6 +4,7 @@ use Prim.Native.Nat.{ℕ, _+_, _-_, _<_}
 use native.Mathlib.Omega.{arith}
 use mathlib.Core.Path.{_≡_, refl, sym, ap, subst, _∙_}
 use mathlib.Core.Logic.{_⊎_}
+use mathlib.Core.Option.{some}
 use mathlib.Core.Bool.{true, false}
 use mathlib.Core.List.{List}
 use lib.ListN.{length}
@@ -24,9 +25,11 @@ use Rattle.session_soundness.proofs.Keeping.{put-held}
 use Rattle.body.specs.Fields.{got}
 use Rattle.body.specs.Bodies.{Definition, Update, definitionFields}
 use Rattle.message.specs.Changes.{noChange, tableChange, entryChange, changed}
-use Rattle.message.specs.Effects.{Effect, refuse, note, peerError, definedTable, defineAt, acknowledge, updatedEntry, commitAt}
+use Rattle.session.specs.Answers.{refusalOf}
+use Rattle.session.proofs.answers.Refusals.{of-refusal, no-number, same-number}
+use Rattle.message.specs.Effects.{Effect, refuseWith, note, peerError, definedTable, defineAt, acknowledge, updatedEntry, commitAt}
 use Rattle.reassembly.specs.Judge.{settled, judge}
-use Rattle.receiver.specs.Model.{ends}
+use Rattle.receiver.specs.Model.{endsRefused, ends}
 use Rattle.receiver.specs.Corollaries.{closes, fieldsOf}
 use Rattle.receiver.proofs.EffectKinds as kinds
 use Rattle.receiver.proofs.EffectKinds.{Noted, Kind, bodyIn, kind-of}
@@ -57,10 +60,15 @@ noted-ends (answer.Update table id entry how) h = absurd h
 noted-ends (answer.Acknowledgement id update) h = refl
 noted-ends (answer.Skipped kind) h = refl
 noted-ends (answer.Refused n) h = absurd h
+noted-ends (answer.RefusedAt n offset) h = absurd h
 
-refusal-ends : (n : ℕ) → closes n ≡ true → ends (answer.Refused n) ≡ true
-unfolding ends
-refusal-ends n h = rw (not-closing n 1 (few .0) h, not-closing n 2 (few .1) h, not-closing n 4 (few .2) h)
+refusal-ends : (n : ℕ) (a : Answer) → closes n ≡ true → refusalOf a ≡ some n → ends a ≡ true
+unfolding ends endsRefused
+refusal-ends n a h q =
+    of-refusal (λ (b : Answer). ends b ≡ true) n
+    (rw (not-closing n 1 (few .0) h, not-closing n 2 (few .1) h, not-closing n 4 (few .2) h))
+    (λ offset. rw (not-closing n 1 (few .0) h, not-closing n 2 (few .1) h, not-closing n 4 (few .2) h))
+    a q
 
 defined-held : (body : List ℕ) (d : Definition) → tableHeld (definedTable body d) ≡ true
 unfolding definedTable makeTable tableHeld
@@ -68,7 +76,7 @@ defined-held body d = refl
 
 module _ (c : Connection) (t : Store) (u : List ℕ) where
   kind-ends : (e : Effect) → Kind c t u e → ends (e .answer) ≡ true
-  kind-ends e (kinds.refused n h) = unfold refuse in refusal-ends n h
+  kind-ends e (kinds.refused n a h q) = unfold refuseWith in refusal-ends n a h q
   kind-ends e (kinds.noted d a reply h) = unfold note in noted-ends a h
   kind-ends e (kinds.errored type) = unfold peerError note ends in refl
   kind-ends e (kinds.defined fields body place k) = unfold defineAt ends in refl
@@ -79,26 +87,29 @@ module _ (c : Connection) (t : Store) (u : List ℕ) where
 
   -- ---- refusals
 
-  noted-refused : (a : Answer) (n : ℕ) → Noted a → a ≡ answer.Refused n → ⊥
-  noted-refused a n h q = subst Noted q h
+  noted-refused : (a : Answer) (n : ℕ) → Noted a → refusalOf a ≡ some n → ⊥
+  noted-refused a n h q = of-refusal (λ (b : Answer). Noted b → ⊥) n (λ k. k) (λ offset k. k) a q h
 
-  kind-refused : (e : Effect) (n : ℕ) → Kind c t u e → e .answer ≡ answer.Refused n → (closes n ≡ true) × (e ≡ refuse c n)
-  unfolding refuse note peerError defineAt commitAt
-  kind-refused e n (kinds.refused k h) q = let r : k ≡ n = cc in (subst (λ (x : ℕ). closes x ≡ true) r h, ap (refuse c) r)
+  kind-refused : (e : Effect) (n : ℕ) → Kind c t u e → refusalOf (e .answer) ≡ some n → (closes n ≡ true) × ((a : Answer) × (e ≡ refuseWith c n a))
+  unfolding refuseWith note peerError defineAt commitAt refusalOf
+  kind-refused e n (kinds.refused k a h p) q =
+      let r : k ≡ n = same-number k n (sym p ∙ q) in
+      (subst (λ (x : ℕ). closes x ≡ true) r h, (a, ap (λ (x : ℕ). refuseWith c x a) r))
   kind-refused e n (kinds.noted d a reply h) q = absurd (noted-refused a n h q)
-  kind-refused e n (kinds.errored type) q = absurd (let z : _≡_ {A = ℕ} 0 1 = cc in omega arith)
-  kind-refused e n (kinds.defined fields body place k) q = absurd (let z : _≡_ {A = ℕ} 0 1 = cc in omega arith)
-  kind-refused e n (kinds.committed fields body place how k) q = absurd (let z : _≡_ {A = ℕ} 0 1 = cc in omega arith)
+  kind-refused e n (kinds.errored type) q = absurd (no-number n q)
+  kind-refused e n (kinds.defined fields body place k) q = absurd (no-number n q)
+  kind-refused e n (kinds.committed fields body place how k) q = absurd (no-number n q)
 
-  pub settled-refused : (e : Effect) → judge c t u ≡ settled e → (n : ℕ) → e .answer ≡ answer.Refused n → (closes n ≡ true) × (e ≡ refuse c n)
+  pub settled-refused : (e : Effect) → judge c t u ≡ settled e → (n : ℕ) → refusalOf (e .answer) ≡ some n
+      → (closes n ≡ true) × ((a : Answer) × (e ≡ refuseWith c n a))
   settled-refused e q n a = kind-refused e n (kind-of c t u e q) a
 
   -- ---- the store stays for every answer but a table or an update
 
   kind-stays : (e : Effect) → Kind c t u e → ((place : ℕ) → e .answer ≡ answer.Table place → ⊥)
       → ((table id place : ℕ) (how : Commit) → e .answer ≡ answer.Update table id place how → ⊥) → changed t (e .change) ≡ t
-  unfolding refuse note peerError defineAt commitAt changed noChange
-  kind-stays e (kinds.refused n h) f g = refl
+  unfolding refuseWith refusalOf note peerError defineAt commitAt changed noChange
+  kind-stays e (kinds.refused n a h r) f g = refl
   kind-stays e (kinds.noted d a reply h) f g = refl
   kind-stays e (kinds.errored type) f g = refl
   kind-stays e (kinds.defined fields body place k) f g = absurd (f place refl)
@@ -111,8 +122,8 @@ module _ (c : Connection) (t : Store) (u : List ℕ) where
   -- ---- held tables stay held
 
   kind-grows : (e : Effect) → Kind c t u e → (i : ℕ) → heldAt (t .tables) i ≡ true → heldAt (changed t (e .change) .tables) i ≡ true
-  unfolding refuse note peerError defineAt commitAt changed noChange tableChange entryChange putTable putEntry
-  kind-grows e (kinds.refused n h) i k = k
+  unfolding refuseWith refusalOf note peerError defineAt commitAt changed noChange tableChange entryChange putTable putEntry
+  kind-grows e (kinds.refused n a h r) i k = k
   kind-grows e (kinds.noted d a reply h) i k = k
   kind-grows e (kinds.errored type) i k = k
   kind-grows e (kinds.defined fields body place d) i k = put-held (t .tables) place (definedTable body fields) (defined-held body fields) i k
@@ -144,8 +155,8 @@ module _ (c : Connection) (t : Store) (u : List ℕ) (table id place : ℕ) (how
   noted-update a h q = subst Noted q h
 
   kind-updated : (e : Effect) → Kind c t u e → e .answer ≡ answer.Update table id place how → Updated c t u table id place e
-  unfolding refuse note peerError defineAt commitAt changed entryChange updatedEntry makeEntry
-  kind-updated e (kinds.refused n h) q = absurd (let z : _≡_ {A = ℕ} 0 1 = cc in omega arith)
+  unfolding refuseWith refusalOf note peerError defineAt commitAt changed entryChange updatedEntry makeEntry
+  kind-updated e (kinds.refused n a h r) q = absurd (no-number n (sym (ap refusalOf q) ∙ r))
   kind-updated e (kinds.noted d a reply h) q = absurd (noted-update a h q)
   kind-updated e (kinds.errored type) q = absurd (let z : _≡_ {A = ℕ} 0 1 = cc in omega arith)
   kind-updated e (kinds.defined fields body p k) q = absurd (let z : _≡_ {A = ℕ} 0 1 = cc in omega arith)
@@ -197,8 +208,8 @@ module _ (c : Connection) (t : Store) (u : List ℕ) (place : ℕ) where
   noted-table a h q = subst Noted q h
 
   kind-defined : (e : Effect) → Kind c t u e → e .answer ≡ answer.Table place → Defined c t u place e
-  unfolding refuse note peerError defineAt commitAt changed tableChange
-  kind-defined e (kinds.refused n h) q = absurd (let z : _≡_ {A = ℕ} 0 1 = cc in omega arith)
+  unfolding refuseWith refusalOf note peerError defineAt commitAt changed tableChange
+  kind-defined e (kinds.refused n a h r) q = absurd (no-number n (sym (ap refusalOf q) ∙ r))
   kind-defined e (kinds.noted d a reply h) q = absurd (noted-table a h q)
   kind-defined e (kinds.errored type) q = absurd (let z : _≡_ {A = ℕ} 0 1 = cc in omega arith)
   kind-defined e (kinds.defined fields body p k) q =

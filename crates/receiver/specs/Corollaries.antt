@@ -3,6 +3,7 @@ use Prim.Native.Nat.{ℕ, _+_, _-_, _<_, _^_}
 use mathlib.Core.Path.{_≡_}
 use mathlib.Core.Logic.{_⊎_}
 use mathlib.Core.List.{List, [], _++_}
+use mathlib.Core.Option.{some}
 use mathlib.Core.Bool.{Bool, true, cond, _&&_, _||_}
 use lib.ListN.{length, take, drop, getD}
 use lib.Dec.{eqb, leb}
@@ -14,7 +15,7 @@ use Rattle.session.specs.declared.Session.{Session}
 use Rattle.session.specs.declared.Connection.{Connection}
 use Rattle.session.specs.declared.Commit.{Commit}
 use Rattle.session.specs.declared.Answer.the-variants as answer
-use Rattle.session.specs.Answers.{refusalReply, answerNumber, answerValues}
+use Rattle.session.specs.Answers.{refusalOf, refusalReply, answerNumber, answerValues}
 use Rattle.session.specs.Session.{unfinished, bindingAt, holding, closedWith}
 use Rattle.session_soundness.specs.Sound.{sound}
 use Rattle.opening.specs.Opening.{Role, refusedOpening, «open», openRoom}
@@ -116,7 +117,7 @@ RefusedCall s t m n =
     (((n ≡ 1) ⊎ ((n ≡ 2) ⊎ (n ≡ 4))) × NothingChanged s t m) ⊎ ((closes n ≡ true) × OnlyClosed s t m n)
 
 abbrev pub RefusedUntouched : Type 0
-RefusedUntouched = (s : Session) (t : Store) (m : Made) (n : ℕ) → ReadPromise s t m → m .outcome .answer ≡ answer.Refused n → RefusedCall s t m n
+RefusedUntouched = (s : Session) (t : Store) (m : Made) (n : ℕ) → ReadPromise s t m → refusalOf (m .outcome .answer) ≡ some n → RefusedCall s t m n
 
 pub record Untouched (t : Store) (m : Made) : Type 0 where
   pub store : m .store ≡ t
@@ -137,7 +138,7 @@ pub record RefusedOpening (role : Role) (local remote before : List ℕ) (n : �
 
 abbrev pub RefusedOpeningUntouched : Type 0
 RefusedOpeningUntouched =
-    (role : Role) (local remote room : List ℕ) (n : ℕ) → «open» role local remote (length room) .answer ≡ answer.Refused n
+    (role : Role) (local remote room : List ℕ) (n : ℕ) → refusalOf («open» role local remote (length room) .answer) ≡ some n
     → RefusedOpening role local remote room n
 
 -- ---- "a definition gives this paper's number and values for each of the enum's cases"

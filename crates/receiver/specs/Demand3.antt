@@ -3,12 +3,14 @@ use Prim.Native.Nat.{ℕ, _≤_}
 use mathlib.Core.Path.{_≡_}
 use mathlib.Core.Logic.{_⊎_}
 use mathlib.Core.List.{List, [], _∷_, _++_, flatten}
+use mathlib.Core.Option.{some}
 use mathlib.Core.Bool.{true, false, cond, _||_}
 use lib.ListN.{length, take, drop}
 use lib.Dec.{eqb}
 use Rattle.lists.specs.Lists.{every}
 use Rattle.store.specs.declared.Store.{Store}
 use Rattle.session.specs.declared.Session.{Session}
+use Rattle.session.specs.Answers.{refusalOf}
 use Rattle.session.specs.declared.Answer.{Answer}
 use Rattle.session.specs.declared.Answer.the-variants as answer
 use Rattle.session.specs.Session.{unfinished, isClosed, holding}
@@ -141,7 +143,7 @@ AcknowledgedCalls l u (m ∷ ms) =
 
 unfoldable pub NeverUnsound : List Made → Type 0
 NeverUnsound [] = Unit {0}
-NeverUnsound (m ∷ ms) = (m .outcome .answer ≡ answer.Refused 4 → ⊥) × NeverUnsound ms
+NeverUnsound (m ∷ ms) = (refusalOf (m .outcome .answer) ≡ some 4 → ⊥) × NeverUnsound ms
 
 -- ---- the claim
 
@@ -151,7 +153,7 @@ pub record Demand3 (s : Session) (t : Store) (ms : List Made) : Type 0 where
   -- 2. answers, replies, store and end record are the byte model's for the bytes taken
   pub taken : cameTo s t ms ≡ resultOf (modelRan s t (takenBy ms))
   -- the answers left out of `taken` are more wanted, 1, 2 and 4 alone; the model's list has every answer that it gave
-  pub left-out : (a : Answer) → ends a ≡ false → (a ≡ answer.More) ⊎ ((a ≡ answer.Refused 1) ⊎ ((a ≡ answer.Refused 2) ⊎ (a ≡ answer.Refused 4)))
+  pub left-out : (a : Answer) → ends a ≡ false → (a ≡ answer.More) ⊎ ((refusalOf a ≡ some 1) ⊎ ((refusalOf a ≡ some 2) ⊎ (refusalOf a ≡ some 4)))
   -- the end record itself: the start record where no byte was taken, else the record that holds the model's state
   pub record-is : lastSession s ms
       ≡ (let end = modelRan s t (takenBy ms) .state in cond (eqb (length (takenBy ms)) 0) s (holding (end .connection) (end .unfinished)))

@@ -43,16 +43,16 @@ kindOf message = getD message 1 0
 
 unfoldable pub afterInt : Int → ℕ
 afterInt (int.Value v next) = next
-afterInt int.Short = 0
-afterInt int.Overflow = 0
+afterInt (int.Short looked) = 0
+afterInt (int.Overflow looked) = 0
 
 unfoldable pub bodyStart : List ℕ → ℕ
 bodyStart message = afterInt (readInt message 2)
 
 unfoldable pub valueOf : Int → ℕ
 valueOf (int.Value v next) = v
-valueOf int.Short = 0
-valueOf int.Overflow = 0
+valueOf (int.Short looked) = 0
+valueOf (int.Overflow looked) = 0
 
 -- the sender's table ID that the body of a definition or of a switch begins with
 unfoldable pub tableId : List ℕ → ℕ
@@ -125,6 +125,7 @@ post l e =
       | answer.Acknowledgement id update ↦ l
       | answer.Skipped kind ↦ l
       | answer.Refused n ↦ l
+      | answer.RefusedAt n offset ↦ l
     ]
 
 -- ---- acknowledgements
@@ -171,6 +172,7 @@ RightReply l message reply (answer.Update table id entry how) = Carried l reply 
 RightReply l message reply (answer.Acknowledgement id update) = NoAcknowledgement reply
 RightReply l message reply (answer.Skipped kind) = NoAcknowledgement reply
 RightReply l message reply (answer.Refused n) = NoAcknowledgement reply
+RightReply l message reply (answer.RefusedAt n offset) = NoAcknowledgement reply
 
 -- a message that ended, between the ledger before it and the ledger after it
 abbrev pub Acknowledged : Ledger → Ledger → Ended Answer → Type 0

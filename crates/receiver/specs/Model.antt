@@ -41,6 +41,10 @@ feed s b =
 
 -- ---- the receiver
 
+-- of the refusals, by their number: all but 1, 2 and 4
+unfoldable pub endsRefused : ℕ → Bool
+endsRefused n = not (eqb n 1 || (eqb n 2 || eqb n 4))
+
 -- the answers that end a message or close the session: all but more wanted, 1, 2 and 4
 unfoldable pub ends : Answer → Bool
 ends answer.More = false
@@ -57,7 +61,8 @@ ends (answer.Switch place) = true
 ends (answer.Update table id entry how) = true
 ends (answer.Acknowledgement id update) = true
 ends (answer.Skipped kind) = true
-ends (answer.Refused n) = not (eqb n 1 || (eqb n 2 || eqb n 4))
+ends (answer.Refused n) = endsRefused n
+ends (answer.RefusedAt n offset) = endsRefused n
 
 -- "1 | reply room under 12"
 abbrev pub replyRoom : ℕ

@@ -1,1 +1,2 @@
 pub mod OneToOne
+pub mod Refusals

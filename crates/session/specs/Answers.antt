@@ -2,6 +2,7 @@
 use Prim.Native.Nat.{ℕ}
 use mathlib.Core.List.{List, [], _∷_}
 use mathlib.Core.Bool.{Bool, cond, _||_}
+use mathlib.Core.Option.{Option, some, none}
 use lib.Dec.{eqb}
 use lib.ListN.{length}
 use Rattle.lists.specs.Lists.{padTo}
@@ -31,12 +32,13 @@ answerNumber (answer.Update table id entry how) = 267
 answerNumber (answer.Acknowledgement id update) = 268
 answerNumber (answer.Skipped type) = 269
 answerNumber (answer.Refused number) = number
+answerNumber (answer.RefusedAt number offset) = number
 
 abbrev pub commitNumber : Commit → ℕ
 commitNumber commit.New = 0
 commitNumber commit.Replaced = 1
 
--- "The numbers on its line, and new or replaced, are an answer's fields."
+-- "The numbers on its line, and new or replaced, are an answer's fields."; request 10: "refusals 23, 24 and 30 give the offset in the body"
 unfoldable pub answerValues : Answer → List ℕ
 answerValues answer.More = []
 answerValues (answer.Hello process relative) = process ∷ relative ∷ []
@@ -53,8 +55,28 @@ answerValues (answer.Update table id entry how) = table ∷ id ∷ entry ∷ com
 answerValues (answer.Acknowledgement id update) = id ∷ update ∷ []
 answerValues (answer.Skipped type) = type ∷ []
 answerValues (answer.Refused number) = []
+answerValues (answer.RefusedAt number offset) = offset ∷ []
 
--- the same in an array of four places, zeros after them
+-- the number of a refusal, with an offset or without; no other answer has one
+unfoldable pub refusalOf : Answer → Option ℕ
+refusalOf answer.More = none
+refusalOf (answer.Hello process relative) = none
+refusalOf answer.Status = none
+refusalOf answer.Request = none
+refusalOf answer.Finished = none
+refusalOf answer.Partial = none
+refusalOf answer.Confirmed = none
+refusalOf answer.Heartbeat = none
+refusalOf (answer.Error type) = none
+refusalOf (answer.Table place) = none
+refusalOf (answer.Switch place) = none
+refusalOf (answer.Update table id entry how) = none
+refusalOf (answer.Acknowledgement id update) = none
+refusalOf (answer.Skipped type) = none
+refusalOf (answer.Refused number) = some number
+refusalOf (answer.RefusedAt number offset) = some number
+
+-- an answer's values in an array of four places, zeros after them
 unfoldable pub valuesOf : Answer → Values
 valuesOf a = record { numbers = padTo 4 (answerValues a); count = length (answerValues a) }
 

@@ -51,3 +51,12 @@ rebinding = refl
 current-places : currentOf 0 ∷ currentOf 7 ∷ currentOf 8 ∷ [] ≡ 1 ∷ 8 ∷ 0 ∷ []
 unfolding currentOf
 current-places = refl
+
+-- `refused 24 4`, and `refused 22`
+refusal-values : answerNumber (answer.RefusedAt 24 4) ∷ answerValues (answer.RefusedAt 24 4) ≡ 24 ∷ 4 ∷ []
+unfolding answerNumber answerValues
+refusal-values = refl
+
+no-values : answerNumber (answer.Refused 22) ∷ answerValues (answer.Refused 22) ≡ 22 ∷ []
+unfolding answerNumber answerValues
+no-values = refl

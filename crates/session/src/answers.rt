@@ -34,6 +34,7 @@ pub fn answer_number(a: Answer) -> u32
         Answer::Acknowledgement { id: _, update: _ } => 268,
         Answer::Skipped(_) => 269,
         Answer::Refused(number) => number as u32,
+        Answer::RefusedAt { number, offset: _ } => number as u32,
     }
 }
 
@@ -108,5 +109,6 @@ pub fn answer_values(a: Answer) -> Values
         Answer::Acknowledgement { id, update } => two_values(id, update),
         Answer::Skipped(kind) => one_value(kind as u64),
         Answer::Refused(_) => no_values(),
+        Answer::RefusedAt { number: _, offset } => one_value(offset as u64),
     }
 }

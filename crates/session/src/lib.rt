@@ -67,7 +67,8 @@ pub enum Commit {
     Replaced,
 }
 
-// What a call answers: more bytes are wanted, a message of some kind with its fields, or a refusal with its number.
+// What a call answers: more bytes are wanted, a message of some kind with its fields, or a refusal with its number and, where a body can't
+// be read, the offset in the body at which the failing field starts.
 pub enum Answer {
     More,
     Hello {
@@ -95,6 +96,10 @@ pub enum Answer {
     },
     Skipped(u8),
     Refused(u8),
+    RefusedAt {
+        number: u8,
+        offset: usize,
+    },
 }
 
 // What a call gives back: the bytes taken, the reply's length and the answer.

@@ -1,11 +1,11 @@
 -- More bytes behind, and the position: what was read stays as it was when more bytes follow, and depends only on the bytes from its
 -- position on. For the encoded integer, the 4-byte number, the value with a limit and the server ID.
-use Prim.Native.Nat.{ℕ, zero, suc, _+_, _^_, _≤_}
+use Prim.Native.Nat.{ℕ, zero, suc, _+_, _-_, _^_, _≤_}
 use native.Mathlib.Omega.{arith}
 use mathlib.Core.Logic.{_⊎_, inl, inr}
 use mathlib.Core.Path.{_≡_, refl, sym, _∙_}
 use mathlib.Core.List.{List, [], _∷_, _++_}
-use lib.ListN.{length, drop, length-append, List·getD-append}
+use lib.ListN.{length, drop, length-append, length-drop, List·getD-append}
 use lib.Seq.{drop-append-le, drop-append-add, getD-append-add}
 use borrow.Author.Tests.{lt-ltb, le-ltb}
 use Rattle.wire.specs.declared.Int.{Int}
@@ -20,8 +20,8 @@ use Rattle.lists.proofs.Cases.{lt-or-le, split}
 use Rattle.wire.proofs.Read.{fitting-value, fitting-over, first-end}
 use Rattle.wire.proofs.Numbers.{number-short, number-value}
 
--- ---- the encoded integer: it is short, or more bytes behind change nothing
-later-behind : (n : ℕ) (s t : List ℕ) → (laterBytes n s ≡ cut) ⊎ (laterBytes n (s ++ t) ≡ laterBytes n s)
+-- ---- the encoded integer: it is short, with all bytes looked at, or more bytes behind change nothing
+later-behind : (n : ℕ) (s t : List ℕ) → (laterBytes n s ≡ cut (length s)) ⊎ (laterBytes n (s ++ t) ≡ laterBytes n s)
 unfolding laterBytes before
 later-behind zero s t = inr refl
 later-behind (suc n) [] t = inl refl
@@ -30,38 +30,43 @@ later-behind (suc n) (b ∷ s) t =
     (λ l. inr (rw (lt-ltb b 128 l)))
     (λ l. split (later-behind n s t) (λ e. inl (rw (le-ltb b 128 l, e))) (λ e. inr (rw (le-ltb b 128 l, e))))
 
-first-behind : (at : ℕ) (s t : List ℕ) → (readFirst at s ≡ int.Short) ⊎ (readFirst at (s ++ t) ≡ readFirst at s)
+first-behind : (at : ℕ) (s t : List ℕ) → (readFirst at s ≡ int.Short (length s)) ⊎ (readFirst at (s ++ t) ≡ readFirst at s)
 unfolding readFirst withLater
 first-behind at [] t = inl refl
 first-behind at (b ∷ s) t =
+    let k : 1 + length s ≡ suc (length s) = omega arith in
     split (lt-or-le b 240)
     (λ l. inr (rw (lt-ltb b 240 l)))
-    (λ l. split (later-behind 9 s t) (λ e. inl (rw (le-ltb b 240 l, e))) (λ e. inr (rw (le-ltb b 240 l, e))))
+    (λ l. split (later-behind 9 s t) (λ e. inl (rw (le-ltb b 240 l, e, k))) (λ e. inr (rw (le-ltb b 240 l, e))))
 
-pub int-behind : (s t : List ℕ) (at : ℕ) → (readInt s at ≡ int.Short) ⊎ (readInt (s ++ t) at ≡ readInt s at)
+pub int-behind : (s t : List ℕ) (at : ℕ) → (readInt s at ≡ int.Short (length s - at)) ⊎ (readInt (s ++ t) at ≡ readInt s at)
 unfolding readInt
 int-behind s t at =
     split (lt-or-le (length s) at)
-    (λ l. inl (first-end s at (omega arith)))
-    (λ l. rw (drop-append-le at s t l) (first-behind at (drop at s) t))
+    (λ l. let z : 0 ≡ length s - at = omega arith in inl (first-end s at (omega arith) ∙ rw z))
+    (λ l. rw (drop-append-le at s t l, ← length-drop at s) (first-behind at (drop at s) t))
 
 pub int-value-behind : (s t : List ℕ) (at v next : ℕ) → readInt s at ≡ int.Value v next → readInt (s ++ t) at ≡ int.Value v next
 int-value-behind s t at v next e = split (int-behind s t at) (λ q. cc) (λ q. q ∙ e)
 
+pub int-overflow-behind : (s t : List ℕ) (at k : ℕ) → readInt s at ≡ int.Overflow k → readInt (s ++ t) at ≡ int.Overflow k
+int-overflow-behind s t at k e = split (int-behind s t at) (λ q. cc) (λ q. q ∙ e)
+
 -- ---- the position: n bytes more before it move the next position by n
 unfoldable pub movedInt : ℕ → Int → Int
 movedInt n (int.Value v next) = int.Value v (n + next)
-movedInt n int.Short = int.Short
-movedInt n int.Overflow = int.Overflow
+movedInt n (int.Short k) = int.Short k
+movedInt n (int.Overflow k) = int.Overflow k
 
 moved-later : (n at b : ℕ) (l : Later) → withLater (n + at) b l ≡ movedInt n (withLater at b l)
 unfolding withLater movedInt
 moved-later n at b (ended bs) =
+    let k : ℕ = 1 + length bs in
     let e : n + at + 1 + length bs ≡ n + (at + 1 + length bs) = omega arith in
     split (lt-or-le (b + weighted 0 bs) (2 ^ 64))
-    (λ f. rw (fitting-value (b + weighted 0 bs) (n + at + 1 + length bs) f, fitting-value (b + weighted 0 bs) (at + 1 + length bs) f, e))
-    (λ f. rw (fitting-over (b + weighted 0 bs) (n + at + 1 + length bs) f, fitting-over (b + weighted 0 bs) (at + 1 + length bs) f))
-moved-later n at b cut = refl
+    (λ f. rw (fitting-value (b + weighted 0 bs) k (n + at + 1 + length bs) f, fitting-value (b + weighted 0 bs) k (at + 1 + length bs) f, e))
+    (λ f. rw (fitting-over (b + weighted 0 bs) k (n + at + 1 + length bs) f, fitting-over (b + weighted 0 bs) k (at + 1 + length bs) f))
+moved-later n at b (cut k) = refl
 moved-later n at b endless = refl
 
 moved-first : (n at : ℕ) (s : List ℕ) → readFirst (n + at) s ≡ movedInt n (readFirst at s)

@@ -6,4 +6,5 @@ pub mod RoundTrip
 pub mod Advance
 pub mod Numbers
 pub mod Behind
+pub mod Decided
 pub mod Tenth

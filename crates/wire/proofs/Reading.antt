@@ -31,24 +31,24 @@ module _ (w : ℕ) (e : w ≡ 16 * 128 ^ 8) (b : ℕ) (l : b < 16) where
   sum-fits value m = omega (arith, top-le)
 
 module _ (s : List ℕ) (i value : ℕ) where
-  pub last-none : length s ≤ i → Short ≡ tenthByte value i (drop i s)
+  pub last-none : length s ≤ i → Short 9 ≡ tenthByte value i (drop i s)
   last-none h = sym (tenth-end s i value h)
 
   module _ (b : ℕ) (q : b ≡ getD s i 0) (h : i < length s) where
-    pub last-high : 16 ≤ b → Overflow ≡ tenthByte value i (drop i s)
+    pub last-high : 16 ≤ b → Overflow 10 ≡ tenthByte value i (drop i s)
     last-high l =
         sym
         (split (lt-or-le b 128)
-        (λ m. tenth-low s i value b q h m ∙ fitting-over _ _ (omega arith))
+        (λ m. tenth-low s i value b q h m ∙ fitting-over _ _ _ (omega arith))
         (λ m. tenth-high s i value b q h m))
 
     module _ (w : ℕ) (e : w ≡ 16 * 128 ^ 8) (l : b < 16) where
-      pub last-over : 2 ^ 64 - 1 - w * b < value → Overflow ≡ tenthByte value i (drop i s)
-      last-over m = sym (tenth-low s i value b q h (omega arith) ∙ fitting-over _ _ (omega (arith, top-is w e b l)))
+      pub last-over : 2 ^ 64 - 1 - w * b < value → Overflow 10 ≡ tenthByte value i (drop i s)
+      last-over m = sym (tenth-low s i value b q h (omega arith) ∙ fitting-over _ _ _ (omega (arith, top-is w e b l)))
 
       pub last-value : value ≤ 2 ^ 64 - 1 - w * b → Value (value + w * b) (i + 1) ≡ tenthByte value i (drop i s)
       last-value m =
-          rw (top-is w e b l) (sym (tenth-low s i value b q h (omega arith) ∙ fitting-value _ _ (omega (arith, top-is w e b l))))
+          rw (top-is w e b l) (sym (tenth-low s i value b q h (omega arith) ∙ fitting-value _ _ _ (omega (arith, top-is w e b l))))
 
 pub ruleset tenth = (needs, top-le, top-fits, sum-fits, last-none, last-high, last-over, last-value)
 
@@ -59,7 +59,7 @@ pub record Reading (s : List ℕ) (at i acc w n : ℕ) : Type 0 where
   pub small : acc < 16 * w
   pub rest : readInt s at ≡ whole acc n i (laterBytes (9 - n) (drop i s))
 
-pub none : (s : List ℕ) (at : ℕ) → length s ≤ at → Short ≡ readInt s at
+pub none : (s : List ℕ) (at : ℕ) → length s ≤ at → Short 0 ≡ readInt s at
 none s at h = sym (first-end _ _ h)
 
 pub alone : (s : List ℕ) (at b m : ℕ) → b ≡ getD s at 0 → at < length s → b < m → m ≤ 240 → Value b (at + 1) ≡ readInt s at
@@ -69,7 +69,7 @@ pub start : {s : List ℕ} {at b : ℕ} → b ≡ getD s at 0 → at < length s 
 start q h k l = record { few = omega arith; weight = refl; small = omega arith; rest = first-more _ _ _ q h l }
 
 module _ {s : List ℕ} {at i acc w n : ℕ} (r : Reading s at i acc w n) where
-  pub short-of : length s ≤ i → Short ≡ readInt s at
+  pub short-of : length s ≤ i → Short (n + 1) ≡ readInt s at
   short-of h = let k = r .few in sym (r .rest ∙ at-end s i (9 - n) (8 - n) acc n (omega arith) h)
 
   weighs : n < 8 → w ≤ 2 ^ 53
@@ -93,7 +93,7 @@ module _ {s : List ℕ} {at i acc w n : ℕ} (r : Reading s at i acc w n) where
       sym
       (r .rest
       ∙ at-last s i (9 - n) (8 - n) acc n (omega arith) b q h l
-      ∙ rw (product b) (fitting-value (acc + w * b) (i + 1) (add-fits k u .fits)))
+      ∙ rw (product b) (fitting-value (acc + w * b) (n + 2) (i + 1) (add-fits k u .fits)))
 
   pub goes-on : {b x : ℕ} → n < 8 → i < length s → b ≡ getD s i 0 → b < 256 → 128 ≤ b → x ≡ 128 * w
       → Reading s at (i + 1) (acc + w * b) x (n + 1)

@@ -56,7 +56,7 @@ first-trip v at t h =
     let y< : (v - 240) / 16 < 128 ^ 9 = omega arith in
     let e : 240 + v % 16 + 16 * 128 ^ 0 * ((v - 240) / 16) ≡ v = omega arith in
     let k : at + 1 + length (encodeRest 9 ((v - 240) / 16)) ≡ at + suc (length (encodeRest 9 ((v - 240) / 16))) = omega arith in
-    rw (int-more v l, le-ltb (240 + v % 16) 240 b≥, rest-ended 8 ((v - 240) / 16) t y<, rest-weighted 8 0 ((v - 240) / 16) y<) (rw (e, k) (fitting-value _ _ h)))
+    rw (int-more v l, le-ltb (240 + v % 16) 240 b≥, rest-ended 8 ((v - 240) / 16) t y<, rest-weighted 8 0 ((v - 240) / 16) y<) (rw (e, k) (fitting-value _ _ _ h)))
 
 -- Reading what was written gives the value and the position after it, whatever stands before and behind.
 pub round-trip : (p t : List ℕ) (v : ℕ) → v < 2 ^ 64 → readInt (p ++ (encodeInt v ++ t)) (length p) ≡ Value v (length p + length (encodeInt v))
@@ -73,7 +73,7 @@ pub record Digits (n : ℕ) (s bs : List ℕ) : Type 0 where
 
 Kept : ℕ → List ℕ → Later → Type 0
 Kept n s (ended bs) = Digits n s bs
-Kept n s cut = Unit {0}
+Kept n s (cut k) = Unit {0}
 Kept n s endless = Unit {0}
 
 kept-before : (n b : ℕ) (s : List ℕ) (l : Later) → 128 ≤ b → b < 256 → Kept n s l → Kept (suc n) (b ∷ s) (before b l)
@@ -89,7 +89,7 @@ kept-before n b s (ended bs) l h d =
       digits = rw (rest-more (suc n) n (b + 128 * y) refl l′, e₁, e₂, ← d .digits);
       worth = λ k. rw (d .worth (suc k)) (weighted-step k b y);
     }
-kept-before n b s cut l h q = tt
+kept-before n b s (cut k) l h q = tt
 kept-before n b s endless l h q = tt
 
 later-kept : (n : ℕ) (s : List ℕ) → Bytes s → Kept n s (laterBytes n s)
@@ -104,8 +104,8 @@ later-kept (suc n) (b ∷ s) h =
 -- the same of the integer at position at, where s is what stands there
 Own : ℕ → List ℕ → Int → Type 0
 Own at s (Value v next) = (next ≡ at + length (encodeInt v)) × (take (length (encodeInt v)) s ≡ encodeInt v)
-Own at s Short = Unit {0}
-Own at s Overflow = Unit {0}
+Own at s (Short k) = Unit {0}
+Own at s (Overflow k) = Unit {0}
 
 own-later : (at b : ℕ) (s : List ℕ) (l : Later) → 240 ≤ b → b < 256 → Kept 9 s l → Own at (b ∷ s) (withLater at b l)
 unfolding Kept Own withLater
@@ -119,9 +119,9 @@ own-later at b s (ended bs) l h d =
     let e₂ : (b + weighted 0 bs - 240) / 16 ≡ y = omega arith in
     let e : encodeInt (b + weighted 0 bs) ≡ b ∷ bs = rw (int-more (b + weighted 0 bs) l′, e₁, e₂, ← d .digits) in
     let k : at + 1 + length bs ≡ at + suc (length bs) = omega arith in
-    rw (fitting-value (b + weighted 0 bs) (at + 1 + length bs) f, e) (k, rw (d .taken)))
-    (λ f. rw (fitting-over (b + weighted 0 bs) (at + 1 + length bs) f) tt)
-own-later at b s cut l h q = tt
+    rw (fitting-value (b + weighted 0 bs) (1 + length bs) (at + 1 + length bs) f, e) (k, rw (d .taken)))
+    (λ f. rw (fitting-over (b + weighted 0 bs) (1 + length bs) (at + 1 + length bs) f) tt)
+own-later at b s (cut k) l h q = tt
 own-later at b s endless l h q = tt
 
 first-own : (at : ℕ) (s : List ℕ) → Bytes s → Own at s (readFirst at s)

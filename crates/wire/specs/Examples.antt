@@ -53,18 +53,30 @@ minus-one : readServerId (0xFF ∷ 0xF0 ∷ 0xFE ∷ 0xFE ∷ 0xFE ∷ 0xFE ∷ 
 unfolding readServerId serverOf serverBefore serverIdOf readInt readFirst withLater laterBytes before weighted fitting
 minus-one = refl
 
-over : readInt (0xF0 ∷ 0xF1 ∷ 0xFE ∷ 0xFE ∷ 0xFE ∷ 0xFE ∷ 0xFE ∷ 0xFE ∷ 0xFE ∷ 0x0E ∷ []) 0 ≡ int.Overflow
+over : readInt (0xF0 ∷ 0xF1 ∷ 0xFE ∷ 0xFE ∷ 0xFE ∷ 0xFE ∷ 0xFE ∷ 0xFE ∷ 0xFE ∷ 0x0E ∷ []) 0 ≡ int.Overflow 10
 unfolding readInt readFirst withLater laterBytes before weighted fitting
 over = refl
 
--- a tenth byte of 128 or more overflows; nine bytes alone are too short
-tenth-over : readInt (0xF0 ∷ 0x80 ∷ 0x80 ∷ 0x80 ∷ 0x80 ∷ 0x80 ∷ 0x80 ∷ 0x80 ∷ 0x80 ∷ 0x80 ∷ []) 0 ≡ int.Overflow
+-- ---- "A value over 2^64 - 1, or a tenth byte of 128 or more, is an overflow", and how many bytes were looked at (request 10)
+tenth-over : readInt (0xF0 ∷ 0x80 ∷ 0x80 ∷ 0x80 ∷ 0x80 ∷ 0x80 ∷ 0x80 ∷ 0x80 ∷ 0x80 ∷ 0x80 ∷ []) 0 ≡ int.Overflow 10
 unfolding readInt readFirst withLater laterBytes before weighted fitting
 tenth-over = refl
 
-nine-short : readInt (0xF0 ∷ 0x80 ∷ 0x80 ∷ 0x80 ∷ 0x80 ∷ 0x80 ∷ 0x80 ∷ 0x80 ∷ 0x80 ∷ []) 0 ≡ int.Short
+nine-short : readInt (0xF0 ∷ 0x80 ∷ 0x80 ∷ 0x80 ∷ 0x80 ∷ 0x80 ∷ 0x80 ∷ 0x80 ∷ 0x80 ∷ []) 0 ≡ int.Short 9
 unfolding readInt readFirst withLater laterBytes before weighted fitting
 nine-short = refl
+
+one-short : readInt (0x07 ∷ 0xF0 ∷ []) 1 ≡ int.Short 1
+unfolding readInt readFirst withLater laterBytes before weighted fitting
+one-short = refl
+
+none-at-end : readInt (0x07 ∷ 0xF0 ∷ []) 2 ≡ int.Short 0
+unfolding readInt readFirst withLater laterBytes before weighted fitting
+none-at-end = refl
+
+none-past-end : readInt (0x07 ∷ 0xF0 ∷ []) 3 ≡ int.Short 0
+unfolding readInt readFirst withLater laterBytes before weighted fitting
+none-past-end = refl
 
 -- ---- the server ID at its four exact points, and the two refusals beside them
 id-least : serverIdOf (2 ^ 64 - 2 ^ 31) ≡ signed.Id (negsuc (2 ^ 31 - 1))

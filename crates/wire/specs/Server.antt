@@ -31,8 +31,8 @@ serverBefore next signed.OutOfRange = server.OutOfRange
 -- The server ID of an encoded integer. Out of range: it overflows or is no ID's word.
 unfoldable pub serverOf : Int → ServerId
 serverOf (int.Value v next) = serverBefore next (serverIdOf v)
-serverOf int.Short = server.Short
-serverOf int.Overflow = server.OutOfRange
+serverOf (int.Short looked) = server.Short
+serverOf (int.Overflow looked) = server.OutOfRange
 
 unfoldable pub readServerId : List ℕ → ℕ → ServerId
 readServerId s at = serverOf (readInt s at)

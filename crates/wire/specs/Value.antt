@@ -18,8 +18,8 @@ pub record Bytes (s : List ℕ) : Type 0 where
 -- An encoded integer that is at most `limit`. Out of range: it overflows or is over the limit.
 unfoldable pub limited : ℕ → Int → Field
 limited limit (int.Value v next) = cond (ltb limit v) field.OutOfRange (field.Value v next)
-limited limit int.Short = field.Short
-limited limit int.Overflow = field.OutOfRange
+limited limit (int.Short looked) = field.Short
+limited limit (int.Overflow looked) = field.OutOfRange
 
 unfoldable pub readLimited : ℕ → List ℕ → ℕ → Field
 readLimited limit s at = limited limit (readInt s at)
@@ -34,8 +34,8 @@ readWidth k = readLimited (2 ^ k - 1)
 pub record WidthRule (k : ℕ) : Type 0 where
   pub within : (s : List ℕ) (at v next : ℕ) → readInt s at ≡ int.Value v next → v < 2 ^ k → readWidth k s at ≡ field.Value v next
   pub over : (s : List ℕ) (at v next : ℕ) → readInt s at ≡ int.Value v next → 2 ^ k ≤ v → readWidth k s at ≡ field.OutOfRange
-  pub short : (s : List ℕ) (at : ℕ) → readInt s at ≡ int.Short → readWidth k s at ≡ field.Short
-  pub overflow : (s : List ℕ) (at : ℕ) → readInt s at ≡ int.Overflow → readWidth k s at ≡ field.OutOfRange
+  pub short : (s : List ℕ) (at looked : ℕ) → readInt s at ≡ int.Short looked → readWidth k s at ≡ field.Short
+  pub overflow : (s : List ℕ) (at looked : ℕ) → readInt s at ≡ int.Overflow looked → readWidth k s at ≡ field.OutOfRange
   pub small : (s : List ℕ) (at v next : ℕ) → readWidth k s at ≡ field.Value v next → v < 2 ^ k
   pub trip : (p t : List ℕ) (v : ℕ) → v < 2 ^ k → readWidth k (p ++ (encodeInt v ++ t)) (length p) ≡ field.Value v (length p + length (encodeInt v))
   pub trip-over : (p t : List ℕ) (v : ℕ) → v < 2 ^ 64 → 2 ^ k ≤ v → readWidth k (p ++ (encodeInt v ++ t)) (length p) ≡ field.OutOfRange

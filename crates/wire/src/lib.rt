@@ -9,11 +9,15 @@ ghost use lib.ListN.{drop};
 ghost use Rattle.wire.specs.Integer.{readInt, tenthByte, encodedInt};
 use lists::wide;
 
-// What reading an encoded integer finds.
+// The most bytes that an encoding has.
+const MOST_BYTES: usize = 10;
+
+// What reading an encoded integer finds: a value and the position after it, too few bytes, or an overflow; in the last two cases with how
+// many bytes were looked at.
 pub enum Int {
     Value { value: u64, next: usize },
-    Short,
-    Overflow,
+    Short { looked: usize },
+    Overflow { looked: usize },
 }
 
 // The tenth byte, at `i`, of this weight, after nine bytes that give `value`.
@@ -22,15 +26,15 @@ fn tenth_byte(s: &[u8], i: usize, value: u64, weight: u64) -> Int
     ensures { λ r. ⌜ r ≡ tenthByte value i (drop i (now (s .entry))) ⌝ }
 {
     if s.len() <= i {
-        return Int::Short;
+        return Int::Short { looked: 9 };
     }
     let b = wide(s[i]);
     if 16 <= b {
-        return Int::Overflow;
+        return Int::Overflow { looked: MOST_BYTES };
     }
     let top = weight * b;
     if 0xffff_ffff_ffff_ffff - top < value {
-        return Int::Overflow;
+        return Int::Overflow { looked: MOST_BYTES };
     }
     Int::Value {
         value: value + top,
@@ -57,7 +61,7 @@ pub fn read_int(s: &[u8], at: usize) -> Int
     ensures { λ r. ⌜ r ≡ readInt (now (s .entry)) at ⌝ }
 {
     if s.len() <= at {
-        return Int::Short;
+        return Int::Short { looked: 0 };
     }
     let first = wide(s[at]);
     let mut i = at + 1;
@@ -72,7 +76,7 @@ pub fn read_int(s: &[u8], at: usize) -> Int
     let mut n: usize = 0;
     while n < 8 {
         if s.len() <= i {
-            return Int::Short;
+            return Int::Short { looked: n + 1 };
         }
         let b = wide(s[i]);
         i += 1;

@@ -36,8 +36,8 @@ pub fn read_limited(s: &[u8], at: usize, limit: u64) -> Field
             }
             Field::Value { value, next }
         }
-        Int::Short => Field::Short,
-        Int::Overflow => Field::OutOfRange,
+        Int::Short { looked: _ } => Field::Short,
+        Int::Overflow { looked: _ } => Field::OutOfRange,
     }
 }
 
@@ -87,7 +87,7 @@ pub fn read_server_id(s: &[u8], at: usize) -> ServerId
             Signed::Id(id) => ServerId::Id { id, next },
             Signed::OutOfRange => ServerId::OutOfRange,
         },
-        Int::Short => ServerId::Short,
-        Int::Overflow => ServerId::OutOfRange,
+        Int::Short { looked: _ } => ServerId::Short,
+        Int::Overflow { looked: _ } => ServerId::OutOfRange,
     }
 }

@@ -46,13 +46,13 @@ afterHello bytes = modelRan (opened answerer east west) emptyStore (hello ++ byt
 
 unfoldable pub isValue : ℕ → ℕ → Int → Bool
 isValue v next (int.Value w n) = eqb v w && eqb next n
-isValue v next int.Short = false
-isValue v next int.Overflow = false
+isValue v next (int.Short looked) = false
+isValue v next (int.Overflow looked) = false
 
 unfoldable pub isOverflow : Int → Bool
 isOverflow (int.Value w n) = false
-isOverflow int.Short = false
-isOverflow int.Overflow = true
+isOverflow (int.Short looked) = false
+isOverflow (int.Overflow looked) = true
 
 abbrev sameInteger : ℤ → ℤ → Bool
 sameInteger (pos m) (pos n) = eqb m n

@@ -1,6 +1,6 @@
 //! Messages to send, and sessions to send them to.
 
-use peers::{Answer, KeyType, Session, Store, READING_ROOM};
+use peers::{Answer, KeyType, Refusal, Session, Store, READING_ROOM};
 
 /// The content of a room before a call.
 pub const FILL: u8 = 0xAA;
@@ -89,6 +89,22 @@ pub fn update(id: u32, key: &[u8], values: &[u64]) -> Vec<u8> {
 pub struct State {
     pub session: Session,
     pub store: Box<Store>,
+}
+
+/// A refusal that has no offset.
+pub fn refused(refusal: Refusal) -> Answer {
+    Answer::Refused {
+        refusal,
+        offset: None,
+    }
+}
+
+/// A refusal of the field at an offset in the body.
+pub fn refused_at(refusal: Refusal, offset: usize) -> Answer {
+    Answer::Refused {
+        refusal,
+        offset: Some(offset),
+    }
 }
 
 /// An answer with its reply.

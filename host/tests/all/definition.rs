@@ -1,6 +1,6 @@
 //! Fields of a definition, on each side of each boundary.
 
-use crate::common::{define, define_of, int, message, State, KEY_LENGTHS, PLAIN};
+use crate::common::{self, define, define_of, int, message, refused_at, State, KEY_LENGTHS, PLAIN};
 use peers::{Answer, KeyType, Refusal};
 
 /// A definition is taken, and makes the table at place 0.
@@ -12,10 +12,12 @@ fn taken(bytes: &[u8]) -> State {
 }
 
 /// A message is refused, and closes the session with this number.
-fn refused(mut state: State, bytes: &[u8], refusal: Refusal) {
+fn refused(mut state: State, bytes: &[u8], expected: Refusal) {
     let store = state.store.clone();
-    let told = state.offer(bytes);
-    assert_eq!(told, [(Answer::Refused(refusal), vec![1, 0])], "{bytes:?}");
+    let [(Answer::Refused { refusal, .. }, reply)] = &state.offer(bytes)[..] else {
+        panic!("not refused: {bytes:?}");
+    };
+    assert_eq!((*refusal, &reply[..]), (expected, &[1, 0][..]), "{bytes:?}");
     assert_eq!(state.session.closed_with(), Some(refusal.number()));
     assert!(state.store == store, "the store changed");
 }
@@ -210,10 +212,10 @@ fn after_a_name_that_is_not_plain() {
         let mut state = State::established();
         assert_eq!(state.offer(&bytes[..cut]), []);
         let told = state.offer(&bytes[cut..]);
-        assert_eq!(told, [(Answer::Refused(Refusal::TableName), vec![1, 0])]);
+        assert_eq!(told, [(refused_at(Refusal::TableName, 2), vec![1, 0])]);
         assert_eq!(state.session.closed_with(), Some(30));
         assert_eq!(state.session.unfinished(), b"");
         let (taken, told) = state.call(&[0, 4]);
-        assert_eq!((taken, told.0), (0, Answer::Refused(Refusal::Closed)));
+        assert_eq!((taken, told.0), (0, common::refused(Refusal::Closed)));
     }
 }

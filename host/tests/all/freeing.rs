@@ -1,6 +1,6 @@
 //! Freeing entries and tables between calls.
 
-use crate::common::{define, message, update, State, HELLO};
+use crate::common::{define, message, refused, update, State, HELLO};
 use peers::{Answer, Commit, DataType, KeyType, Refusal, Session, Value};
 
 /// An established record with table `t` at place 0, and one entry.
@@ -50,7 +50,7 @@ fn a_table_that_a_record_uses() {
     assert!(!state.store.free_table(0) && !state.store.free_table(8));
     // while the place is free every call is refused
     let (taken, told) = state.call(&incremental());
-    assert_eq!((taken, told.0), (0, Answer::Refused(Refusal::Unsound)));
+    assert_eq!((taken, told.0), (0, refused(Refusal::Unsound)));
     // once it is taken the update goes to the wrong table, and is acknowledged
     let old = state.session.clone();
     reconnect(&mut state);

@@ -6,6 +6,7 @@ mod definition;
 mod freeing;
 mod layout;
 mod listing;
+mod offsets;
 mod opening;
 mod random;
 mod reading;

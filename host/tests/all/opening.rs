@@ -1,6 +1,6 @@
 //! Opening in either role.
 
-use crate::common::{State, FILL};
+use crate::common::{refused, State, FILL};
 use peers::{Answer, Refusal, Session};
 
 #[test]
@@ -48,10 +48,7 @@ fn a_caller_reads_a_status() {
     let mut state = State::caller();
     assert_eq!(state.offer(b"200\n"), [(Answer::Status, vec![])]);
     assert!(state.session.is_established());
-    let mut refused = State::caller();
-    assert_eq!(
-        refused.offer(b"300\n"),
-        [(Answer::Refused(Refusal::Status), vec![])]
-    );
-    assert_eq!(refused.session.closed_with(), Some(14));
+    let mut other = State::caller();
+    assert_eq!(other.offer(b"300\n"), [(refused(Refusal::Status), vec![])]);
+    assert_eq!(other.session.closed_with(), Some(14));
 }

@@ -1,8 +1,8 @@
 //! Random bytes as record and store, and sound ones with some bytes changed: no call crashes, writes outside of what is lent, or
 //! changes anything where it refuses with 1, 2 or 4.
 
-use crate::common::{define, listing, message, update, State, FILL};
-use peers::{Answer, KeyType, Refusal};
+use crate::common::{define, listing, message, refused, update, State, FILL};
+use peers::{KeyType, Refusal};
 use std::mem::size_of;
 
 /// A small generator (xorshift).
@@ -80,7 +80,7 @@ fn call(random: &mut Random, state: &mut State) {
     assert!(room[..EDGE].iter().all(|&b| b == FILL));
     assert!(room[EDGE + reply_len..].iter().all(|&b| b == FILL));
     assert_eq!(&lent[EDGE..EDGE + piece.len()], &piece[..]);
-    let unchanged = [Refusal::Room, Refusal::Closed, Refusal::Unsound].map(Answer::Refused);
+    let unchanged = [Refusal::Room, Refusal::Closed, Refusal::Unsound].map(refused);
     if unchanged.contains(&answer) {
         assert_eq!((taken, reply_len), (0, 0));
         assert!(*state == before, "a refused call changed something");

@@ -1,6 +1,6 @@
 //! Every answer, every refusal, and every data type of an entry.
 
-use crate::common::{define, define_of, int, message, update, State, FILL, HELLO};
+use crate::common::{define, define_of, int, message, refused, update, State, FILL, HELLO};
 use peers::{Answer, Commit, DataType, KeyType, Refusal, Value};
 
 /// All data types.
@@ -29,10 +29,7 @@ fn the_peers_error() {
     );
     assert_eq!(state.session.closed_with(), Some(0));
     let before = state.clone();
-    assert_eq!(
-        state.call(&[0, 0]),
-        (0, (Answer::Refused(Refusal::Closed), vec![]))
-    );
+    assert_eq!(state.call(&[0, 0]), (0, (refused(Refusal::Closed), vec![])));
     assert_eq!(state, before);
 }
 
@@ -129,48 +126,49 @@ fn a_full_store() {
     };
     assert_eq!(known[0].0, expected);
     let told = state.offer(&update(501, &128u32.to_be_bytes(), &[]));
-    assert_eq!(told, [(Answer::Refused(Refusal::Entries), vec![1, 1])]);
+    assert_eq!(told, [(refused(Refusal::Entries), vec![1, 1])]);
     assert_eq!(state.session.closed_with(), Some(29));
     assert_eq!(state.store.entries().count(), 128);
 }
 
-/// A refused stream, its number and its reply.
-fn refused(mut state: State, bytes: &[u8], number: u8, reply: &[u8]) {
+/// A refused stream, its number, where the body broke if it did, and its reply.
+fn breaks(mut state: State, bytes: &[u8], number: u8, offset: Option<usize>, reply: &[u8]) {
     let told = state.offer(bytes);
     let refusal = Refusal::of(number).expect("a refusal's number");
-    let last = told.last().expect("an answer");
-    assert_eq!(
-        last,
-        &(Answer::Refused(refusal), reply.to_vec()),
-        "{bytes:?}"
-    );
+    let expected = (Answer::Refused { refusal, offset }, reply.to_vec());
+    assert_eq!(told.last(), Some(&expected), "{bytes:?}");
     assert_eq!(state.session.closed_with(), Some(number));
     assert_eq!(state.session.unfinished(), b"");
 }
 
+/// A refused stream whose refusal has no offset.
+fn refuses(state: State, bytes: &[u8], number: u8, reply: &[u8]) {
+    breaks(state, bytes, number, None, reply);
+}
+
 #[test]
 fn handshake_refusals() {
-    refused(State::answerer(), &[b'x'; 65], 10, b"501\n");
-    refused(
+    refuses(State::answerer(), &[b'x'; 65], 10, b"501\n");
+    refuses(
         State::answerer(),
         b"HAProxyS 2.2\neast\nwest 7 0\n",
         11,
         b"502\n",
     );
-    refused(
+    refuses(
         State::answerer(),
         b"HAProxyS 2.0\nwest\nwest 7 0\n",
         12,
         b"503\n",
     );
-    refused(
+    refuses(
         State::answerer(),
         b"HAProxyS 2.1\neast\neast 7 0\n",
         13,
         b"504\n",
     );
-    refused(State::caller(), b"504\n", 14, b"");
-    refused(State::caller(), b"200\r", 15, b"");
+    refuses(State::caller(), b"504\n", 14, b"");
+    refuses(State::caller(), b"200\r", 15, b"");
 }
 
 /// A session with these tables of integer keys, with IDs from 0 on.
@@ -186,29 +184,25 @@ fn with_tables(names: &[&[u8]]) -> State {
 fn message_refusals() {
     let open = State::established;
     let overflow = [&[10, 128, 0xFF][..], &[0xFF; 9]].concat();
-    refused(open(), &[0, 5], 20, &[1, 0]);
-    refused(open(), &overflow, 21, &[1, 0]);
-    refused(open(), &[10, 128, 0xF1, 0x31], 22, &[1, 1]);
-    refused(open(), &message(131, &[]), 23, &[1, 0]);
-    refused(open(), &message(131, &int(1 << 32)), 24, &[1, 0]);
-    refused(open(), &[0x0A, 0x80, 0], 27, &[1, 0]);
+    refuses(open(), &[0, 5], 20, &[1, 0]);
+    refuses(open(), &overflow, 21, &[1, 0]);
+    refuses(open(), &[10, 128, 0xF1, 0x31], 22, &[1, 1]);
+    breaks(open(), &message(131, &[]), 23, Some(0), &[1, 0]);
+    breaks(open(), &message(131, &int(1 << 32)), 24, Some(0), &[1, 0]);
+    refuses(open(), &[0x0A, 0x80, 0], 27, &[1, 0]);
     let update = message(129, b"keys\x05");
-    refused(with_tables(&[b"t"]), &update, 28, &[1, 0]);
+    refuses(with_tables(&[b"t"]), &update, 28, &[1, 0]);
 }
 
 #[test]
 fn definition_refusals() {
     let other = define(2, b"t", KeyType::Integer, 4, 6, &[]);
-    refused(with_tables(&[b"t"]), &other, 25, &[1, 0]);
+    refuses(with_tables(&[b"t"]), &other, 25, &[1, 0]);
     let eight: [&[u8]; 8] = [b"a", b"b", b"c", b"d", b"e", b"f", b"g", b"h"];
     let ninth = define(9, b"i", KeyType::Integer, 4, 4, &[]);
-    refused(with_tables(&eight), &ninth, 26, &[1, 1]);
-    refused(
-        State::established(),
-        &define_of(2, b"a b", &[]),
-        30,
-        &[1, 0],
-    );
+    refuses(with_tables(&eight), &ninth, 26, &[1, 1]);
+    let name = define_of(2, b"a b", &[]);
+    breaks(State::established(), &name, 30, Some(2), &[1, 0]);
 }
 
 #[test]
@@ -217,10 +211,7 @@ fn too_little_room() {
     let before = state.clone();
     let mut room = [FILL; 11];
     let step = state.session.read(&mut state.store, HELLO, &mut room);
-    assert_eq!(
-        (step.taken, step.answer),
-        (0, Answer::Refused(Refusal::Room))
-    );
+    assert_eq!((step.taken, step.answer), (0, refused(Refusal::Room)));
     assert_eq!(room, [FILL; 11]);
     assert_eq!(state, before);
 }

@@ -1,6 +1,6 @@
 //! Texts of numbers, entries and tables, and the archive's version.
 
-use crate::common::{define, update, State};
+use crate::common::{define, refused, refused_at, update, State};
 use peers::{archive_version, Answer, Commit, KeyType, Refusal, VERSION};
 
 /// Lines of `texts.txt`, which the C test reads too.
@@ -17,10 +17,15 @@ fn refusals() {
     let all: Vec<_> = Refusal::ALL.map(|r| (r.number().into(), r.text())).into();
     let told: Vec<_> = texts().filter(|(n, _)| (1..256).contains(n)).collect();
     assert_eq!(all, told);
-    let full = Answer::Refused(Refusal::Entries).to_string();
+    let full = refused(Refusal::Entries).to_string();
     assert_eq!(
         full,
         "refused with 29: a new key, and all entry places are held"
+    );
+    let range = refused_at(Refusal::Range, 4).to_string();
+    assert_eq!(
+        range,
+        "refused with 24: a field overflows or is out of range (at offset 4 of the body)"
     );
 }
 

@@ -1,7 +1,7 @@
 //! Each kind of fault of a record or a store, one at a time, and what stands next to it on the other side of its boundary.
 //! A fault is refused with 4; a call on either side that takes nothing leaves every byte as it was.
 
-use crate::common::{define, message, update, State, KEY_LENGTHS, PLAIN};
+use crate::common::{define, message, refused, update, State, KEY_LENGTHS, PLAIN};
 use peers::layout::{Entry, Session, Store, Table};
 use peers::{Answer, KeyType, Refusal};
 
@@ -96,7 +96,7 @@ fn answer(base: &State, change: Change, piece: &[u8]) -> Answer {
 fn sound(base: &State, changes: &[Change]) {
     for (n, change) in changes.iter().enumerate() {
         let answer = answer(base, *change, b"");
-        let expected = [Answer::More, Answer::Refused(Refusal::Closed)];
+        let expected = [Answer::More, refused(Refusal::Closed)];
         assert!(expected.contains(&answer), "sound change {n}: {answer:?}");
     }
 }
@@ -107,7 +107,7 @@ fn faults(base: &State, changes: &[Change]) {
     for (n, change) in changes.iter().enumerate() {
         for piece in pieces {
             let answer = answer(base, *change, piece);
-            assert_eq!(answer, Answer::Refused(Refusal::Unsound), "fault {n}");
+            assert_eq!(answer, refused(Refusal::Unsound), "fault {n}");
         }
     }
 }

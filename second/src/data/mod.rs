@@ -13,7 +13,7 @@ use std::path::Path;
 pub const SEED: u64 = 1;
 
 /// The number of streams of the generated script.
-pub const COUNT: u64 = 1700;
+pub const COUNT: u64 = 1600;
 
 /// Captures made by the generator: the number that closes them and the seed.
 pub const CLOSED: [(u8, u64); 16] = [
@@ -23,16 +23,16 @@ pub const CLOSED: [(u8, u64); 16] = [
     (12, 2082),
     (13, 731),
     (20, 1453),
-    (21, 2214),
-    (22, 791),
+    (21, 784),
+    (22, 571),
     (23, 2630),
     (24, 1124),
-    (25, 123),
+    (25, 815),
     (26, 1762),
-    (27, 2849),
-    (28, 2598),
+    (27, 1998),
+    (28, 1005),
     (29, 80),
-    (30, 579),
+    (30, 830),
 ];
 
 /// The seed of a long capture that stays open.

@@ -3,11 +3,12 @@
 use super::definitions;
 use crate::datatype;
 use crate::generate::values::Shape;
-use crate::generate::wire::{self, table_message, Message};
+use crate::generate::wire::{self, table_message, Field, Message};
 use crate::integer::encode;
 use crate::record::Role;
 use crate::replay::Command;
 use crate::store::{Times, BINARY, ENTRIES, INTEGER, IPV4, IPV6, STRING, TABLES};
+use std::collections::BTreeSet;
 
 /// An accepted hello.
 pub const HELLO: &[u8] = b"HAProxyS 2.1\neast\nwest 7 0\n";
@@ -171,8 +172,8 @@ fn server_update(value: &[u8]) -> Vec<u8> {
     [&[0x0A, 0x80, body.len() as u8], &body[..]].concat()
 }
 
-/// Messages with each field cut after every byte and with every value that
-/// is out of range.
+/// Messages with each field cut after every byte, also inside an integer that
+/// is longer, and with every value that is out of range.
 fn fields() -> Vec<u8> {
     let mut script = Script::default();
     for (before, message) in field_messages() {
@@ -184,12 +185,23 @@ fn fields() -> Vec<u8> {
             for bad in field.near.iter().chain(&field.far) {
                 script.after(&before, &message.with_field(place, bad.clone(), true));
             }
-            for bad in &field.near {
-                script.after(&before, &message.with_field(place, bad.clone(), false));
+            for last in ends_of_body(field) {
+                script.after(&before, &message.with_field(place, last, false));
             }
         }
     }
     script.0
+}
+
+/// Bytes in place of a field at the end of a body: out of range, and cut
+/// inside a long integer or a name that isn't plain.
+fn ends_of_body(field: &Field) -> Vec<Vec<u8>> {
+    let mut list = field.near.clone();
+    if let Some(long) = field.far.last() {
+        let cuts = BTreeSet::from([1, long.len() - 1, long.len()]);
+        list.extend(cuts.iter().map(|&length| long[..length].to_vec()));
+    }
+    list
 }
 
 /// Each key type with its smallest and largest key length.
@@ -226,14 +238,23 @@ fn field_messages() -> Vec<(Vec<Vec<u8>>, Message)> {
         let shape = shape(STRING, 2, datatype::bit(data_type));
         let values = vec![240; datatype::values(shape.data_types).len()];
         let definition = wire::definition(1, b"d", shape, None).bytes();
-        let update = |id| wire::update(id, b"k", shape, &values);
-        if data_type == 3 {
-            let before = vec![definition.clone(), update(Some(9)).bytes()];
-            list.push((before, update(None)));
-        }
-        list.push((vec![definition], update(Some(u32::MAX))));
+        let update = wire::update(Some(u32::MAX), b"k", shape, &values);
+        list.push((vec![definition], update));
     }
+    list.push(incremental(STRING, b"key", &[0, 2, 3, 13]));
+    list.push(incremental(IPV4, b"\x01\x02\x03\x04", &[18]));
     list
+}
+
+/// An incremental update with these data types, and what goes before it.
+fn incremental(key_type: u64, key: &[u8], data_types: &[u32]) -> (Vec<Vec<u8>>, Message) {
+    let bits = data_types.iter().map(|&number| datatype::bit(number));
+    let shape = shape(key_type, key.len() as u64, bits.sum());
+    let values = vec![240; datatype::values(shape.data_types).len()];
+    let definition = wire::definition(1, b"i", shape, None);
+    let update = |id| wire::update(id, key, shape, &values);
+    let before = vec![definition.bytes(), update(Some(9)).bytes()];
+    (before, update(None))
 }
 
 /// A shape.
@@ -370,6 +391,7 @@ fn limits() -> Vec<u8> {
     for message in longest_messages() {
         long_message(&mut script, &message);
     }
+    longest_update(&mut script);
     for kind in 128..=134 {
         script.open();
         script.pieces(&[&[0x0A, kind, 0xF1], &[0x31, 0x00]]);
@@ -394,6 +416,32 @@ fn longest_messages() -> Vec<Vec<u8>> {
         table_message(kind, &body)
     };
     starts.map(long).to_vec()
+}
+
+/// Adds the update with the most bytes: whole, cut after each of its last
+/// bytes, and with its last value out of range.
+fn longest_update(script: &mut Script) {
+    let shape = shape(BINARY, 64, datatype::LARGEST);
+    let definition = wire::definition(1, b"u", shape, None).bytes();
+    let types = datatype::values(shape.data_types);
+    let largest = |&number: &u32| match number {
+        datatype::SERVER => u64::MAX,
+        _ if datatype::is_wide(number) => u64::MAX,
+        _ => datatype::MAX_32,
+    };
+    let values: Vec<u64> = types.iter().map(largest).collect();
+    let update = wire::update(Some(7), &[1; 64], shape, &values);
+    let body = update.body();
+    for length in body.len() - 12..=body.len() {
+        let message = table_message(update.kind, &body[..length]);
+        script.after(std::slice::from_ref(&definition), &message);
+    }
+    let last = update.fields.len() - 1;
+    let field = &update.fields[last];
+    for bad in field.near.iter().chain(&field.far) {
+        let message = update.with_field(last, bad.clone(), true);
+        script.after(std::slice::from_ref(&definition), &message);
+    }
 }
 
 /// Adds sessions with a long message: in one piece with the next message,

@@ -101,7 +101,7 @@ impl Script {
         while !rest.is_empty() && !refused && !self.record.is_closed() {
             self.interrupt(random, profile, rest);
             let outcome = self.offer(random, style, rest);
-            refused = matches!(outcome.answer, Answer::Refused { .. });
+            refused = matches!(outcome.answer, Answer::Refused(_));
             rest = &rest[outcome.taken..];
         }
         self.afterwards(random, rest);

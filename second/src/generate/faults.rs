@@ -27,10 +27,10 @@ fn choose(builder: &mut Builder) -> usize {
     if builder.store.free_entry().is_none() && builder.random.chance(400) {
         return 9;
     }
-    if builder.store.free_table().is_none() && builder.random.chance(400) {
-        return 6;
+    if builder.store.free_table().is_none() && builder.random.chance(500) {
+        return builder.random.pick(&[6, 6, 6, 10]);
     }
-    builder.random.weighted(&[2, 2, 2, 5, 9, 4, 1, 4, 4, 1, 5])
+    builder.random.weighted(&[2, 2, 2, 9, 11, 4, 1, 4, 4, 1, 5])
 }
 
 /// A message for the refusal with this number plus 20, if the state has one.
@@ -39,6 +39,7 @@ fn numbered(builder: &mut Builder, number: usize) -> Option<Vec<u8>> {
         0 => Some(header(builder)),
         1 => Some(overflowing_length(builder)),
         2 => Some(large_length(builder)),
+        3 | 4 if builder.random.chance(400) => broken_update(builder, number),
         3 => Some(base(builder).cut(builder.random)),
         4 if builder.random.chance(350) => Some(bad_key(builder)),
         4 => base(builder).out_of_range(builder.random),
@@ -125,7 +126,7 @@ fn large_length(builder: &mut Builder) -> Vec<u8> {
 
 /// A message to cut or spoil; some are refused for another reason too.
 fn base(builder: &mut Builder) -> Message {
-    let other = match builder.random.below(10) {
+    let other = match builder.random.below(12) {
         0 => disagreeing(builder),
         1 => ninth_table(builder),
         2 => Some(unbound(builder)),
@@ -139,11 +140,45 @@ fn base(builder: &mut Builder) -> Message {
         Operation::Switch,
         Operation::Update,
         Operation::Update,
+        Operation::Update,
+        Operation::Increment,
         Operation::Increment,
         Operation::Acknowledge,
     ];
     let operation = builder.random.pick(&operations);
     other.unwrap_or_else(|| builder.message(operation))
+}
+
+/// An update that is cut, or out of range, of a new table with all kinds of
+/// values; the table's definition and an update go before it.
+fn broken_update(builder: &mut Builder, number: usize) -> Option<Vec<u8>> {
+    builder.store.free_table()?;
+    let shape = Shape {
+        key_type: builder.random.pick(&[STRING, BINARY]),
+        key_length: builder.random.pick(&[2, 4, 64]),
+        data_types: all_kinds(builder),
+    };
+    let name = builder.new_name();
+    let key = super::values::key(builder.random, shape);
+    let definition = builder.definition(&name, shape);
+    let id = Some(update_id(builder.random));
+    let update = builder.update_with(id, &key, shape);
+    let id = id.filter(|_| builder.random.chance(400));
+    let message = builder.update_with(id, &key, shape);
+    let broken = match number {
+        3 => message.cut(builder.random),
+        _ => message.out_of_range(builder.random)?,
+    };
+    Some([definition.bytes(), update.bytes(), broken].concat())
+}
+
+/// Data types with a server ID, a rate, and values of 32 and 64 bits.
+fn all_kinds(builder: &mut Builder) -> u64 {
+    let narrow = builder.random.pick(&[1, 2, 4, 6, 7, 9, 11, 17]);
+    let rate = builder.random.pick(&[3, 5, 8, 10, 12, 14, 16, 18]);
+    let wide = builder.random.pick(&[13, 15]);
+    let numbers = [datatype::SERVER, narrow, rate, wide];
+    numbers.into_iter().map(datatype::bit).sum()
 }
 
 /// A definition whose key type or key length is out of range.

@@ -138,11 +138,18 @@ impl Message {
         table_message(self.kind, &[&self.body()[..], ignored].concat())
     }
 
-    /// The message with a body that ends inside its known fields.
+    /// The message with a body that ends before one of its known fields or
+    /// inside it, sometimes with other bytes in its place: an integer of one
+    /// byte has no inside.
     pub fn cut(&self, random: &mut Random) -> Vec<u8> {
-        let body = self.body();
-        let length = random.below(body.len().max(1));
-        table_message(self.kind, &body[..length.min(body.len())])
+        let place = random.below(self.fields.len());
+        let field = &self.fields[place];
+        let bytes = match field.can_be_bad() && random.chance(500) {
+            true => &field.far[random.below(field.far.len())],
+            false => &field.good,
+        };
+        let length = random.below(bytes.len().max(1)).min(bytes.len());
+        self.with_field(place, bytes[..length].to_vec(), false)
     }
 
     /// The message with a field out of range; all of it or up to there.

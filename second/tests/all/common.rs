@@ -5,6 +5,7 @@ use second::call::{open, Opening};
 use second::integer::encode;
 use second::model::feed;
 use second::record::{Record, Role};
+use second::refusal::Refusal;
 use second::store::{Entry, Store, Table, Times};
 
 /// The bytes of the listing's example.
@@ -128,9 +129,27 @@ pub fn message(kind: u8, body: &[u8]) -> Vec<u8> {
     bytes
 }
 
-/// A refusal.
+/// A refusal without offset.
 pub fn refused(number: u8) -> Answer {
-    Answer::Refused { number }
+    Answer::Refused(number.into())
+}
+
+/// A refusal of the field at an offset of the body.
+pub fn refused_at(number: u8, offset: usize) -> Answer {
+    Answer::Refused(Refusal::at(number, offset))
+}
+
+/// Where the field that a body of this length cuts starts, by the lengths of
+/// the fields.
+pub fn start_of_cut(fields: &[usize], length: usize) -> usize {
+    let mut start = 0;
+    for field in fields {
+        if start + field > length {
+            break;
+        }
+        start += field;
+    }
+    start
 }
 
 /// The body of a definition without times.

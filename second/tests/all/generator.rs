@@ -8,12 +8,13 @@ use second::generate::{capture, script, stream};
 use second::integer::{decode, Decoded};
 use second::long::Figures;
 use second::record::{Phase, Record, Role};
+use second::refusal::Refusal;
 use second::replay::{command, replay, session, Command};
 use second::store::{Store, ENTRIES, TABLES};
 use std::collections::{BTreeMap, BTreeSet};
 
 const SEED: u64 = 1_000_000;
-const COUNT: u64 = 3000;
+const COUNT: u64 = 5000;
 
 /// What the calls of some streams showed.
 #[derive(Default)]
@@ -69,7 +70,7 @@ fn name(answer: Answer) -> &'static str {
         },
         Answer::Acknowledged { .. } => "ack",
         Answer::Skipped { .. } => "skipped",
-        Answer::Refused { .. } => "refused",
+        Answer::Refused(_) => "refused",
     }
 }
 
@@ -147,7 +148,7 @@ impl Seen {
     /// Looks at one call.
     fn look(&mut self, step: &Step) {
         match step.outcome.answer {
-            Answer::Refused { number } => self.refused(step, number),
+            Answer::Refused(refusal) => self.refused(step, refusal),
             Answer::Table { place } => self.definition(step, place),
             Answer::Update {
                 table, id, entry, ..
@@ -158,13 +159,13 @@ impl Seen {
     }
 
     /// Looks at a refusal.
-    fn refused(&mut self, step: &Step, number: u8) {
+    fn refused(&mut self, step: &Step, refusal: Refusal) {
+        let number = refusal.number;
         *self.refusals.entry(number).or_default() += 1;
-        let message = [
-            &step.before.unfinished[..],
-            &step.piece[..step.outcome.taken],
-        ];
-        match (number, &message.concat()[..]) {
+        let taken = &step.piece[..step.outcome.taken];
+        let message = [&step.before.unfinished[..], taken].concat();
+        assert_eq!(refusal.offset.is_some(), matches!(number, 23 | 24 | 30));
+        match (number, &message[..]) {
             (24, [10, 130, rest @ ..]) => drop(self.refused_key(rest)),
             (30, [10, 130, rest @ ..]) => self.refused_name(rest).unwrap(),
             _ => {}

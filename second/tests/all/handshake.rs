@@ -18,7 +18,7 @@ fn judged(one: &[u8], two: &[u8], three: &[u8]) -> Response {
 
 fn number(response: &Response) -> u8 {
     match response.answer {
-        Answer::Refused { number } => number,
+        Answer::Refused(refusal) => refusal.number,
         _ => panic!("{response:?}"),
     }
 }

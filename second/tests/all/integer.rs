@@ -65,8 +65,8 @@ fn overflows() {
     ];
     for case in cases {
         let bytes = bytes(case);
-        assert_eq!(decode(&bytes), Decoded::Overflow, "{case}");
-        assert_eq!(decode(&bytes[..9]), Decoded::Cut, "{case}");
+        assert_eq!(decode(&bytes), Decoded::Overflow { looked: 10 }, "{case}");
+        assert_eq!(decode(&bytes[..9]), cut(9), "{case}");
     }
 }
 
@@ -78,17 +78,37 @@ fn largest_values_below_an_overflow() {
     assert!(matches!(decode(&low), Decoded::Value { length: 10, .. }));
 }
 
+/// An integer that ends behind this many bytes.
+fn cut(looked: usize) -> Decoded {
+    Decoded::Cut { looked }
+}
+
+#[test]
+fn bytes_looked_at() {
+    for count in 0..30 {
+        let expected = match count {
+            0..=9 => cut(count),
+            _ => Decoded::Overflow { looked: 10 },
+        };
+        assert_eq!(decode(&vec![0xFF; count]), expected);
+    }
+    let long = [
+        0xF0, 0xF1, 0xFE, 0xFE, 0xFE, 0xFE, 0xFE, 0xFE, 0xFE, 0x0E, 0, 0,
+    ];
+    assert_eq!(decode(&long), Decoded::Overflow { looked: 10 });
+}
+
 #[test]
 fn first_bytes_below_240_stand_alone() {
     for first in 0..240 {
         assert_eq!(decode(&[first, 0xFF, 0xFF]), whole(u64::from(first), 1));
     }
     for first in 240..=255 {
-        assert_eq!(decode(&[first]), Decoded::Cut);
+        assert_eq!(decode(&[first]), cut(1));
         assert_eq!(decode(&[first, 0, 9]), whole(u64::from(first), 2));
         assert_eq!(decode(&[first, 1]), whole(u64::from(first) + 16, 2));
     }
-    assert_eq!(decode(&[]), Decoded::Cut);
+    assert_eq!(decode(&[]), cut(0));
 }
 
 /// 16 times 128^k, for the later bytes from k = 0.
@@ -130,7 +150,7 @@ fn both_ways_over_many_values() {
         let bytes = encode(value);
         assert_eq!(decode(&bytes), whole(value, bytes.len()));
         for length in 0..bytes.len() {
-            assert_eq!(decode(&bytes[..length]), Decoded::Cut);
+            assert_eq!(decode(&bytes[..length]), cut(length));
         }
         let longer = [&bytes[..], &[0xFF]].concat();
         assert_eq!(decode(&longer), whole(value, bytes.len()));

@@ -1,5 +1,6 @@
 //! The tests, in one program.
 
+mod broken;
 mod calls;
 mod common;
 mod data;
@@ -10,7 +11,9 @@ mod integer;
 mod listing;
 mod long;
 mod messages;
+mod offsets;
 mod replay;
 mod sound;
 mod tables;
 mod updates;
+mod walk;

@@ -1,6 +1,6 @@
 //! Header, length, and the messages that don't touch the store.
 
-use crate::common::{message, refused, Session};
+use crate::common::{message, refused, refused_at, Session};
 use second::answer::Answer;
 use second::integer::encode;
 use second::record::Phase;
@@ -160,15 +160,15 @@ fn update_bytes(update: u32) -> [u8; 4] {
 #[test]
 fn faulty_acknowledgements() {
     let session = Session::open();
-    assert_eq!(session.would(133, &[]), refused(23));
-    assert_eq!(session.would(133, &[0xF0]), refused(23));
-    assert_eq!(session.would(133, &[1]), refused(23));
-    assert_eq!(session.would(133, &[1, 0, 0, 0]), refused(23));
+    assert_eq!(session.would(133, &[]), refused_at(23, 0));
+    assert_eq!(session.would(133, &[0xF0]), refused_at(23, 0));
+    assert_eq!(session.would(133, &[1]), refused_at(23, 1));
+    assert_eq!(session.would(133, &[1, 0, 0, 0]), refused_at(23, 1));
     let over = [&encode(1 << 32)[..], &[0, 0, 0, 0]].concat();
-    assert_eq!(session.would(133, &over), refused(24));
-    assert_eq!(session.would(133, &encode(1 << 32)), refused(24));
-    assert_eq!(session.would(133, &[0xFF; 10]), refused(24));
-    assert_eq!(session.would(133, &[0xFF; 9]), refused(23));
+    assert_eq!(session.would(133, &over), refused_at(24, 0));
+    assert_eq!(session.would(133, &encode(1 << 32)), refused_at(24, 0));
+    assert_eq!(session.would(133, &[0xFF; 10]), refused_at(24, 0));
+    assert_eq!(session.would(133, &[0xFF; 9]), refused_at(23, 0));
 }
 
 #[test]

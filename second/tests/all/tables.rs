@@ -1,6 +1,7 @@
 //! Definitions and switches.
 
-use crate::common::{definition, encoded, powers, refused, table, timed, update, Session};
+use crate::common::{definition, encoded, powers, refused, refused_at, start_of_cut};
+use crate::common::{table, timed, update, Session};
 use second::answer::Answer;
 use second::integer::encode;
 use second::record::Phase;
@@ -61,8 +62,8 @@ fn ids() {
         );
     }
     for id in [MAX + 1, u64::MAX] {
-        assert_eq!(defined(&definition(id, b"t", [2, 4, 0])), refused(24));
-        assert_eq!(defined(&encode(id)), refused(24));
+        assert_eq!(defined(&definition(id, b"t", [2, 4, 0])), refused_at(24, 0));
+        assert_eq!(defined(&encode(id)), refused_at(24, 0));
     }
 }
 
@@ -74,9 +75,9 @@ fn name_lengths() {
     }
     for length in [0, 33, 64, 300] {
         let body = definition(1, &vec![b'n'; length], [2, 4, 0]);
-        assert_eq!(defined(&body), refused(24), "{length}");
+        assert_eq!(defined(&body), refused_at(24, 1), "{length}");
         let start = encoded(&[1, length as u64]);
-        assert_eq!(defined(&start), refused(24), "{length}");
+        assert_eq!(defined(&start), refused_at(24, 1), "{length}");
     }
 }
 
@@ -90,7 +91,7 @@ fn names_of_every_byte() {
     for byte in 0..=255 {
         let expected = match plain(byte) {
             true => Answer::Table { place: 0 },
-            false => refused(30),
+            false => refused_at(30, 2),
         };
         for length in [1, 2, 32] {
             for at in [0, length / 2, length - 1] {
@@ -110,7 +111,7 @@ fn a_name_that_is_not_plain_closes_the_session() {
     let mut session = base.clone();
     let body = definition(1, b"t\n", [2, 4, 0]);
     let response = session.respond(&crate::common::message(130, &body));
-    assert_eq!(response.answer, refused(30));
+    assert_eq!(response.answer, refused_at(30, 2));
     assert_eq!(response.reply, [1, 0]);
     let mut expected = base;
     expected.record.phase = Phase::Closed(30);
@@ -121,16 +122,26 @@ fn a_name_that_is_not_plain_closes_the_session() {
 fn a_name_is_judged_when_whole_and_before_the_key_type() {
     let body = definition(300, b" n", [2, 4, 0]);
     for length in 0..=body.len() {
-        let expected = if length < 5 { refused(23) } else { refused(30) };
+        let start = start_of_cut(&[2, 1, 2], length);
+        let expected = match length < 5 {
+            true => refused_at(23, start),
+            false => refused_at(30, 3),
+        };
         assert_eq!(defined(&body[..length]), expected, "{length}");
     }
     for shape in [[0, 4, 0], [2, 5, 0], [2, 4, 1 << 19], [u64::MAX; 3]] {
-        assert_eq!(defined(&definition(1, b"n ", shape)), refused(30));
+        assert_eq!(defined(&definition(1, b"n ", shape)), refused_at(30, 2));
     }
     let overflow = [&encoded(&[1, 1])[..], b" ", &[0xFF; 10]].concat();
-    assert_eq!(defined(&overflow), refused(30));
-    assert_eq!(defined(&definition(MAX + 1, b" ", [2, 4, 0])), refused(24));
-    assert_eq!(defined(&definition(1, &[b' '; 33], [2, 4, 0])), refused(24));
+    assert_eq!(defined(&overflow), refused_at(30, 2));
+    assert_eq!(
+        defined(&definition(MAX + 1, b" ", [2, 4, 0])),
+        refused_at(24, 0)
+    );
+    assert_eq!(
+        defined(&definition(1, &[b' '; 33], [2, 4, 0])),
+        refused_at(24, 1)
+    );
 }
 
 #[test]
@@ -145,7 +156,7 @@ fn a_name_that_is_not_plain_on_a_full_store() {
     );
     assert_eq!(
         session.would(130, &definition(1, b"i ", [2, 4, 0])),
-        refused(30)
+        refused_at(30, 2)
     );
     assert_eq!(
         session.would(130, &definition(1, b"a", [4, 4, 0])),
@@ -153,7 +164,7 @@ fn a_name_that_is_not_plain_on_a_full_store() {
     );
     assert_eq!(
         session.would(130, &definition(1, b"a\0", [4, 4, 0])),
-        refused(30)
+        refused_at(30, 2)
     );
 }
 
@@ -168,19 +179,23 @@ fn key_types_and_lengths() {
                 6 | 7 => (1..=64).contains(&key_length),
                 _ => false,
             };
+            let known = [2, 4, 5, 6, 7].contains(&key_type);
             let expected = match good {
                 true => Answer::Table { place: 0 },
-                false => refused(24),
+                false => refused_at(24, if known { 4 } else { 3 }),
             };
             assert_eq!(defined(&body), expected, "{key_type} {key_length}");
         }
     }
     for key_type in [255, 258, 1 << 32, (1 << 32) + 2, u64::MAX] {
-        assert_eq!(defined(&definition(1, b"t", [key_type, 4, 0])), refused(24));
+        assert_eq!(
+            defined(&definition(1, b"t", [key_type, 4, 0])),
+            refused_at(24, 3)
+        );
     }
     for key_length in [260, (1 << 32) + 4, u64::MAX] {
         let body = definition(1, b"t", [6, key_length, 0]);
-        assert_eq!(defined(&body), refused(24));
+        assert_eq!(defined(&body), refused_at(24, 4));
     }
 }
 
@@ -188,11 +203,11 @@ fn key_types_and_lengths() {
 fn a_wrong_key_type_is_refused_before_the_next_field() {
     for key_type in [0, 1, 3, 8, 9, 240, (1 << 32) + 2] {
         let start = encoded(&[1, 1, b't'.into(), key_type]);
-        assert_eq!(defined(&start), refused(24), "{key_type}");
+        assert_eq!(defined(&start), refused_at(24, 3), "{key_type}");
     }
     for key_type in [2, 4, 5, 6, 7] {
         let start = encoded(&[1, 1, b't'.into(), key_type]);
-        assert_eq!(defined(&start), refused(23), "{key_type}");
+        assert_eq!(defined(&start), refused_at(23, 4), "{key_type}");
     }
 }
 
@@ -205,7 +220,10 @@ fn data_types() {
     let all = definition(1, b"t", [2, 4, (1 << 19) - 1]);
     assert_eq!(defined(&all), Answer::Table { place: 0 });
     for types in [1 << 19, 1 << 31, 1 << 32, u64::MAX] {
-        assert_eq!(defined(&definition(1, b"t", [2, 4, types])), refused(24));
+        assert_eq!(
+            defined(&definition(1, b"t", [2, 4, types])),
+            refused_at(24, 5)
+        );
     }
 }
 
@@ -214,10 +232,13 @@ fn every_cut_of_a_definition() {
     let rates = 1 << 3 | 1 << 5;
     let body = timed(300, b"name", [6, 10, rates], &[60000, 3, 10000, 5, MAX]);
     let types_end = definition(300, b"name", [6, 10, rates]).len();
+    let fields = [2, 1, 4, 1, 1, 1, 3, 1, 3, 1, 5];
+    assert_eq!(body.len(), fields.iter().sum());
     for length in 0..body.len() {
+        let start = start_of_cut(&fields, length);
         let expected = match length == types_end {
             true => Answer::Table { place: 0 },
-            false => refused(23),
+            false => refused_at(23, start),
         };
         assert_eq!(defined(&body[..length]), expected, "{length}");
     }
@@ -228,9 +249,9 @@ fn every_cut_of_a_definition() {
 fn a_byte_after_the_data_types_begins_the_expiry() {
     let mut body = definition(1, b"t", [2, 4, 1 << 3]);
     body.push(9);
-    assert_eq!(defined(&body), refused(23));
+    assert_eq!(defined(&body), refused_at(23, 7));
     body.extend([3]);
-    assert_eq!(defined(&body), refused(23));
+    assert_eq!(defined(&body), refused_at(23, 8));
     body.extend([7]);
     let mut session = Session::open();
     assert_eq!(session.one(130, &body), Answer::Table { place: 0 });
@@ -247,12 +268,15 @@ fn expiry_and_periods_are_32_bit() {
     assert_eq!(defined(&good), Answer::Table { place: 0 });
     assert_eq!(
         defined(&timed(1, b"t", shape, &[MAX + 1, 18, 1])),
-        refused(24)
+        refused_at(24, 8)
     );
-    assert_eq!(defined(&timed(1, b"t", shape, &[MAX + 1])), refused(24));
+    assert_eq!(
+        defined(&timed(1, b"t", shape, &[MAX + 1])),
+        refused_at(24, 8)
+    );
     assert_eq!(
         defined(&timed(1, b"t", shape, &[1, 18, MAX + 1])),
-        refused(24)
+        refused_at(24, 10)
     );
 }
 
@@ -273,7 +297,7 @@ fn pairs_go_in_ascending_order() {
             other[1 + 2 * place] = number;
             let expected = match number == rates[place] {
                 true => Answer::Table { place: 0 },
-                false => refused(24),
+                false => refused_at(24, 10 + 3 * place),
             };
             assert_eq!(defined(&timed(1, b"t", [2, 4, types], &other)), expected);
         }
@@ -283,7 +307,7 @@ fn pairs_go_in_ascending_order() {
 #[test]
 fn a_wrong_pair_number_is_refused_before_its_period() {
     let body = timed(1, b"t", [2, 4, 1 << 8], &[1, 5]);
-    assert_eq!(defined(&body), refused(24));
+    assert_eq!(defined(&body), refused_at(24, 8));
 }
 
 #[test]
@@ -394,10 +418,10 @@ fn switches() {
 #[test]
 fn faulty_switches() {
     let session = two_tables();
-    assert_eq!(session.would(131, &[]), refused(23));
-    assert_eq!(session.would(131, &[0xF0, 0x80]), refused(23));
-    assert_eq!(session.would(131, &encode(MAX + 1)), refused(24));
-    assert_eq!(session.would(131, &[0xFF; 10]), refused(24));
+    assert_eq!(session.would(131, &[]), refused_at(23, 0));
+    assert_eq!(session.would(131, &[0xF0, 0x80]), refused_at(23, 0));
+    assert_eq!(session.would(131, &encode(MAX + 1)), refused_at(24, 0));
+    assert_eq!(session.would(131, &[0xFF; 10]), refused_at(24, 0));
     assert_eq!(session.would(131, &encode(MAX)), refused(27));
     assert_eq!(session.would(131, &encode(0)), refused(27));
     assert_eq!(Session::open().would(131, &encode(1)), refused(27));

@@ -1,6 +1,7 @@
 //! Updates and the entry store.
 
-use crate::common::{definition, message, powers, refused, update, Session};
+use crate::common::{definition, message, powers, refused, refused_at};
+use crate::common::{start_of_cut, update, Session};
 use second::answer::{Answer, Commit};
 use second::integer::encode;
 use second::record::Phase;
@@ -130,7 +131,7 @@ fn a_full_store() {
     expected.record.phase = Phase::Closed(29);
     assert_eq!(session, expected);
     assert_eq!(full.would(129, b"none"), refused(29));
-    assert_eq!(full.would(128, &update(1, b"non", &[])), refused(23));
+    assert_eq!(full.would(128, &update(1, b"non", &[])), refused_at(23, 4));
     let define = definition(4, b"u", [2, 4, 0]);
     assert_eq!(full.would(130, &define), Answer::Table { place: 1 });
 }
@@ -143,7 +144,10 @@ fn fixed_keys() {
         assert_eq!(session.one(128, &update(1, &key, &[9])), new(0, 1, 0));
         assert_eq!(session.entries(), [&Entry::new(0, &key, vec![9])]);
         let short = &key[1..];
-        assert_eq!(session.would(128, &update(1, short, &[])), refused(23));
+        assert_eq!(
+            session.would(128, &update(1, short, &[])),
+            refused_at(23, 4)
+        );
     }
 }
 
@@ -156,13 +160,16 @@ fn string_keys() {
         assert_eq!(session.one(128, &body), new(0, 1, n));
         assert_eq!(session.entries()[n], &Entry::new(0, &key, vec![7]));
     }
-    assert_eq!(session.would(128, &[0, 0, 0, 1, 11]), refused(24));
+    assert_eq!(session.would(128, &[0, 0, 0, 1, 11]), refused_at(24, 4));
     let long = [&[0, 0, 0, 1, 11], &[b'k'; 11][..], &[7]].concat();
-    assert_eq!(session.would(128, &long), refused(24));
+    assert_eq!(session.would(128, &long), refused_at(24, 4));
     let huge = [&[0, 0, 0, 1], &encode(u64::MAX)[..]].concat();
-    assert_eq!(session.would(128, &huge), refused(24));
-    assert_eq!(session.would(128, &[0, 0, 0, 1, 10, b'k']), refused(23));
-    assert_eq!(session.would(128, &[0, 0, 0, 1]), refused(23));
+    assert_eq!(session.would(128, &huge), refused_at(24, 4));
+    assert_eq!(
+        session.would(128, &[0, 0, 0, 1, 10, b'k']),
+        refused_at(23, 5)
+    );
+    assert_eq!(session.would(128, &[0, 0, 0, 1]), refused_at(23, 4));
 }
 
 #[test]
@@ -193,8 +200,15 @@ fn all_data_types() {
     assert_eq!(session.one(128, &update(1, b"kkkk", &values)), new(0, 1, 0));
     assert_eq!(session.entries(), [&Entry::new(0, b"kkkk", values.clone())]);
     let body = update(1, b"kkkk", &values);
+    let mut fields = vec![4, 4];
+    fields.extend(values.iter().map(|&value| encode(value).len()));
     for length in 0..body.len() {
-        assert_eq!(session.would(128, &body[..length]), refused(23), "{length}");
+        let start = start_of_cut(&fields, length);
+        assert_eq!(
+            session.would(128, &body[..length]),
+            refused_at(23, start),
+            "{length}"
+        );
     }
     let mut longer = body.clone();
     longer.extend([0xFF; 30]);
@@ -216,14 +230,18 @@ fn widths_of_each_data_type() {
                     13 | 15 => true,
                     _ => value <= MAX,
                 };
-                let expected = if good { new(0, 1, 0) } else { refused(24) };
+                let expected = if good {
+                    new(0, 1, 0)
+                } else {
+                    refused_at(24, 8 + place)
+                };
                 let answer = session.would(128, &update(1, b"kkkk", &values));
                 assert_eq!(answer, expected, "{number} {value}");
             }
         }
         let overflow = [&update(1, b"kkkk", &[])[..], &[0xFF; 10]].concat();
-        assert_eq!(session.would(128, &overflow), refused(24));
-        assert_eq!(session.would(128, &overflow[..17]), refused(23));
+        assert_eq!(session.would(128, &overflow), refused_at(24, 8));
+        assert_eq!(session.would(128, &overflow[..17]), refused_at(23, 8));
     }
 }
 
@@ -249,7 +267,7 @@ fn server_ids() {
     for value in [1 << 31, MAX, MAX + 1, 1 << 63, u64::MAX - (1 << 31)] {
         let session = with_shape([2, 4, 1]);
         let answer = session.would(128, &update(1, b"kkkk", &[value]));
-        assert_eq!(answer, refused(24), "{value}");
+        assert_eq!(answer, refused_at(24, 8), "{value}");
     }
 }
 
@@ -307,10 +325,15 @@ fn refused_updates_leave_the_rest() {
     let base = with_shape([2, 4, 4]);
     let cut = update(1, b"kkkk", &[]);
     let over = update(1, b"kkkk", &[MAX + 1]);
-    for (kind, body, number) in [(128, cut, 23), (128, over, 24), (129, vec![], 28)] {
+    let cases = [
+        (128, cut, 23, refused_at(23, 8)),
+        (128, over, 24, refused_at(24, 8)),
+        (129, vec![], 28, refused(28)),
+    ];
+    for (kind, body, number, answer) in cases {
         let mut session = base.clone();
         let response = session.respond(&message(kind, &body));
-        assert_eq!(response.answer, refused(number));
+        assert_eq!(response.answer, answer);
         assert_eq!(response.reply, [1, 0]);
         let mut expected = base.clone();
         expected.record.phase = Phase::Closed(number);
@@ -330,9 +353,9 @@ fn order_of_update_refusals() {
         assert_eq!(session.would(129, body), refused(28));
     }
     session.one(128, &update(1, b"kkkk", &[1]));
-    assert_eq!(session.would(128, &[]), refused(23));
-    assert_eq!(session.would(129, &[]), refused(23));
-    assert_eq!(session.would(129, &[0xFF; 30]), refused(24));
+    assert_eq!(session.would(128, &[]), refused_at(23, 0));
+    assert_eq!(session.would(129, &[]), refused_at(23, 0));
+    assert_eq!(session.would(129, &[0xFF; 30]), refused_at(24, 4));
 }
 
 #[test]
@@ -369,7 +392,7 @@ fn bodies_are_judged_when_whole() {
             assert_eq!(copy.record.unfinished, bytes[..last]);
             assert!(matches!(
                 copy.respond(&bytes[last..]).answer,
-                Answer::Refused { .. }
+                Answer::Refused(_)
             ));
         }
     }
@@ -385,15 +408,15 @@ fn order_of_definition_refusals() {
     // A new name with 8 tables, cut or out of range.
     let ninth = definition(1, b"x", [2, 4, 1 << 3]);
     assert_eq!(session.would(130, &ninth), refused(26));
-    assert_eq!(session.would(130, &ninth[..4]), refused(23));
+    assert_eq!(session.would(130, &ninth[..4]), refused_at(23, 4));
     let over = [&ninth[..], &encode(MAX + 1)].concat();
-    assert_eq!(session.would(130, &over), refused(24));
+    assert_eq!(session.would(130, &over), refused_at(24, 6));
     // A held name that disagrees, cut or out of range.
     let other = definition(1, b"3", [4, 4, 1 << 3]);
     assert_eq!(session.would(130, &other), refused(25));
-    assert_eq!(session.would(130, &other[..4]), refused(23));
+    assert_eq!(session.would(130, &other[..4]), refused_at(23, 4));
     let over = [&other[..], &encode(MAX + 1)].concat();
-    assert_eq!(session.would(130, &over), refused(24));
+    assert_eq!(session.would(130, &over), refused_at(24, 6));
     let cut = [&other[..], &[1, 3]].concat();
-    assert_eq!(session.would(130, &cut), refused(23));
+    assert_eq!(session.would(130, &cut), refused_at(23, 8));
 }

@@ -6,7 +6,7 @@ use mathlib.Core.List.{List}
 use mathlib.Core.Bool.{Bool, true, false}
 use lib.ListN.{length, take, drop, replicate}
 use borrow.Author.Needs.{needs}
-use Rattle.body.specs.declared.Failure.{Failure}
+use Rattle.body.specs.declared.Fault.{Fault}
 use Rattle.body.specs.declared.Failure.the-variants as failure
 use Rattle.body.specs.declared.IntRead.{IntRead}
 use Rattle.body.specs.declared.IntRead.the-variants as int
@@ -23,7 +23,7 @@ use Rattle.body.specs.declared.shape.ShapeRead.the-variants as shape-rea
 use Rattle.body.specs.declared.times.TimesRead.{TimesRead}
 use Rattle.body.specs.declared.definition.DefinitionBody.{DefinitionBody}
 use Rattle.store.specs.Limits.{plainName}
-use Rattle.body.specs.Fields.{got, andThen, integer, between, integerOf, spanIn, bytes}
+use Rattle.body.specs.Fields.{got, fault, andThen, integer, between, integerOf, spanIn, bytes}
 use Rattle.body.specs.Bodies.{Named, named, nameField, namedFields, shapeFields, timesFields, restFields, definitionFields}
 use Rattle.body.specs.Results.{intRead, wordRead, partRead, namedRead, shapeRead, readAs, timesResult, definitionStruct, noDefinition, definitionBody}
 use Rattle.body.proofs.Holds.{held}
@@ -32,7 +32,7 @@ use Rattle.body.proofs.Given.{times-given}
 
 -- ---- `read_name`, where r is what was read of its bytes
 module _ (n : ℕ) (s : List ℕ) (at : ℕ) (r : PartRead) (p : partRead r ≡ bytes n s at) where
-  pub bytes-failed : (f : Failure) → r ≡ part.Failed f → partRead (part.Failed f) ≡ nameField n s at
+  pub bytes-failed : (f : Fault) → r ≡ part.Failed f → partRead (part.Failed f) ≡ nameField n s at
   unfolding nameField andThen partRead
   bytes-failed f e = rw (← p, e)
 
@@ -59,7 +59,7 @@ module _ (n : ℕ) (s : List ℕ) (at : ℕ) (r : PartRead) (p : partRead r ≡ 
       unfolding nameField andThen partRead
       plain-got h = rw (bytes-got, ← same-bytes, ← q, h)
 
-      pub plain-not : t ≡ false → partRead (part.Failed failure.NotPlain) ≡ nameField n s at
+      pub plain-not : t ≡ false → partRead (part.Failed (fault failure.NotPlain at)) ≡ nameField n s at
       unfolding nameField andThen partRead
       plain-not h = rw (bytes-got, ← same-bytes, ← q, h)
 
@@ -67,17 +67,17 @@ pub ruleset name-laws = (needs, bytes-failed, bytes-in-order, bytes-inside, plai
 
 -- ---- `read_named`, where w, f and q are what was read of ID, length and name
 module _ (s : List ℕ) (at : ℕ) (w : Word) (p : wordRead w ≡ integerOf 32 s at) where
-  pub id-failed : (f : Failure) → w ≡ (word.Failed f) → namedRead (named-read.Failed f) ≡ namedFields s at
+  pub id-failed : (f : Fault) → w ≡ (word.Failed f) → namedRead (named-read.Failed f) ≡ namedFields s at
   unfolding namedFields namedRead andThen wordRead
   id-failed f e = rw (← p, e)
 
   module _ (id at₁ : ℕ) (e : w ≡ word.Value id at₁) (g : IntRead) (p₁ : intRead g ≡ integer (between 1 32) s at₁) where
-    pub length-failed : (f : Failure) → g ≡ (int.Failed f) → namedRead (named-read.Failed f) ≡ namedFields s at
+    pub length-failed : (f : Fault) → g ≡ (int.Failed f) → namedRead (named-read.Failed f) ≡ namedFields s at
     unfolding namedFields namedRead andThen wordRead intRead
     length-failed f e₁ = rw (← p, e, ← p₁, e₁)
 
     module _ (len at₂ : ℕ) (e₁ : g ≡ int.Value len at₂) (q : PartRead) (p₂ : partRead q ≡ nameField len s at₂) where
-      pub name-failed : (f : Failure) → q ≡ (part.Failed f) → namedRead (named-read.Failed f) ≡ namedFields s at
+      pub name-failed : (f : Fault) → q ≡ (part.Failed f) → namedRead (named-read.Failed f) ≡ namedFields s at
       unfolding namedFields namedRead andThen wordRead intRead partRead
       name-failed f e₂ = rw (← p, e, ← p₁, e₁, ← p₂, e₂)
 
@@ -89,14 +89,14 @@ pub ruleset named-laws = (needs, id-failed, length-failed, name-failed, name-byt
 
 -- ---- `read_rest`, where q is what was read of the shape and t of the times
 module _ (n : Named) (s : List ℕ) (at : ℕ) (q : ShapeRead) (p : shapeRead q ≡ shapeFields s at) where
-  pub shape-failed : (f : Failure) → (x : DefinitionBody) → x ≡ definitionStruct (reading.Failed f) noDefinition
+  pub shape-failed : (f : Fault) → (x : DefinitionBody) → x ≡ definitionStruct (reading.Failed f) noDefinition
       → q ≡ (shape-read.Failed f) → x ≡ definitionBody (restFields n s at)
   unfolding restFields definitionBody andThen shapeRead
   shape-failed f x h e = h ∙ rw (← p, e)
 
   module _ (kind len types at₁ : ℕ) (e : q ≡ shape-read.Fields kind len types at₁)
       (t : TimesRead) (p₁ : t ≡ timesResult (timesFields types s at₁)) where
-    pub times-failed : (f : Failure) → (x : DefinitionBody) → x ≡ definitionStruct (reading.Failed f) noDefinition
+    pub times-failed : (f : Fault) → (x : DefinitionBody) → x ≡ definitionStruct (reading.Failed f) noDefinition
         → t .reading ≡ (reading.Failed f) → x ≡ definitionBody (restFields n s at)
     unfolding restFields definitionBody andThen shapeRead readAs
     times-failed f x h e₁ = h ∙ rw (← p, e, times-given (timesFields types s at₁) t p₁, e₁)
@@ -126,7 +126,7 @@ pub ruleset rest-laws = (needs, shape-failed, times-failed, times-whole)
 
 -- ---- `read_definition`, where q is what was read of ID and name
 module _ (s : List ℕ) (q : NamedRead) (p : namedRead q ≡ namedFields s 0) where
-  pub named-failed : (f : Failure) → (x : DefinitionBody) → x ≡ definitionStruct (reading.Failed f) noDefinition
+  pub named-failed : (f : Fault) → (x : DefinitionBody) → x ≡ definitionStruct (reading.Failed f) noDefinition
       → q ≡ (named-read.Failed f) → x ≡ definitionBody (definitionFields s)
   unfolding definitionFields definitionBody andThen namedRead
   named-failed f x h e = h ∙ rw (← p, e)

@@ -7,7 +7,7 @@ use mathlib.Core.Bool.{Bool, true, false}
 use borrow.Author.Needs.{needs}
 use borrow.Author.Tests.{lt-ltb, le-ltb, lt-leb, le-leb}
 use Rattle.lists.proofs.Cases.{lt-or-le, split, not-passed}
-use Rattle.body.specs.declared.Failure.{Failure}
+use Rattle.body.specs.declared.Fault.{Fault}
 use Rattle.body.specs.declared.IntRead.{IntRead}
 use Rattle.body.specs.declared.IntRead.the-variants as int
 use Rattle.store.specs.declared.types.KeyKind.{KeyKind}
@@ -45,7 +45,7 @@ unfolding isKeyType
 small-type n t = known-small n t
 
 module _ (s : List ℕ) (at : ℕ) (f : IntRead) (p : intRead f ≡ integer isKeyType s at) where
-  pub type-failed : (x : Failure) → f ≡ int.Failed x → shapeRead (shape-read.Failed x) ≡ shapeFields s at
+  pub type-failed : (x : Fault) → f ≡ int.Failed x → shapeRead (shape-read.Failed x) ≡ shapeFields s at
   unfolding shapeFields shapeRead andThen intRead
   type-failed x e = rw (← p, e)
 
@@ -53,7 +53,7 @@ module _ (s : List ℕ) (at : ℕ) (f : IntRead) (p : intRead f ≡ integer isKe
   type-fits kind at₁ e = omega (arith, small-type kind (integer-passed isKeyType s at kind at₁ (int-got _ f p kind at₁ e)))
 
   module _ (kind at₁ : ℕ) (e : f ≡ int.Value kind at₁) (g : IntRead) (p₁ : intRead g ≡ integer (keyLengthOk kind) s at₁) where
-    pub len-failed : (x : Failure) → g ≡ int.Failed x → shapeRead (shape-read.Failed x) ≡ shapeFields s at
+    pub len-failed : (x : Fault) → g ≡ int.Failed x → shapeRead (shape-read.Failed x) ≡ shapeFields s at
     unfolding shapeFields shapeRead andThen intRead
     len-failed x e₁ = rw (← p, e, ← p₁, e₁)
 
@@ -61,7 +61,7 @@ module _ (s : List ℕ) (at : ℕ) (f : IntRead) (p : intRead f ≡ integer isKe
       types-read : intRead h ≡ integer dataTypesOk s at₂
       types-read = p₂ ∙ same-integer (between 0 0x7ffff) dataTypesOk types-between s at₂
 
-      pub types-failed : (x : Failure) → h ≡ int.Failed x → shapeRead (shape-read.Failed x) ≡ shapeFields s at
+      pub types-failed : (x : Fault) → h ≡ int.Failed x → shapeRead (shape-read.Failed x) ≡ shapeFields s at
       unfolding shapeFields shapeRead andThen intRead
       types-failed x e₂ = rw (← p, e, ← p₁, e₁, ← types-read, e₂)
 

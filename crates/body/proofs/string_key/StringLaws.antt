@@ -3,7 +3,7 @@ use Prim.Native.Nat.{ℕ, _-_}
 use mathlib.Core.Path.{_≡_}
 use mathlib.Core.List.{List}
 use borrow.Author.Needs.{needs}
-use Rattle.body.specs.declared.Failure.{Failure}
+use Rattle.body.specs.declared.Fault.{Fault}
 use Rattle.body.specs.declared.IntRead.{IntRead}
 use Rattle.body.specs.declared.IntRead.the-variants as int
 use Rattle.body.specs.declared.PartRead.{PartRead}
@@ -14,7 +14,7 @@ use Rattle.body.specs.Results.{intRead, partRead}
 
 -- ---- `read_string`
 module _ (n : ℕ) (s : List ℕ) (at : ℕ) (r : IntRead) (p : intRead r ≡ integer (between 0 n) s at) where
-  pub string-failed : (f : Failure) → r ≡ (int.Failed f) → partRead (part.Failed f) ≡ stringField n s at
+  pub string-failed : (f : Fault) → r ≡ (int.Failed f) → partRead (part.Failed f) ≡ stringField n s at
   unfolding stringField andThen partRead intRead
   string-failed f e = rw (← p, e)
 

@@ -9,7 +9,7 @@ use lib.ListN.{length, replicate}
 use borrow.Author.Needs.{needs}
 use borrow.Author.Tests.{lt-leb, le-leb, eq-eqb, ne-eqb}
 use Rattle.lists.proofs.Cases.{lt-or-le, split}
-use Rattle.body.specs.declared.Failure.{Failure}
+use Rattle.body.specs.declared.Fault.{Fault}
 use Rattle.body.specs.declared.IntRead.{IntRead}
 use Rattle.body.specs.declared.IntRead.the-variants as int
 use Rattle.store.specs.Limits.{present}
@@ -51,7 +51,7 @@ module _ (t : ℕ) (s : List ℕ) (at : ℕ) (r : IntRead) (p : intRead r ≡ in
   number-read : intRead r ≡ integer (λ n. eqb n t) s at
   number-read = p ∙ same-integer (between t t) (λ n. eqb n t) (exact t) s at
 
-  pub pair-failed : (f : Failure) → r ≡ (int.Failed f) → wordRead (word.Failed f) ≡ pairField t s at
+  pub pair-failed : (f : Fault) → r ≡ (int.Failed f) → wordRead (word.Failed f) ≡ pairField t s at
   unfolding pairField andThen wordRead intRead
   pair-failed f e = rw (← number-read, e)
 
@@ -68,12 +68,12 @@ module _ (types : ℕ) (s : List ℕ) (at : ℕ) where
   ended x p h = p ∙ rw (eq-eqb at (length s) h)
 
   module _ (h : at ≡ length s → ⊥) (w : Word) (p : wordRead w ≡ integerOf 32 s at) where
-    pub expiry-failed : (f : Failure) → (x : TimesRead) → x ≡ timesStruct (reading.Failed f) noTimes → w ≡ (word.Failed f) → x ≡ timesResult (timesFields types s at)
+    pub expiry-failed : (f : Fault) → (x : TimesRead) → x ≡ timesStruct (reading.Failed f) noTimes → w ≡ (word.Failed f) → x ≡ timesResult (timesFields types s at)
     unfolding timesFields timesThere timesResult andThen wordRead
     expiry-failed f x q e = q ∙ rw (ne-eqb at (length s) h, ← p, e)
 
     module _ (expiry at₁ : ℕ) (e : w ≡ word.Value expiry at₁) (how : Reading) (ps : List ℕ) (p₁ : readAs how ps ≡ periodFields types s at₁) where
-      pub periods-failed : (f : Failure) → (x : TimesRead) → x ≡ timesStruct (reading.Failed f) noTimes
+      pub periods-failed : (f : Fault) → (x : TimesRead) → x ≡ timesStruct (reading.Failed f) noTimes
           → how ≡ (reading.Failed f) → x ≡ timesResult (timesFields types s at)
       unfolding timesFields timesThere timesResult andThen wordRead readAs
       periods-failed f x q e₁ = q ∙ rw (ne-eqb at (length s) h, ← p, e, ← p₁, e₁)

@@ -11,14 +11,14 @@ use Rattle.store.specs.declared.types.KeyKind.{KeyKind}
 use Rattle.store.specs.Limits.{keyKind, isString}
 use Rattle.body.specs.declared.PartRead.{PartRead}
 use Rattle.body.specs.declared.PartRead.the-variants as part
-use Rattle.body.specs.Fields.{andThen, bytes, numberRead, number4}
+use Rattle.body.specs.Fields.{fault, andThen, bytes, numberRead, number4}
 use Rattle.body.specs.Bodies.{stringField, keyField, dataFields, entryFields, updateFields, incrementalFields}
 use Rattle.body.specs.Results.{partRead, readAs, dataResult, updateStruct, noUpdate, updateBody}
 use Rattle.wire.specs.declared.fixed.FourBytes.{FourBytes}
 use Rattle.wire.specs.declared.fixed.FourBytes.the-variants as number
 use Rattle.wire.specs.Number.{readNumber}
 use Rattle.store.specs.declared.Table.{Table}
-use Rattle.body.specs.declared.Failure.{Failure}
+use Rattle.body.specs.declared.Fault.{Fault}
 use Rattle.body.specs.declared.Failure.the-variants as failure
 use Rattle.body.specs.declared.Reading.{Reading}
 use Rattle.body.specs.declared.Reading.the-variants as reading
@@ -41,14 +41,14 @@ pub ruleset key-laws = (needs, so-true, so-false, key-string, key-bytes)
 
 -- ---- `read_entry`, where q is what was read of the key and d of the data
 module _ (t : Table) (id : ℕ) (s : List ℕ) (at : ℕ) (q : PartRead) (p : partRead q ≡ keyField (t .«key_type») (t .«key_len») s at) where
-  pub key-failed : (f : Failure) → (x : UpdateBody) → x ≡ updateStruct (reading.Failed f) noUpdate
+  pub key-failed : (f : Fault) → (x : UpdateBody) → x ≡ updateStruct (reading.Failed f) noUpdate
       → q ≡ (part.Failed f) → x ≡ updateBody (entryFields t id s at)
   unfolding entryFields updateBody andThen partRead
   key-failed f x h e = h ∙ rw (← p, e)
 
   module _ (start len at₁ : ℕ) (e : q ≡ part.Bytes start len at₁)
       (d : DataRead) (p₁ : d ≡ dataResult (dataFields (t .«data_types») s at₁)) where
-    pub data-failed : (f : Failure) → (x : UpdateBody) → x ≡ updateStruct (reading.Failed f) noUpdate
+    pub data-failed : (f : Fault) → (x : UpdateBody) → x ≡ updateStruct (reading.Failed f) noUpdate
         → d .reading ≡ (reading.Failed f) → x ≡ updateBody (entryFields t id s at)
     unfolding entryFields updateBody andThen partRead readAs
     data-failed f x h e₁ = h ∙ rw (← p, e, data-given (dataFields (t .«data_types») s at₁) d p₁, e₁)
@@ -66,7 +66,7 @@ pub ruleset entry-laws = (needs, key-failed, data-failed, data-whole)
 
 -- ---- `read_update` and `read_incremental`, where m is what was read of the ID
 module _ (t : Table) (s : List ℕ) (m : FourBytes) (p : m ≡ readNumber s 0) where
-  pub id-short : (x : UpdateBody) → x ≡ updateStruct (reading.Failed failure.Short) noUpdate
+  pub id-short : (x : UpdateBody) → x ≡ updateStruct (reading.Failed (fault failure.Short 0)) noUpdate
       → m ≡ number.Short → x ≡ updateBody (updateFields t s)
   unfolding updateFields updateBody andThen number4 numberRead
   id-short x h e = h ∙ rw (← p, e)

@@ -41,13 +41,13 @@ module _ (phase : ℕ) (u : List ℕ) (i : Int) (p : i ≡ readInt u 2) where
   unfolding waitsUntil
   by-int e = ap messageEnd p ∙ sym (cond-true _ _ _ (eq-eqb phase 2 e))
 
-  pub end-unknown : phase ≡ 2 → i ≡ int.Short → 0 ≡ waitsUntil phase u
+  pub end-unknown : (k : ℕ) → phase ≡ 2 → i ≡ int.Short k → 0 ≡ waitsUntil phase u
   unfolding messageEnd
-  end-unknown e q = sym (ap messageEnd q) ∙ by-int e
+  end-unknown k e q = sym (ap messageEnd q) ∙ by-int e
 
-  pub end-never : phase ≡ 2 → i ≡ int.Overflow → 0 ≡ waitsUntil phase u
+  pub end-never : (k : ℕ) → phase ≡ 2 → i ≡ int.Overflow k → 0 ≡ waitsUntil phase u
   unfolding messageEnd
-  end-never e q = sym (ap messageEnd q) ∙ by-int e
+  end-never k e q = sym (ap messageEnd q) ∙ by-int e
 
   module _ (n start : ℕ) (e : phase ≡ 2) (q : i ≡ int.Value n start) where
     pub end-refused : 1024 < n → 0 ≡ waitsUntil phase u
@@ -95,8 +95,8 @@ module _ (u w : List ℕ) (n start : ℕ) (e : readInt u 2 ≡ int.Value n start
 module _ (c : Connection) (u : List ℕ) (h : waits c u ≡ true) where
   message-quiet : c .phase ≡ 2 → (i : Int) → i ≡ readInt u 2 → Quiet c u (messageEnd i)
   unfolding messageEnd
-  message-quiet e int.Short p = quiet-none c u
-  message-quiet e int.Overflow p = quiet-none c u
+  message-quiet e (int.Short k) p = quiet-none c u
+  message-quiet e (int.Overflow k) p = quiet-none c u
   message-quiet e (int.Value n start) p =
       let judged : (v : List ℕ) → waits c v ≡ frameWaits (judgeFrame v) = λ v. waits-frame c v (λ z. omega arith) (λ z. omega arith) in
       split (lt-or-le 1024 n)

@@ -2,7 +2,8 @@
 use Prim.Native.Nat.{ℕ, _<_}
 use mathlib.Core.Path.{_≡_, refl, sym, ap, _∙_}
 use mathlib.Core.Bool.{cond}
-use mathlib.Core.List.{List}
+use mathlib.Core.List.{List, [], _∷_}
+use mathlib.Core.Option.{some}
 use lib.ListN.{getD}
 use lib.Dec.{ltb, eqb}
 use borrow.Author.Tests.{lt-ltb}
@@ -10,7 +11,7 @@ use Rattle.lists.proofs.Cases.{cond-true}
 use Rattle.session.specs.declared.Commit.the-variants as commit
 use Rattle.session.specs.declared.Answer.{Answer}
 use Rattle.session.specs.declared.Answer.the-variants as answer
-use Rattle.session.specs.Answers.{answerNumber, answerValues}
+use Rattle.session.specs.Answers.{answerNumber, answerValues, refusalOf}
 
 -- the answer that a number and values stand for
 others : ℕ → List ℕ → Answer
@@ -30,15 +31,19 @@ others n vs =
     (cond (eqb n 268) (answer.Acknowledgement (getD vs 0 0) (getD vs 1 0))
     (answer.Skipped (getD vs 0 0))))))))))))))
 
+refusal : ℕ → List ℕ → Answer
+refusal n [] = answer.Refused n
+refusal n (offset ∷ vs) = answer.RefusedAt n offset
+
 named : ℕ → List ℕ → Answer
-named n vs = cond (ltb n 256) (answer.Refused n) (others n vs)
+named n vs = cond (ltb n 256) (refusal n vs) (others n vs)
 
 -- a refusal's number is a byte, as the enum's is
 abbrev pub RefusedByte : Answer → Type 0
-RefusedByte a = (n : ℕ) → a ≡ answer.Refused n → n < 256
+RefusedByte a = (n : ℕ) → refusalOf a ≡ some n → n < 256
 
 named-back : (a : Answer) → RefusedByte a → named (answerNumber a) (answerValues a) ≡ a
-unfolding answerNumber answerValues named others
+unfolding answerNumber answerValues refusalOf named refusal others
 named-back answer.More h = refl
 named-back (answer.Hello process relative) h = refl
 named-back answer.Status h = refl
@@ -55,6 +60,7 @@ named-back (answer.Update table id entry commit.Replaced) h = refl
 named-back (answer.Acknowledgement id update) h = refl
 named-back (answer.Skipped type) h = refl
 named-back (answer.Refused number) h = cond-true (ltb number 256) _ _ (lt-ltb number 256 (h number refl))
+named-back (answer.RefusedAt number offset) h = cond-true (ltb number 256) _ _ (lt-ltb number 256 (h number refl))
 
 -- two answers with one number and the same values are equal
 pub answers-one-to-one : (a b : Answer) → RefusedByte a → RefusedByte b → answerNumber a ≡ answerNumber b → answerValues a ≡ answerValues b

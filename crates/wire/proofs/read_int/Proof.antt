@@ -27,6 +27,9 @@ returns-2 c = search reading
 loop-holds : tie.Need-loop-holds Inv-loop μ-loop
 loop-holds c = search reading
 
+add-t15 : tie.Need-add-t15 Inv-loop μ-loop
+add-t15 c = search reading
+
 returns-3 : tie.Need-returns-3 Inv-loop μ-loop
 returns-3 c = search reading
 
@@ -78,6 +81,7 @@ read-int-spec =
     add-i
     returns-2
     loop-holds
+    add-t15
     returns-3
     shared-slice-read-wide-2
     wide-requires-2

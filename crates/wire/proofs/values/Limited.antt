@@ -27,13 +27,13 @@ module _ (limit : ℕ) (s : List ℕ) (at : ℕ) (r : Int) (p : r ≡ readInt s 
   unfolding readLimited limited
   within v next e l = rw (← p, e, le-ltb limit v l)
 
-  pub short : r ≡ int.Short → field.Short ≡ readLimited limit s at
+  pub short : (k : ℕ) → r ≡ int.Short k → field.Short ≡ readLimited limit s at
   unfolding readLimited limited
-  short e = rw (← p, e)
+  short k e = rw (← p, e)
 
-  pub overflow : r ≡ int.Overflow → field.OutOfRange ≡ readLimited limit s at
+  pub overflow : (k : ℕ) → r ≡ int.Overflow k → field.OutOfRange ≡ readLimited limit s at
   unfolding readLimited limited
-  overflow e = rw (← p, e)
+  overflow k e = rw (← p, e)
 
 pub at-width : (k : ℕ) (s : List ℕ) (at : ℕ) (r : Field) → r ≡ readLimited (2 ^ k - 1) s at → r ≡ readWidth k s at
 unfolding readWidth
@@ -50,8 +50,8 @@ Held limit i field.OutOfRange = Unit {0}
 held : (limit : ℕ) (i : Int) → Held limit i (limited limit i)
 unfolding Held limited
 held limit (int.Value v next) = split (lt-or-le limit v) (λ l. rw (lt-ltb limit v l) tt) (λ l. rw (le-ltb limit v l) (refl, l))
-held limit int.Short = tt
-held limit int.Overflow = tt
+held limit (int.Short k) = tt
+held limit (int.Overflow k) = tt
 
 pub limited-value : (limit : ℕ) (s : List ℕ) (at v next : ℕ) → readLimited limit s at ≡ field.Value v next
     → (readInt s at ≡ int.Value v next) × (v ≤ limit)
@@ -83,8 +83,8 @@ unfolding readWidth
 width-rule k h = record {
   within = width-within k;
   over = width-over k;
-  short = λ s at e. sym (short (2 ^ k - 1) s at _ refl e);
-  overflow = λ s at e. sym (overflow (2 ^ k - 1) s at _ refl e);
+  short = λ s at n e. sym (short (2 ^ k - 1) s at _ refl n e);
+  overflow = λ s at n e. sym (overflow (2 ^ k - 1) s at _ refl n e);
   small = λ s at v next e. let q = width-value k s at v next e .1 in omega (arith, some k);
   trip = λ p t v l. width-within k (p ++ (encodeInt v ++ t)) (length p) v _ (round-trip p t v (omega (arith, power-le k h))) l;
   trip-over = λ p t v m l. width-over k (p ++ (encodeInt v ++ t)) (length p) v _ (round-trip p t v m) l;

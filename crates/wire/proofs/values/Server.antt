@@ -136,13 +136,13 @@ pub ruleset word-of = (needs, word-cast, word-low, flip-fits, flip-cast, flip-le
 
 -- ---- `read_server_id`, where r is what `read_int` gives and q what `server_id_of` gives
 module _ (s : List ℕ) (at : ℕ) (r : Int) (p : r ≡ readInt s at) where
-  pub short : r ≡ int.Short → server.Short ≡ readServerId s at
+  pub short : (k : ℕ) → r ≡ int.Short k → server.Short ≡ readServerId s at
   unfolding readServerId serverOf
-  short e = rw (← p, e)
+  short k e = rw (← p, e)
 
-  pub overflow : r ≡ int.Overflow → server.OutOfRange ≡ readServerId s at
+  pub overflow : (k : ℕ) → r ≡ int.Overflow k → server.OutOfRange ≡ readServerId s at
   unfolding readServerId serverOf
-  overflow e = rw (← p, e)
+  overflow k e = rw (← p, e)
 
   module _ (v next : ℕ) (e : r ≡ int.Value v next) (q : Signed) (d : q ≡ serverIdOf v) where
     pub an-id : (z : ℤ) → q ≡ signed.Id z → server.Id z next ≡ readServerId s at
@@ -219,8 +219,8 @@ server-own s at z next e = subst (IdWord (readInt s at)) e (by-int (readInt s at
   where
     by-int : (i : Int) → readInt s at ≡ i → IdWord i (serverOf i)
     by-int (int.Value v n) q = id-word-before v n (serverIdOf v) (from-word v (value-small s at v n q))
-    by-int int.Short q = tt
-    by-int int.Overflow q = tt
+    by-int (int.Short k) q = tt
+    by-int (int.Overflow k) q = tt
 
 pub server-advance : (s : List ℕ) (at : ℕ) (z : ℤ) (next : ℕ) → readServerId s at ≡ server.Id z next → (at < next) × (next ≤ length s)
 server-advance s at z next e = advance s at (serverWord z) next (server-own s at z next e .1)

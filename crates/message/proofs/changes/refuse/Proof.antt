@@ -2,14 +2,8 @@ use Rattle.message.proofs.Settling.{settling}
 use Rattle.message.proofs.changes.refuse.Statement.{statement}
 use Rattle.message.proofs.changes.refuse.Tie as tie
 
-close-connection-requires : tie.Need-close-connection-requires
-close-connection-requires c κs = search settling
-
-refusal-reply-requires : tie.Need-refusal-reply-requires
-refusal-reply-requires c κs = search settling
-
-no-change-requires : tie.Need-no-change-requires
-no-change-requires c κs = search settling
+refuse-with-requires : tie.Need-refuse-with-requires
+refuse-with-requires c κs = search settling
 
 returns : tie.Need-returns
 returns c = search settling
@@ -17,4 +11,4 @@ returns c = search settling
 pub refuse-spec : {M : Type 1} → statement M
 refuse-spec =
     tie.close
-    (tie.spec close-connection-requires refusal-reply-requires no-change-requires returns)
+    (tie.spec refuse-with-requires returns)

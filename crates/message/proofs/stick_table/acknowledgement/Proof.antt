@@ -14,8 +14,8 @@ no-reply-requires c κs = search noting
 no-change-requires : tie.Need-no-change-requires
 no-change-requires c κs = search noting
 
-enum-known-failure : tie.Need-enum-known-failure
-enum-known-failure c = search noting
+enum-known-fault : tie.Need-enum-known-fault
+enum-known-fault c = search noting
 
 refuse-body-requires : tie.Need-refuse-body-requires
 refuse-body-requires c κs = search noting
@@ -29,4 +29,4 @@ returns-2 c = search noting
 pub acknowledgement-spec : {M : Type 1} → statement M
 acknowledgement-spec =
     tie.close
-    (tie.spec read-acknowledgement-requires enum-known-id no-reply-requires no-change-requires enum-known-failure refuse-body-requires returns returns-2)
+    (tie.spec read-acknowledgement-requires enum-known-id no-reply-requires no-change-requires enum-known-fault refuse-body-requires returns returns-2)

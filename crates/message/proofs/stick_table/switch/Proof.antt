@@ -11,8 +11,8 @@ enum-known-value c = search switching
 switch-to-requires : tie.Need-switch-to-requires
 switch-to-requires c κs = search switching
 
-enum-known-failure : tie.Need-enum-known-failure
-enum-known-failure c = search switching
+enum-known-fault : tie.Need-enum-known-fault
+enum-known-fault c = search switching
 
 refuse-body-requires : tie.Need-refuse-body-requires
 refuse-body-requires c κs = search switching
@@ -26,4 +26,4 @@ returns-2 c = search switching
 pub switch-spec : {M : Type 1} → statement M
 switch-spec =
     tie.close
-    (tie.spec read-switch-requires enum-known-value switch-to-requires enum-known-failure refuse-body-requires returns returns-2)
+    (tie.spec read-switch-requires enum-known-value switch-to-requires enum-known-fault refuse-body-requires returns returns-2)

@@ -51,6 +51,12 @@ enum-known-a c = search needs
 cast-result : tie.Need-cast-result
 cast-result c = search needs
 
+enum-known-a-2 : tie.Need-enum-known-a-2
+enum-known-a-2 c = search needs
+
+cast-result-2 : tie.Need-cast-result-2
+cast-result-2 c = search needs
+
 returns : tie.Need-returns
 unfolding answerNumber
 returns c = rw (c .enum-told .given .1)
@@ -111,38 +117,11 @@ returns-15 : tie.Need-returns-15
 unfolding answerNumber
 returns-15 c = rw (c .before .a .given .1)
 
+returns-16 : tie.Need-returns-16
+unfolding answerNumber
+returns-16 c = rw (c .before .a2 .given .1)
+
 pub answer-number-spec : {M : Type 1} → statement M
 answer-number-spec =
     tie.close
-    (tie.spec
-    enum-told
-    enum-told-2
-    enum-told-3
-    enum-told-4
-    enum-told-5
-    enum-told-6
-    enum-told-7
-    enum-told-8
-    enum-told-9
-    enum-told-10
-    enum-told-11
-    enum-told-12
-    enum-told-13
-    enum-told-14
-    enum-known-a
-    cast-result
-    returns
-    returns-2
-    returns-3
-    returns-4
-    returns-5
-    returns-6
-    returns-7
-    returns-8
-    returns-9
-    returns-10
-    returns-11
-    returns-12
-    returns-13
-    returns-14
-    returns-15)
+    (tie.spec enum-told enum-told-2 enum-told-3 enum-told-4 enum-told-5 enum-told-6 enum-told-7 enum-told-8 enum-told-9 enum-told-10 enum-told-11 enum-told-12 enum-told-13 enum-told-14 enum-known-a cast-result enum-known-a-2 cast-result-2 returns returns-2 returns-3 returns-4 returns-5 returns-6 returns-7 returns-8 returns-9 returns-10 returns-11 returns-12 returns-13 returns-14 returns-15 returns-16)

@@ -100,6 +100,12 @@ enum-told-8 c = search needs
 no-values-requires-8 : tie.Need-no-values-requires-8
 no-values-requires-8 c κs = search needs
 
+enum-known-a-8 : tie.Need-enum-known-a-8
+enum-known-a-8 c = search needs
+
+one-value-requires-5 : tie.Need-one-value-requires-5
+one-value-requires-5 c κs = search needs
+
 returns : tie.Need-returns
 unfolding valuesOf answerValues padTo
 returns c = rw (c .before .enum-told .given .1) (c .no-values .ensures)
@@ -160,54 +166,11 @@ returns-15 : tie.Need-returns-15
 unfolding valuesOf answerValues padTo
 returns-15 c = rw (c .before .enum-told8 .given .1) (c .no-values8 .ensures)
 
+returns-16 : tie.Need-returns-16
+unfolding valuesOf answerValues padTo
+returns-16 c = rw (c .before .before .a8 .given .1) (c .one-value5 .ensures)
+
 pub answer-values-spec : {M : Type 1} → statement M
 answer-values-spec =
     tie.close
-    (tie.spec
-    enum-told
-    no-values-requires
-    enum-known-a
-    two-values-requires
-    enum-told-2
-    no-values-requires-2
-    enum-told-3
-    no-values-requires-3
-    enum-told-4
-    no-values-requires-4
-    enum-told-5
-    no-values-requires-5
-    enum-told-6
-    no-values-requires-6
-    enum-told-7
-    no-values-requires-7
-    enum-known-a-2
-    cast-one-value
-    one-value-requires
-    enum-known-a-3
-    one-value-requires-2
-    enum-known-a-4
-    one-value-requires-3
-    enum-known-a-5
-    update-values-requires
-    enum-known-a-6
-    two-values-requires-2
-    enum-known-a-7
-    cast-one-value-2
-    one-value-requires-4
-    enum-told-8
-    no-values-requires-8
-    returns
-    returns-2
-    returns-3
-    returns-4
-    returns-5
-    returns-6
-    returns-7
-    returns-8
-    returns-9
-    returns-10
-    returns-11
-    returns-12
-    returns-13
-    returns-14
-    returns-15)
+    (tie.spec enum-told no-values-requires enum-known-a two-values-requires enum-told-2 no-values-requires-2 enum-told-3 no-values-requires-3 enum-told-4 no-values-requires-4 enum-told-5 no-values-requires-5 enum-told-6 no-values-requires-6 enum-told-7 no-values-requires-7 enum-known-a-2 cast-one-value one-value-requires enum-known-a-3 one-value-requires-2 enum-known-a-4 one-value-requires-3 enum-known-a-5 update-values-requires enum-known-a-6 two-values-requires-2 enum-known-a-7 cast-one-value-2 one-value-requires-4 enum-told-8 no-values-requires-8 enum-known-a-8 one-value-requires-5 returns returns-2 returns-3 returns-4 returns-5 returns-6 returns-7 returns-8 returns-9 returns-10 returns-11 returns-12 returns-13 returns-14 returns-15 returns-16)
