@@ -3,6 +3,7 @@ use crate::update::update_line;
 use crate::words::hello_line;
 use crate::words::number_line;
 use crate::words::numbers_line;
+use crate::words::refused_at_line;
 use crate::words::table_line;
 use crate::words::word_line;
 use session::Answer;
@@ -53,12 +54,6 @@ pub fn put_answer(
         ),
         Answer::Skipped(kind) => number_line(room, at, b"skipped", kind as u64),
         Answer::Refused(number) => number_line(room, at, b"refused", number as u64),
-        Answer::RefusedAt { number, offset } => numbers_line(
-            room,
-            at,
-            b"refused",
-            number as u64,
-            offset as u64,
-        ),
+        Answer::RefusedAt { number, offset } => refused_at_line(room, at, number, offset),
     }
 }

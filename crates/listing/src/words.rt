@@ -46,6 +46,15 @@ pub fn numbers_line(room: &mut [u8], at: usize, word: &[u8], n: u64, m: u64) -> 
     put(room, b, b"\n")
 }
 
+// A refusal's number, and the offset at which the failing field starts.
+pub fn refused_at_line(room: &mut [u8], at: usize, number: u8, offset: usize) -> usize
+    ensures { λ r. ⌜ Wrote (now (room .entry)) at (line (ascii "refused") (decimal number ∷ decimal offset ∷ [])) (now (room .exit)) r ⌝ }
+{
+    let a = put(room, at, b"refused");
+    let b = put_numbers(room, a, number as u64, offset as u64);
+    put(room, b, b"\n")
+}
+
 // The accepted peer's name.
 fn put_peer(room: &mut [u8], at: usize, c: Connection) -> usize
     ensures { λ r. ⌜ Wrote (now (room .entry)) at (spaced (remoteName c ∷ [])) (now (room .exit)) r ⌝ }

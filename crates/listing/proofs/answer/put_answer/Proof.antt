@@ -150,14 +150,8 @@ number-line-requires-4 c κs = search needs
 enum-known-answer-9 : tie.Need-enum-known-answer-9
 enum-known-answer-9 c = search needs
 
-slice-aggregate-numbers-line-2 : tie.Need-slice-aggregate-numbers-line-2
-slice-aggregate-numbers-line-2 c = search needs
-
-cast-numbers-line-3 : tie.Need-cast-numbers-line-3
-cast-numbers-line-3 c = search needs
-
-numbers-line-requires-2 : tie.Need-numbers-line-requires-2
-numbers-line-requires-2 c κs = search needs
+refused-at-line-requires : tie.Need-refused-at-line-requires
+refused-at-line-requires c κs = search needs
 
 same-length : tie.Need-same-length
 same-length c = search needs
@@ -269,9 +263,9 @@ same-length-16 c = search needs
 
 returns-16 : tie.Need-returns-16
 unfolding answerLine
-returns-16 c = rw (c .before .before .before .before .before .before .answer9 .given .1) (c .before .before .numbers-line2 .ensures)
+returns-16 c = rw (c .before .before .before .before .before .answer9 .given .1) (c .before .before .refused-at-line .ensures)
 
 pub put-answer-spec : {M : Type 1} → statement M
 put-answer-spec =
     tie.close
-    (tie.spec enum-told slice-aggregate-word-line word-line-requires enum-known-answer hello-line-requires enum-told-2 slice-aggregate-word-line-2 word-line-requires-2 enum-told-3 slice-aggregate-word-line-3 word-line-requires-3 enum-told-4 slice-aggregate-word-line-4 word-line-requires-4 enum-told-5 slice-aggregate-word-line-5 word-line-requires-5 enum-told-6 slice-aggregate-word-line-6 word-line-requires-6 enum-told-7 slice-aggregate-word-line-7 word-line-requires-7 enum-known-answer-2 slice-aggregate-number-line cast-number-line number-line-requires enum-known-answer-3 table-at-requires table-line-requires enum-known-answer-4 slice-aggregate-number-line-2 number-line-requires-2 enum-known-answer-5 update-line-requires enum-known-answer-6 slice-aggregate-numbers-line cast-numbers-line cast-numbers-line-2 numbers-line-requires enum-known-answer-7 slice-aggregate-number-line-3 cast-number-line-2 number-line-requires-3 enum-known-answer-8 slice-aggregate-number-line-4 cast-number-line-3 number-line-requires-4 enum-known-answer-9 slice-aggregate-numbers-line-2 cast-numbers-line-3 numbers-line-requires-2 same-length returns same-length-2 returns-2 same-length-3 returns-3 same-length-4 returns-4 same-length-5 returns-5 same-length-6 returns-6 same-length-7 returns-7 same-length-8 returns-8 same-length-9 returns-9 same-length-10 returns-10 same-length-11 returns-11 same-length-12 returns-12 same-length-13 returns-13 same-length-14 returns-14 same-length-15 returns-15 same-length-16 returns-16)
+    (tie.spec enum-told slice-aggregate-word-line word-line-requires enum-known-answer hello-line-requires enum-told-2 slice-aggregate-word-line-2 word-line-requires-2 enum-told-3 slice-aggregate-word-line-3 word-line-requires-3 enum-told-4 slice-aggregate-word-line-4 word-line-requires-4 enum-told-5 slice-aggregate-word-line-5 word-line-requires-5 enum-told-6 slice-aggregate-word-line-6 word-line-requires-6 enum-told-7 slice-aggregate-word-line-7 word-line-requires-7 enum-known-answer-2 slice-aggregate-number-line cast-number-line number-line-requires enum-known-answer-3 table-at-requires table-line-requires enum-known-answer-4 slice-aggregate-number-line-2 number-line-requires-2 enum-known-answer-5 update-line-requires enum-known-answer-6 slice-aggregate-numbers-line cast-numbers-line cast-numbers-line-2 numbers-line-requires enum-known-answer-7 slice-aggregate-number-line-3 cast-number-line-2 number-line-requires-3 enum-known-answer-8 slice-aggregate-number-line-4 cast-number-line-3 number-line-requires-4 enum-known-answer-9 refused-at-line-requires same-length returns same-length-2 returns-2 same-length-3 returns-3 same-length-4 returns-4 same-length-5 returns-5 same-length-6 returns-6 same-length-7 returns-7 same-length-8 returns-8 same-length-9 returns-9 same-length-10 returns-10 same-length-11 returns-11 same-length-12 returns-12 same-length-13 returns-13 same-length-14 returns-14 same-length-15 returns-15 same-length-16 returns-16)
