@@ -2,12 +2,12 @@
  * libpeers: a receiver of stick tables over the HAProxy peers protocol, 2.1.
  *
  * The host owns sockets and timers. It keeps one struct peers_session for each connection and one struct peers_store, and lends
- * both to peers_read with the bytes that came. Every call is defined on every content of what is lent, ends, allocates nothing and
- * keeps nothing between calls.
+ * both to peers_read with the bytes that came. On its ticks it lends the store to peers_pass_time. Every call is defined on every content
+ * of what is lent, ends, allocates nothing and keeps nothing between calls.
  *
  * The host's duties: each pointer points to as much memory as its type or the length after it says (an empty one too points to
  * somewhere); what is lent to one call doesn't overlap; no other thread touches it during the call. A reading call takes 60 KB of
- * stack, an empty store by value 140 KB.
+ * stack, passing time 52 KB, an empty store by value 140 KB.
  *
  * No struct has padding: its bytes are those of its fields. So a record, a store, an outcome and what opening gives back can be compared
  * with memcmp, hashed, or saved as bytes and lent again to an archive of the same PEERS_VERSION and PEERS_LAYOUT. Bytes that have no
@@ -28,8 +28,8 @@ extern "C" {
 
 /* ---- version */
 
-#define PEERS_VERSION 4 /* of the calls: their names, parameters, numbers and meaning */
-#define PEERS_LAYOUT 2  /* of the structs: their fields, order and sizes */
+#define PEERS_VERSION 5 /* of the calls: their names, parameters, numbers and meaning */
+#define PEERS_LAYOUT 3  /* of the structs: their fields, order and sizes */
 
 /* The archive's version times 65,536 plus its layout. */
 uint32_t peers_version(void);
@@ -53,10 +53,10 @@ static inline int peers_matches(void) { return peers_version() == PEERS_VERSION 
 /*
  * ---- the store: fields are read directly; a store of zeros is empty
  *
- * Between two calls the host may free an entry: `held` becomes 0. A table may be freed in the same way only where none of its entries
- * is held and no record in use has it bound or updated. Such a record would be refused with 4 while the place is free, and once another
- * table takes the place its next update would be committed there, to the wrong table, and acknowledged. So free the table's entries first,
- * and give each connection that has it bound or updated a new record before the next call.
+ * Between two calls the host may free an entry: `held` becomes 0. Entries whose time is over are freed by peers_pass_time. A table may be
+ * freed in the same way only where none of its entries is held and no record in use has it bound or updated. Such a record would be refused
+ * with 4 while the place is free, and once another table takes the place its next update would be committed there, to the wrong table, and
+ * acknowledged. So free the table's entries first, and give each connection that has it bound or updated a new record before the next call.
  */
 
 /* The numbers that peers send, with the key lengths that a table of this type may have. */
@@ -139,9 +139,11 @@ struct peers_table {
 };
 
 struct peers_entry {
-    uint32_t held;     /* 1 for a held entry, 0 for a free place */
-    int32_t server_id; /* if the table has PEERS_SERVER_ID */
-    size_t table;      /* the table's place */
+    uint32_t held;      /* 1 for a held entry, 0 for a free place */
+    int32_t server_id;  /* if the table has PEERS_SERVER_ID */
+    uint32_t timed;     /* 1 where the entry has a remaining time */
+    uint32_t remaining; /* milliseconds, as of the last peers_pass_time; not looked at where `timed` is 0 */
+    size_t table;       /* the table's place */
     size_t key_len;
     uint8_t key[PEERS_KEY_MAX];
     uint64_t values[PEERS_VALUES]; /* of the table's data types, by enum peers_slot */
@@ -209,9 +211,10 @@ enum peers_answer {
 };
 
 /*
- * PEERS_REFUSED_CUT, PEERS_REFUSED_RANGE and PEERS_REFUSED_TABLE_NAME have one value: the offset in the message's body, from 0, at which the
- * failing field starts. A field is one integer, also a length or a 4-byte update ID, or the bytes of a name or a key; where no byte of it is
- * there, the offset is the body's length. Other refusals have no value, and the closed record has the number alone.
+ * PEERS_REFUSED_CUT, PEERS_REFUSED_RANGE and PEERS_REFUSED_TABLE_NAME have one value: the offset in the message's body, from 0, at which
+ * the failing field starts. A field is one integer, also a length, a 4-byte update ID or a 4-byte remaining time, or the bytes of a name or
+ * a key; where no byte of it is there, the offset is the body's length. Other refusals have no value, and the closed record has the number
+ * alone.
  */
 enum peers_refusal {
     PEERS_REFUSED_ROOM = 1,       /* too little room; nothing changed */
@@ -278,6 +281,24 @@ struct peers_opened peers_open_caller(const uint8_t *local, size_t local_len, co
  */
 struct peers_outcome peers_read(struct peers_session *session, struct peers_store *store, const uint8_t *piece, size_t piece_len,
                                 uint8_t *room, size_t room_len);
+
+/*
+ * Passes so many milliseconds: entries with at most so many remaining are freed, the times of the others are lowered by them, and entries
+ * without a remaining time stay. 0 milliseconds free the entries with 0 remaining. Returns 0, or PEERS_REFUSED_UNSOUND on a store that
+ * holds what the rules don't allow; that store stays as it is.
+ *
+ * Only the store is lent: tables stay, and every record, open or closed, goes on as it was. A freed place has zeros, as in an empty store,
+ * and a new key takes the lowest free place.
+ *
+ * A host calls it on its ticks with the time since the last tick, once for each store, whatever connections there are. Several calls leave
+ * what one call with their sum leaves, if that fits 32 bits; UINT32_MAX frees every entry that has a time, so any longer time is passed as
+ * that. An entry's time is that of its last update: a timed update brings its own, any other takes the expiry that its table has at that
+ * moment, or none where the table has none.
+ *
+ * What a store holds follows from the bytes that were taken and from the times between them: an audit that replays a connection needs both,
+ * each time with the number of bytes taken before it.
+ */
+uint32_t peers_pass_time(struct peers_store *store, uint32_t milliseconds);
 
 /* ---- text for numbers */
 

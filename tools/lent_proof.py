@@ -65,13 +65,13 @@ PARAMETERS_BEFORE_REPLY = 3  # of finish_read
 
 Array = namedtuple('Array', 'field index element length size offset')  # an array in the store; size: an element's bytes
 TABLES = Array('tables', 0, TABLE, 8, 96, 0)
-ENTRIES = Array('entries', 1, ENTRY, 128, 360, 768)
+ENTRIES = Array('entries', 1, ENTRY, 128, 368, 768)
 Field = namedtuple('Field', 'name index type offset')
 QUERY_FIELD = Field('query', 0, 'Qy′.mir', 0)
 STEP_FIELDS = {field.name: field for field in (
     Field('outcome', 0, 'O′.mir', 0), Field('session', 1, 'S′.mir', 56), Field('«puts_entry»', 2, 'tyBool', 1320),
     Field('«puts_table»', 3, 'tyBool', 1321), Field('place', 4, 'tyInt w64', 1328), Field('entry', 5, 'N₀′.mir', 1336),
-    Field('table', 6, 'N₁′.mir', 1696))}
+    Field('table', 6, 'N₁′.mir', 1704))}
 
 # A put `if step.FLAG { store.ARRAY[step.place] = step.VALUE; }`: the store with the element, the store after the statement,
 # the law by which SAID bounds the place, and the statement's successor.

@@ -2,7 +2,7 @@
 
 #![forbid(unsafe_code)]
 
-use bench::measure::{calls, clock, in_turns, times, Load, MESSAGES};
+use bench::measure::{beats_and_passes, calls, clock, in_turns, times, Load, MESSAGES};
 use bench::receivers::{Library, Plain, Second, ROOM};
 use bench::rows::{document, heading, heading_of_bytes, row, row_of_bytes, row_of_ratios};
 use bench::streams::{filling, long_filling, long_updates, message, update, updates};
@@ -35,6 +35,19 @@ fn store_levels() -> Vec<[f64; 3]> {
         }
     }
     told
+}
+
+/// Time that passes and frees no entry, and all, beside a heartbeat in the same rounds.
+fn passing() {
+    heading("Passing time, by entries held: 1 ms, and so much that all entries are freed");
+    for entries in [0, 64, 128] {
+        let [beats, passes, frees] = beats_and_passes(filling(entries), ROUNDS);
+        row(&format!("{entries} entries, heartbeat"), beats);
+        row(&format!("{entries} entries, passing 1 ms"), passes);
+        row_of_ratios("passing 1 ms to heartbeat", passes, beats);
+        row(&format!("{entries} entries, freeing all"), frees);
+        row_of_ratios("freeing all to heartbeat", frees, beats);
+    }
 }
 
 /// Updates of keys that aren't held.
@@ -139,6 +152,7 @@ fn main() {
     println!("Library: {}", archive::text());
     println!("Best of {ROUNDS} rounds where no other number is told, receivers in turns.");
     let levels = store_levels();
+    passing();
     new_keys();
     lengths();
     value_lengths();

@@ -107,6 +107,49 @@ pub fn calls<R: Receiver>(start: &R, piece: &[u8], room: &mut [u8]) -> f64 {
     repeated(|| _ = black_box(receiver.read(black_box(piece), room)))
 }
 
+/// Nanoseconds of passing a millisecond again and again.
+pub fn passes<R: Receiver>(start: &R) -> f64 {
+    let mut receiver = start.clone();
+    repeated(|| _ = black_box(receiver.pass(black_box(1))))
+}
+
+/// Nanoseconds of passing so much time that every entry is freed, each time on a clone; the clock's are in it.
+pub fn freeing<R: Receiver>(start: &R) -> f64 {
+    let (mut spent, mut count) = (Duration::ZERO, 0);
+    while spent < ROUND {
+        let mut receiver = start.clone();
+        let began = Instant::now();
+        black_box(receiver.pass(black_box(u32::MAX)));
+        spent += began.elapsed();
+        count += 1;
+    }
+    spent.as_nanos() as f64 / f64::from(count)
+}
+
+/// Nanoseconds of a heartbeat, of passing a millisecond and of freeing all entries, by turns, each of the library, the plain receiver and the
+/// second program's.
+pub fn beats_and_passes(before: Vec<u8>, rounds: usize) -> [[f64; 3]; 3] {
+    let load = Load::new(before, vec![vec![0, 4]; MESSAGES]);
+    let library: Library = load.receiver();
+    let plain: Plain = load.receiver();
+    let second: Second = load.receiver();
+    let [a, b, c, d, e, f, g, h, i] = in_turns(
+        rounds,
+        [
+            &mut || round(&library, &load),
+            &mut || round(&plain, &load),
+            &mut || round(&second, &load),
+            &mut || passes(&library),
+            &mut || passes(&plain),
+            &mut || passes(&second),
+            &mut || freeing(&library),
+            &mut || freeing(&plain),
+            &mut || freeing(&second),
+        ],
+    );
+    [[a, b, c], [d, e, f], [g, h, i]]
+}
+
 /// Nanoseconds of a function that is called again and again.
 pub fn repeated(mut function: impl FnMut()) -> f64 {
     let (began, mut count) = (Instant::now(), 0);

@@ -4,6 +4,7 @@ use crate::layout;
 use crate::plain;
 use second::record::Record;
 pub use second::record::Role;
+use std::time::Duration;
 
 /// The room of a call.
 pub const ROOM: usize = 12;
@@ -27,6 +28,9 @@ pub trait Receiver: Clone {
 
     /// One reading call, with all that it told.
     fn told(&mut self, piece: &[u8], room: &mut [u8]) -> Told;
+
+    /// One passing call: the number that it gives.
+    fn pass(&mut self, milliseconds: u32) -> u32;
 
     /// Offers bytes until all are taken: the number of calls.
     fn take_all(&mut self, bytes: &[u8]) -> usize {
@@ -121,6 +125,13 @@ impl Receiver for Library {
         let (number, values) = numbers(step.answer);
         (step.taken, number, values, step.reply.to_vec())
     }
+
+    fn pass(&mut self, milliseconds: u32) -> u32 {
+        let passed = self
+            .store
+            .pass_time(Duration::from_millis(milliseconds.into()));
+        passed.map_or_else(|refusal| refusal.number().into(), |()| 0)
+    }
 }
 
 /// The plain receiver.
@@ -155,6 +166,10 @@ impl Receiver for Plain {
         let values = outcome.values[..outcome.count as usize].to_vec();
         let reply = room[..outcome.reply_len].to_vec();
         (outcome.taken, outcome.number, values, reply)
+    }
+
+    fn pass(&mut self, milliseconds: u32) -> u32 {
+        plain::pass_time(&mut self.store, milliseconds)
     }
 }
 
@@ -242,7 +257,9 @@ fn second_entry(entry: peers::Entry) -> second::store::Entry {
             previous,
         } => vec![elapsed, current, previous],
     });
+    let remaining = entry.remaining().map(|time| time.as_millis() as u64);
     second::store::Entry::new(entry.table().place(), entry.key(), values.collect())
+        .lasting(remaining)
 }
 
 /// The number and values of the second program's answer.
@@ -302,5 +319,9 @@ impl Receiver for Second {
             values,
             room[..outcome.reply].to_vec(),
         )
+    }
+
+    fn pass(&mut self, milliseconds: u32) -> u32 {
+        second::call::pass_time(&mut self.store, milliseconds).into()
     }
 }

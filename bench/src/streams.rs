@@ -46,17 +46,35 @@ pub fn update(id: u32, number: u32) -> Vec<u8> {
     update_of(id, &key(number))
 }
 
+/// The same with a remaining time in milliseconds.
+pub fn timed_update(id: u32, time: u32, number: u32) -> Vec<u8> {
+    let entry = entry_of(&key(number), &values(id));
+    message(
+        133,
+        &[&id.to_be_bytes(), &time.to_be_bytes(), &entry[..]].concat(),
+    )
+}
+
+fn values(id: u32) -> [u64; 8] {
+    [17, 900, 4, 3, u64::from(id) % 10_000, 2_000, 70, 65]
+}
+
 fn update_of(id: u32, key: &[u8]) -> Vec<u8> {
-    let values = [17, 900, 4, 3, u64::from(id) % 10_000, 2_000, 70, 65];
-    update_with(id, key, &values)
+    update_with(id, key, &values(id))
 }
 
 fn update_with(id: u32, key: &[u8], values: &[u64]) -> Vec<u8> {
-    let mut body = id.to_be_bytes().to_vec();
-    body.push(key.len() as u8);
-    body.extend(key);
-    body.extend(values.iter().flat_map(|&value| int(value)));
-    message(128, &body)
+    message(
+        128,
+        &[&id.to_be_bytes(), &entry_of(key, values)[..]].concat(),
+    )
+}
+
+/// A string key and values as they stand in a body.
+fn entry_of(key: &[u8], values: &[u64]) -> Vec<u8> {
+    let values = values.iter().flat_map(|&value| int(value));
+    let key = [key.len() as u8].into_iter().chain(key.iter().copied());
+    key.chain(values).collect()
 }
 
 /// Messages that open a session, define a table and fill so many entries.

@@ -3,7 +3,7 @@
 use bench::plain::mark;
 use bench::receivers::{Library, Plain, Receiver, Role, Second};
 use bench::streams::{filling, int, long_filling, long_updates, message, updates, HELLO};
-use bench::streams::{traffic_filling, traffic_updates, BY_LENGTH};
+use bench::streams::{timed_update, traffic_filling, traffic_updates, BY_LENGTH};
 use second::generate;
 use second::replay::{command, Command};
 
@@ -43,6 +43,20 @@ impl All {
         assert!(rooms[0] == rooms[1] && rooms[0] == rooms[2]);
         self.states_agree();
         library.0
+    }
+
+    /// One passing call of each.
+    fn pass(&mut self, milliseconds: u32) {
+        let number = self.library.pass(milliseconds);
+        assert_eq!(
+            (number, number),
+            (
+                self.plain.pass(milliseconds),
+                self.second.pass(milliseconds)
+            )
+        );
+        assert_eq!(number, 0);
+        self.states_agree();
     }
 
     /// Calls until all bytes are taken.
@@ -147,9 +161,11 @@ fn bodies() -> Vec<(u8, Vec<u8>)> {
     vec![
         (130, definition),
         (128, [&[0, 0, 0, 9], &key[..]].concat()),
-        (129, key),
+        (129, key.clone()),
         (131, int(300)),
-        (133, [&int(300)[..], &[0, 0, 0, 9]].concat()),
+        (132, [&int(300)[..], &[0, 0, 0, 9]].concat()),
+        (133, [&[0, 0, 0, 9, 0, 0, 0, 7], &key[..]].concat()),
+        (134, [&[0xFF; 4], &key[..]].concat()),
     ]
 }
 
@@ -175,28 +191,68 @@ fn on_bodies_that_break() {
     }
 }
 
+/// Times next to each remaining time, on a store that time empties and updates fill again.
 #[test]
-fn on_generated_scripts() {
-    let calls: usize = (1..=1700).map(|seed| replay(&generate::stream(seed))).sum();
-    assert!(calls > 40_000, "{calls} calls");
+fn on_times_that_pass() {
+    let times = [
+        0,
+        1,
+        2,
+        59_999,
+        60_000,
+        60_001,
+        1 << 31,
+        u32::MAX - 1,
+        u32::MAX,
+    ];
+    let mut base = All::open(Role::Answerer);
+    base.take(&filling(100));
+    for (id, time) in (100..128).zip(times.into_iter().cycle()) {
+        base.take(&timed_update(id, time, id));
+    }
+    for time in times {
+        let mut all = base.clone();
+        all.pass(time);
+        for id in 1000..1005 {
+            all.call(&timed_update(id, time, id), 12);
+            all.pass(0);
+        }
+        all.call(&[0, 5], 12);
+        all.pass(u32::MAX);
+        all.reconnect(Role::Answerer);
+        all.take(&filling(3));
+        all.pass(59_999);
+    }
 }
 
-/// Makes the calls of a script: the number of them.
-fn replay(script: &[u8]) -> usize {
+#[test]
+fn on_generated_scripts() {
+    let replayed = (1..=1700).map(|seed| replay(&generate::stream(seed)));
+    let (calls, passes) = replayed.fold((0, 0), |a, b| (a.0 + b.0, a.1 + b.1));
+    assert!(
+        calls > 40_000 && passes > 1_500,
+        "{calls} calls, {passes} of them pass time"
+    );
+}
+
+/// Makes the calls of a script: the number of them, and how many pass time.
+fn replay(script: &[u8]) -> (usize, usize) {
     let mut all = All::open(Role::Answerer);
-    let mut calls = 0;
+    let (mut calls, mut passes) = (0, 0);
     let mut rest = script;
     while let Some((next, after)) = command(rest) {
         rest = after;
         match next {
             Command::Open(role) => all = All::open(role),
             Command::Reconnect(role) => all.reconnect(role),
-            Command::Dump => {}
-            Command::Call { room, piece } => {
-                all.call(piece, room.into());
-                calls += 1;
+            Command::Dump => continue,
+            Command::Call { room, piece } => drop(all.call(piece, room.into())),
+            Command::Pass(milliseconds) => {
+                all.pass(milliseconds);
+                passes += 1;
             }
         }
+        calls += 1;
     }
-    calls
+    (calls, passes)
 }

@@ -74,6 +74,10 @@ static const struct piece pieces[] = {
 
 __attribute__((noinline)) static void empty_to(struct peers_store *to) { *to = peers_empty_store(); }
 
+__attribute__((noinline)) static void pass_to(uint32_t *to, struct peers_store *store, uint32_t time) {
+    *to = peers_pass_time(store, time);
+}
+
 __attribute__((noinline)) static void read_to(struct peers_outcome *to, struct state state, const struct piece *piece) {
     uint8_t room[PEERS_READING_ROOM];
     *to = peers_read(state.session, state.store, (const uint8_t *)piece->bytes, piece->len, room, sizeof room);
@@ -96,6 +100,13 @@ static void read_over(uint8_t fill, struct peers_outcome *to, struct state state
     CHECK(to->number == piece->number);
 }
 
+static void pass_over(uint8_t fill, struct peers_store *store, uint32_t time) {
+    uint32_t number;
+    fill_stack(fill);
+    pass_to(&number, store, time);
+    CHECK(number == 0);
+}
+
 static void check_equal(const struct state states[2]) {
     CHECK(memcmp(states[0].session, states[1].session, sizeof *states[0].session) == 0);
     CHECK(memcmp(states[0].store, states[1].store, sizeof *states[0].store) == 0);
@@ -112,6 +123,11 @@ static void test_readings(void) {
         CHECK(memcmp(&outcomes[0], &outcomes[1], sizeof *outcomes) == 0);
         check_equal(states);
     }
+    for (uint32_t time = 59999; time <= 60000; time++) {
+        for (size_t side = 0; side < 2; side++) pass_over(fills[side], states[side].store, time);
+        check_equal(states);
+    }
+    CHECK(all_zero(states[0].store->entries, sizeof states[0].store->entries));
     for (size_t side = 0; side < 2; side++) give_back_state(states[side]);
 }
 

@@ -1,4 +1,4 @@
-/* What becomes of a record whose table is freed, and the way to free one. */
+/* What becomes of a record whose table is freed, and the way to free one; entries that the host frees and that time frees. */
 #include "test.h"
 
 static const struct peers_table *named(const struct peers_store *store, const char *name) {
@@ -49,7 +49,7 @@ static void old_record(struct state state) {
     take_the_place(state);
     outcome = call(state, incremental, INCREMENTAL, 12, reply);
     CHECK(outcome.number == PEERS_UPDATE && outcome.values[0] == 0 && outcome.reply_len == 8);
-    CHECK(memcmp(reply, "\x0A\x85\x05\x01\x00\x00\x00\x02", 8) == 0);
+    CHECK(memcmp(reply, "\x0A\x84\x05\x01\x00\x00\x00\x02", 8) == 0);
     CHECK(state.store->entries[0].held == 1 && state.store->entries[0].table == 0);
     CHECK(named(state.store, "t") == NULL);
 }
@@ -91,10 +91,28 @@ static void entry_alone(struct state state) {
     CHECK(call(state, (const uint8_t *)"H", 1, 12, reply).number == PEERS_REFUSED_UNSOUND);
 }
 
+/* The host frees one entry, time another: the next key takes the lower place. */
+static void by_the_host_and_by_time(struct state state) {
+    establish(state);
+    define(state, 1, "t", PEERS_KEY_INTEGER, 4, 1u << PEERS_GPC0);
+    update(state, 1, "keya", 4, (const uint64_t[]){5}, 1);
+    timed_update(state, 2, 7, "keyb", 4, (const uint64_t[]){5}, 1);
+    timed_update(state, 3, 8, "keyc", 4, (const uint64_t[]){5}, 1);
+    state.store->entries[2].held = 0;
+    pass_time(state.store, 7, 0);
+    /* the place that the host freed keeps what it held, and its time isn't lowered */
+    CHECK(state.store->entries[2].remaining == 8 && all_zero(&state.store->entries[1], sizeof state.store->entries[1]));
+    update(state, 4, "keyd", 4, (const uint64_t[]){5}, 1);
+    update(state, 5, "keye", 4, (const uint64_t[]){5}, 1);
+    CHECK(memcmp(state.store->entries[1].key, "keyd", 4) == 0 && memcmp(state.store->entries[2].key, "keye", 4) == 0);
+    CHECK(state.store->entries[1].timed == 0 && state.store->entries[2].timed == 0 && state.store->entries[2].remaining == 0);
+}
+
 void test_freeing(void) {
     struct state state = lend_state();
     old_record(state);
     new_record(state);
     entry_alone(state);
+    by_the_host_and_by_time(state);
     give_back_state(state);
 }

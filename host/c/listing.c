@@ -19,8 +19,8 @@ struct expected {
 static const struct expected expected[] = {
     {PEERS_HELLO, 2, {7, 0}, 4, "200\n"},
     {PEERS_TABLE, 1, {0}, 0, ""},
-    {PEERS_UPDATE, 4, {0, 4294967295, 0, 0}, 8, "\x0A\x85\x05\x01\xFF\xFF\xFF\xFF"},
-    {PEERS_UPDATE, 4, {0, 0, 0, 1}, 8, "\x0A\x85\x05\x01\x00\x00\x00\x00"},
+    {PEERS_UPDATE, 4, {0, 4294967295, 0, 0}, 8, "\x0A\x84\x05\x01\xFF\xFF\xFF\xFF"},
+    {PEERS_UPDATE, 4, {0, 0, 0, 1}, 8, "\x0A\x84\x05\x01\x00\x00\x00\x00"},
     {PEERS_FINISHED, 0, {0}, 2, "\x00\x03"},
 };
 #define ANSWERS (sizeof expected / sizeof *expected)
@@ -48,6 +48,7 @@ static void check_end(struct state state) {
     CHECK(table->data_types == 1u << PEERS_GPC0 && table->timed == 1 && table->expiry == 60000);
     CHECK(entry->held == 1 && entry->table == 0 && entry->key_len == 4);
     CHECK(memcmp(entry->key, "\x00\x00\x00\x2A", 4) == 0 && entry->values[PEERS_SLOT_GPC0] == 5);
+    CHECK(entry->timed == 1 && entry->remaining == 60000);
     CHECK(state.store->tables[1].held == 0 && state.store->entries[1].held == 0);
 }
 

@@ -11,6 +11,7 @@ int main(int argc, char **argv) {
         test_listing();
         test_definition();
         test_offsets();
+        test_times();
         test_unsound();
         test_random();
         test_freeing();

@@ -23,3 +23,8 @@ struct peers_outcome peers_read(struct peers_session *session, struct peers_stor
     (void)session, (void)store, (void)piece, (void)piece_len, (void)room, (void)room_len;
     abort();
 }
+
+uint32_t peers_pass_time(struct peers_store *store, uint32_t milliseconds) {
+    (void)store, (void)milliseconds;
+    abort();
+}

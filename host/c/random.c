@@ -14,7 +14,16 @@ static void fill(void *memory, size_t size) {
     for (size_t i = 0; i < size; i++) ((uint8_t *)memory)[i] = (uint8_t)next();
 }
 
-/* One call with a random piece and room; a refusal with 1, 2 or 4 must change nothing. */
+/* Passes a random time: 0, or 4 and no change. */
+static void try_time(struct state state, struct peers_store *store) {
+    memcpy(store, state.store, sizeof *store);
+    uint32_t number = peers_pass_time(state.store, (uint32_t)next());
+    CHECK(number == 0 || number == 4);
+    CHECK(number == 0 || memcmp(store, state.store, sizeof *store) == 0);
+    CHECK(memcmp(store->tables, state.store->tables, sizeof store->tables) == 0);
+}
+
+/* One call with a random piece and room; a refusal with 1, 2 or 4 must change nothing. Then time passes. */
 static void try(struct state state, struct peers_session *session, struct peers_store *store) {
     uint8_t piece[40], reply[12];
     size_t len = next() % sizeof piece, room = next() % 30;
@@ -27,6 +36,7 @@ static void try(struct state state, struct peers_session *session, struct peers_
         CHECK(memcmp(session, state.session, sizeof *session) == 0);
         CHECK(memcmp(store, state.store, sizeof *store) == 0);
     }
+    try_time(state, store);
 }
 
 void test_random(void) {

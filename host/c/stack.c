@@ -26,6 +26,11 @@ static void *one_call(void *argument) {
     return NULL;
 }
 
+static void *one_passing(void *argument) {
+    CHECK(peers_pass_time(argument, 60000) == 0);
+    return NULL;
+}
+
 static void *one_opening(void *argument) {
     uint8_t room[PEERS_OPENING_ROOM];
     *(struct peers_opened *)argument =
@@ -79,6 +84,7 @@ int main(void) {
     open_answerer(state);
     size_t thread = stack_of(nothing, NULL);
     print_readings(state, thread);
+    printf("stack of passing time: %zu bytes\n", stack_of(one_passing, state.store) - thread);
     printf("stack of opening: %zu bytes\n", stack_of(one_opening, &opened) - thread);
     printf("stack of an empty store: %zu bytes\n", stack_of(one_store, state.store) - thread);
     give_back_state(state);

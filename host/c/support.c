@@ -155,10 +155,47 @@ void define(struct state state, uint32_t id, const char *name, uint8_t key_type,
     accept(state, 130, body, len, PEERS_TABLE);
 }
 
+size_t put_four(uint8_t *to, uint32_t number) {
+    to[0] = (uint8_t)(number >> 24);
+    to[1] = (uint8_t)(number >> 16);
+    to[2] = (uint8_t)(number >> 8);
+    to[3] = (uint8_t)number;
+    return 4;
+}
+
+static size_t put_entry(uint8_t *to, const void *key, size_t key_len, const uint64_t *values, size_t count) {
+    size_t len = key_len;
+    memcpy(to, key, key_len);
+    for (size_t i = 0; i < count; i++) len += put_int(to + len, values[i]);
+    return len;
+}
+
 void update(struct state state, uint32_t id, const void *key, size_t key_len, const uint64_t *values, size_t count) {
-    uint8_t body[1024] = {(uint8_t)(id >> 24), (uint8_t)(id >> 16), (uint8_t)(id >> 8), (uint8_t)id};
-    size_t len = 4 + key_len;
-    memcpy(body + 4, key, key_len);
-    for (size_t i = 0; i < count; i++) len += put_int(body + len, values[i]);
+    uint8_t body[1024];
+    size_t len = put_four(body, id);
+    len += put_entry(body + len, key, key_len, values, count);
     accept(state, 128, body, len, PEERS_UPDATE);
+}
+
+void timed_update(struct state state, uint32_t id, uint32_t time, const void *key, size_t key_len, const uint64_t *values, size_t count) {
+    uint8_t body[1024];
+    size_t len = put_four(body, id);
+    len += put_four(body + len, time);
+    len += put_entry(body + len, key, key_len, values, count);
+    accept(state, 133, body, len, PEERS_UPDATE);
+}
+
+/* What the rule leaves of a held entry. */
+static void lower(struct peers_entry *entry, uint32_t milliseconds) {
+    if (entry->held != 1 || entry->timed != 1) return;
+    if (entry->remaining <= milliseconds) memset(entry, 0, sizeof *entry);
+    else entry->remaining -= milliseconds;
+}
+
+void pass_time(struct peers_store *store, uint32_t milliseconds, uint32_t number) {
+    static struct peers_store expected;
+    memcpy(&expected, store, sizeof expected);
+    for (size_t i = 0; number == 0 && i < PEERS_ENTRIES; i++) lower(&expected.entries[i], milliseconds);
+    CHECK(peers_pass_time(store, milliseconds) == number);
+    CHECK(memcmp(&expected, store, sizeof expected) == 0);
 }

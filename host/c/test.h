@@ -50,6 +50,9 @@ struct peers_outcome call(struct state state, const uint8_t *piece, size_t len, 
 /* Offers bytes until all are taken or the session is closed; every answer but "more wanted" goes to `told`. */
 void offer(struct state state, const uint8_t *bytes, size_t len, void (*told)(const struct peers_outcome *, const uint8_t *));
 
+/* Passes time; the store must be left as the rule says, which is as it was where the number is 4. */
+void pass_time(struct peers_store *store, uint32_t milliseconds, uint32_t number);
+
 /* Each key type with its least and its greatest key length. */
 struct key_lengths {
     uint32_t type, least, most;
@@ -67,6 +70,10 @@ size_t put_int(uint8_t *to, uint64_t value);
 size_t put_message(uint8_t *to, uint8_t kind, const uint8_t *body, size_t len);
 void define(struct state state, uint32_t id, const char *name, uint8_t key_type, uint8_t key_len, uint32_t types);
 void update(struct state state, uint32_t id, const void *key, size_t key_len, const uint64_t *values, size_t count);
+void timed_update(struct state state, uint32_t id, uint32_t time, const void *key, size_t key_len, const uint64_t *values, size_t count);
+
+/* Writes a number big-endian and gives its length. */
+size_t put_four(uint8_t *to, uint32_t number);
 
 /* Groups of tests. */
 void test_layout(const char *file);
@@ -76,6 +83,7 @@ void test_opening(void);
 void test_listing(void);
 void test_definition(void);
 void test_offsets(void);
+void test_times(void);
 void test_unsound(void);
 void test_random(void);
 void test_freeing(void);

@@ -1,6 +1,6 @@
 /*
  * Each kind of fault of a record or a store, one at a time, and what stands next to it on the other side of its boundary. A fault is
- * refused with 4; a call on either side that takes nothing leaves every byte as it was.
+ * refused with 4; a call on either side that takes nothing leaves every byte as it was. Passing time looks at the store alone.
  */
 #include "test.h"
 
@@ -39,13 +39,26 @@ static uint32_t answer(const uint8_t *piece, size_t len) {
     return outcome.number;
 }
 
+/* Passes times on the changed store, which is then as before. */
+static void passes(uint32_t number) {
+    static struct peers_store store;
+    memcpy(&store, t, sizeof store);
+    for (uint32_t i = 0; i < 3; i++) {
+        pass_time(t, (const uint32_t[]){0, 7, UINT32_MAX}[i], number);
+        memcpy(t, &store, sizeof store);
+    }
+}
+
 static bool is_sound(void) {
+    passes(0);
     uint32_t number = answer((const uint8_t *)"", 0);
     return number == (s->connection.closed ? PEERS_REFUSED_CLOSED : PEERS_MORE);
 }
 
 static bool is_refused(void) {
     static const uint8_t heartbeat[] = {0, 4};
+    /* where the store is the one that the case started from, the fault is the record's alone */
+    passes(memcmp(&base_store, t, sizeof base_store) == 0 ? 0 : PEERS_REFUSED_UNSOUND);
     return answer((const uint8_t *)"", 0) == PEERS_REFUSED_UNSOUND && answer(heartbeat, 2) == PEERS_REFUSED_UNSOUND;
 }
 
@@ -191,6 +204,29 @@ static void entries(void) {
     FAULT(t->entries[0].key[63] = 128);
     FAULT(t->entries[2].key[2] = 1);
     FAULT(t->entries[4].key[16] = 255);
+}
+
+/* Marks of a held entry's time; where there is none, the number isn't looked at. */
+static void times(void) {
+    for (size_t i = 0; i < 7; i++) {
+        struct peers_entry *entry = &t->entries[i];
+        for (uint32_t mark = 0; mark < 2; mark++) {
+            SOUND(entry->timed = mark);
+            SOUND(entry->timed = mark; entry->remaining = 7);
+            SOUND(entry->timed = mark; entry->remaining = UINT32_MAX);
+        }
+        for (uint32_t mark = 2; mark < 300; mark++) FAULT(entry->timed = mark);
+        FAULT(entry->timed = 1u << 8 | 1);
+        FAULT(entry->timed = 1u << 16 | 1);
+        FAULT(entry->timed = 1u << 31 | 1);
+        FAULT(entry->timed = UINT32_MAX);
+        FAULT(entry->timed = 2; entry->remaining = UINT32_MAX);
+    }
+    /* a free place isn't looked at, and time doesn't touch it */
+    SOUND(t->entries[7].timed = 2);
+    SOUND(t->entries[7].timed = 1; t->entries[7].remaining = 7);
+    SOUND(t->entries[127].timed = UINT32_MAX; t->entries[127].remaining = UINT32_MAX);
+    SOUND(t->entries[0].timed = 2; t->entries[0].held = 0);
 }
 
 static void values(void) {
@@ -403,6 +439,7 @@ void test_unsound(void) {
     key_types();
     names();
     entries();
+    times();
     values();
     twins();
     connection();

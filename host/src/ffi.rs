@@ -35,12 +35,13 @@ extern "C" {
         room: *mut u8,
         room_len: usize,
     ) -> Outcome;
+    fn peers_pass_time(store: *mut Store, milliseconds: u32) -> u32;
     fn peers_version() -> u32;
 }
 
 /// The version of the calls and that of the structs' layout, as in `include/peers.h`.
-pub const VERSION: u32 = 4;
-pub const LAYOUT: u32 = 2;
+pub const VERSION: u32 = 5;
+pub const LAYOUT: u32 = 3;
 
 /// The archive's version and layout.
 pub fn archive() -> (u32, u32) {
@@ -118,4 +119,10 @@ pub fn read(session: &mut Session, store: &mut Store, piece: &[u8], room: &mut [
             room.len(),
         )
     }
+}
+
+pub fn pass_time(store: &mut Store, milliseconds: u32) -> u32 {
+    check();
+    // SAFETY: the pointer is a reference's.
+    unsafe { peers_pass_time(store, milliseconds) }
 }

@@ -52,6 +52,10 @@ pub struct Entry {
     pub held: u32,
     /// The server ID, if the table has it.
     pub server_id: i32,
+    /// 1 where the entry has a remaining time.
+    pub timed: u32,
+    /// The remaining time in milliseconds; not looked at where `timed` is 0.
+    pub remaining: u32,
     /// The table's place.
     pub table: usize,
     /// The length of the key.

@@ -15,6 +15,8 @@
 //! }
 //! ```
 //!
+//! On its ticks it gives [`Store::pass_time`] the time since the last one, which frees the entries whose time is over.
+//!
 //! The work is done by the static library `libpeers.a`, each of whose functions is proved to meet its contract.
 //! Nothing is global: calls on different sessions and stores can run at the same time.
 //! The first call asks the archive for its version, and panics where it isn't this wrapper's.

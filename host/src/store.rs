@@ -1,11 +1,13 @@
 //! The store: tables and entries, with names for what they hold.
 
+use crate::answer::Refusal;
 use crate::data::{DataType, KeyType};
 use crate::ffi;
 use crate::layout;
 use std::fmt;
+use std::time::Duration;
 
-/// The tables and entries that sessions fill. It takes 46 KB: keep it in a box or in a place of its own.
+/// The tables and entries that sessions fill. It takes 47 KB: keep it in a box or in a place of its own.
 #[derive(Clone, PartialEq, Eq)]
 pub struct Store {
     store: layout::Store,
@@ -89,7 +91,25 @@ impl Store {
         })
     }
 
-    /// Frees the entry at a place, and says whether one was held there. Nothing expires by itself.
+    /// Passes time: entries with at most this much remaining are freed, the times of the others are lowered by it, and entries without a
+    /// remaining time stay. No time frees the entries with none left.
+    ///
+    /// Whole milliseconds count; what is less stays with the host, who adds it to the next time. A host calls it on its ticks with the time
+    /// since the last one, once for each store, whatever sessions there are. Two calls with whole milliseconds leave what one call with their sum leaves.
+    ///
+    /// # Errors
+    ///
+    /// [`Refusal::Unsound`]; the store is then as it was.
+    pub fn pass_time(&mut self, time: Duration) -> Result<(), Refusal> {
+        // as many milliseconds as fit free every entry that has a time, and more would free no other
+        let milliseconds = u32::try_from(time.as_millis()).unwrap_or(u32::MAX);
+        match ffi::pass_time(&mut self.store, milliseconds) {
+            0 => Ok(()),
+            _ => Err(Refusal::Unsound),
+        }
+    }
+
+    /// Frees the entry at a place, and says whether one was held there.
     pub fn free_entry(&mut self, place: usize) -> bool {
         let held = self.entry(place).is_some();
         if held {
@@ -163,7 +183,7 @@ impl fmt::Debug for Table<'_> {
     }
 }
 
-/// Its place, its table's name, its key's bytes and its present values.
+/// Its place, its table's name, its key's bytes, its remaining time and its present values.
 impl fmt::Debug for Entry<'_> {
     fn fmt(&self, f: &mut fmt::Formatter<'_>) -> fmt::Result {
         f.debug_struct("Entry")
@@ -173,6 +193,7 @@ impl fmt::Debug for Entry<'_> {
                 &format_args!("{}", self.table.name().escape_ascii()),
             )
             .field("key", &format_args!("{:02X?}", self.key()))
+            .field("remaining", &self.remaining())
             .field("values", &Present(self.values()))
             .finish()
     }
@@ -256,6 +277,12 @@ impl<'a> Entry<'a> {
     /// Its key.
     pub fn key(&self) -> &'a [u8] {
         front(&self.entry.key, self.entry.key_len)
+    }
+
+    /// Its remaining time as of the last [`Store::pass_time`], if it has one.
+    pub fn remaining(&self) -> Option<Duration> {
+        let time = Duration::from_millis(self.entry.remaining.into());
+        (self.entry.timed == 1).then_some(time)
     }
 
     /// Its value of a data type, if its table has that type.

@@ -50,7 +50,7 @@ pub enum Answer {
         /// The table's place.
         place: usize,
     },
-    /// An update of either form.
+    /// An update of any form.
     Update {
         /// The table's place.
         table: usize,

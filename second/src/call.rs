@@ -1,4 +1,4 @@
-//! Opening and the reading call.
+//! Opening, the reading call and the passing call.
 
 use crate::answer::{Answer, Outcome, Response};
 use crate::handshake::{hello, is_name};
@@ -93,6 +93,19 @@ pub fn read(record: &mut Record, store: &mut Store, piece: &[u8], room: &mut [u8
         reply: write(&response.reply, room),
         answer: response.answer,
     }
+}
+
+/// The answer of a passing call that was carried out.
+pub const PASSED: u8 = 0;
+
+/// Passes time on a store, whatever the sessions are; gives 0, or 4 and no
+/// change on a store that isn't sound.
+pub fn pass_time(store: &mut Store, milliseconds: u32) -> u8 {
+    if !sound::store_is_sound(store) {
+        return refusal::UNSOUND;
+    }
+    store.pass(milliseconds);
+    PASSED
 }
 
 /// Feeds a piece up to and with the first byte at which the model answers.

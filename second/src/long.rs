@@ -83,6 +83,8 @@ pub struct Figures {
     pub sessions: u64,
     /// The number of calls.
     pub calls: u64,
+    /// The number of passing calls.
+    pub passes: u64,
     /// The number of dumps.
     pub dumps: u64,
     /// The number of each answer, refusals by number.
@@ -98,6 +100,7 @@ impl Figures {
             match line.split(' ').next() {
                 Some("open") => self.sessions += 1,
                 Some("session") => self.dumps += 1,
+                Some("passed") => self.passes += 1,
                 Some("took") => self.answer(lines.next().unwrap_or_default()),
                 _ => {}
             }
@@ -127,6 +130,7 @@ impl Figures {
         self.capture_bytes += other.capture_bytes;
         self.sessions += other.sessions;
         self.calls += other.calls;
+        self.passes += other.passes;
         self.dumps += other.dumps;
         for (name, count) in other.answers {
             *self.answers.entry(name).or_default() += count;
@@ -143,6 +147,7 @@ impl fmt::Display for Figures {
         writeln!(f, "capture bytes {}", self.capture_bytes)?;
         writeln!(f, "sessions {}", self.sessions)?;
         writeln!(f, "calls {}", self.calls)?;
+        writeln!(f, "passing calls {}", self.passes)?;
         writeln!(f, "dumps {}", self.dumps)?;
         for (name, count) in &self.answers {
             writeln!(f, "answers {name}: {count}")?;

@@ -7,7 +7,7 @@ use crate::frame::{Frame, TABLE_CLASS};
 use crate::integer::encode;
 use crate::record::{Phase, Record};
 use crate::refusal::{self, Refusal};
-use crate::store::{Entry, Store};
+use crate::store::{Entry, Store, Table};
 
 /// Type of an update.
 pub const UPDATE: u8 = 128;
@@ -18,7 +18,11 @@ pub const DEFINITION: u8 = 130;
 /// Type of a switch.
 pub const SWITCH: u8 = 131;
 /// Type of an acknowledgement.
-pub const ACKNOWLEDGEMENT: u8 = 133;
+pub const ACKNOWLEDGEMENT: u8 = 132;
+/// Type of a timed update.
+pub const TIMED: u8 = 133;
+/// Type of a timed incremental update.
+pub const TIMED_INCREMENTAL: u8 = 134;
 
 /// The control reply to finished and partial.
 pub const CONFIRMED: &[u8] = &[0, 3];
@@ -62,7 +66,7 @@ fn table_message(
     body: &[u8],
 ) -> Result<Response, Refusal> {
     match kind {
-        UPDATE | INCREMENTAL => update(record, store, kind, body),
+        UPDATE | INCREMENTAL | TIMED | TIMED_INCREMENTAL => update(record, store, kind, body),
         DEFINITION => define(record, store, body).map(Response::silent),
         SWITCH => switch(record, body).map(Response::silent),
         ACKNOWLEDGEMENT => acknowledgement(body).map(Response::silent),
@@ -104,7 +108,7 @@ fn agrees(store: &Store, place: usize, definition: &body::Definition) -> bool {
     held.is_some_and(|table| table.agrees(&definition.table))
 }
 
-/// An update of either form.
+/// An update of any form.
 fn update(
     record: &mut Record,
     store: &mut Store,
@@ -116,9 +120,11 @@ fn update(
     let held = store.table(table).ok_or(refusal::UNBOUND)?;
     let mut fields = Fields::new(body);
     let id = update_id(record.previous[table], kind, &mut fields)?;
+    let remaining = remaining(held, kind, &mut fields)?;
     let key = body::key(&mut fields, held)?;
     let values = body::values(&mut fields, held)?;
-    let (entry, commit) = commit(store, Entry::new(table, key, values))?;
+    let entry = Entry::new(table, key, values).lasting(remaining);
+    let (entry, commit) = commit(store, entry)?;
     record.previous[table] = Some(u64::from(id));
     let answer = Answer::Update {
         table,
@@ -131,11 +137,20 @@ fn update(
 
 /// The ID of an update: its first field, or the one after the previous ID.
 fn update_id(previous: Option<u64>, kind: u8, fields: &mut Fields) -> Result<u32, Refusal> {
-    if kind == UPDATE {
+    if matches!(kind, UPDATE | TIMED) {
         return fields.four_bytes();
     }
     let previous = previous.ok_or(refusal::PREVIOUS)?;
     Ok((previous as u32).wrapping_add(1))
+}
+
+/// The remaining time of an update's entry: the message's, or else the table's
+/// expiry, if it has one.
+fn remaining(table: &Table, kind: u8, fields: &mut Fields) -> Result<Option<u64>, Refusal> {
+    match kind {
+        TIMED | TIMED_INCREMENTAL => Ok(Some(fields.four_bytes()?.into())),
+        _ => Ok(table.times.as_ref().map(|times| times.expiry)),
+    }
 }
 
 /// Puts an entry into the store and gives its place.

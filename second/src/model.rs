@@ -1,4 +1,6 @@
 //! The byte model: a session fed one byte at a time.
+//!
+//! Passing time is a step on the store alone, [`Store::pass`].
 
 use crate::answer::{Answer, Response};
 use crate::frame::frame;

@@ -1,7 +1,7 @@
 //! The replay script: its commands, their output and the dump.
 
 use crate::answer::Outcome;
-use crate::call::{open, read, Opening, OPENING_ROOM};
+use crate::call::{open, pass_time, read, Opening, OPENING_ROOM};
 use crate::datatype;
 use crate::listing::{add_line, add_reply, answer_line, hex, OUR_NAME, PEER_NAME};
 use crate::record::{Phase, Record, Role};
@@ -29,6 +29,8 @@ pub enum Command<'a> {
         /// The piece.
         piece: &'a [u8],
     },
+    /// `T`: one passing call with this many milliseconds.
+    Pass(u32),
     /// `D`: a dump.
     Dump,
 }
@@ -43,6 +45,10 @@ impl Command<'_> {
                 script.extend([b'C', *room]);
                 script.extend((piece.len() as u16).to_be_bytes());
                 script.extend_from_slice(piece);
+            }
+            Command::Pass(milliseconds) => {
+                script.push(b'T');
+                script.extend(milliseconds.to_be_bytes());
             }
             Command::Dump => script.push(b'D'),
         }
@@ -73,6 +79,10 @@ pub fn command(script: &[u8]) -> Option<(Command<'_>, &[u8])> {
         [b'O', role, rest @ ..] => Some((Command::Open(role_of(*role)?), rest)),
         [b'N', role, rest @ ..] => Some((Command::Reconnect(role_of(*role)?), rest)),
         [b'D', rest @ ..] => Some((Command::Dump, rest)),
+        [b'T', a, b, c, d, rest @ ..] => {
+            let milliseconds = u32::from_be_bytes([*a, *b, *c, *d]);
+            Some((Command::Pass(milliseconds), rest))
+        }
         [b'C', room, high, low, rest @ ..] => {
             let length = usize::from(u16::from_be_bytes([*high, *low]));
             let piece = rest.get(..length)?;
@@ -123,6 +133,10 @@ fn carry_out(command: Command, state: &mut Option<(Record, Store)>, output: &mut
     match command {
         Command::Open(role) | Command::Reconnect(role) => *record = opened(role, output),
         Command::Call { room, piece } => call(record, store, room, piece, output),
+        Command::Pass(milliseconds) => {
+            let number = pass_time(store, milliseconds);
+            add_line(output, &format!("passed {number}"));
+        }
         Command::Dump => dump(record, store, output),
     }
     true
@@ -224,7 +238,10 @@ fn table_line(place: usize, table: &Table) -> String {
 fn entry_line(place: usize, entry: &Entry, store: &Store) -> String {
     let key = hex_or_dash(entry.key());
     let data_types = store.table(entry.table).map_or(0, |table| table.data_types);
-    let mut words = vec![format!("entry {place} {} {key}", entry.table)];
+    let remaining = entry
+        .remaining
+        .map_or("-".into(), |time| format!("T{time}"));
+    let mut words = vec![format!("entry {place} {} {key} {remaining}", entry.table)];
     for (number, &value) in datatype::values(data_types).into_iter().zip(&entry.values) {
         words.push(value_word(number, value));
     }

@@ -32,6 +32,7 @@ pub fn store_is_sound(store: &Store) -> bool {
         && entry_keys_are_padded(store)
         && value_counts_match(store)
         && values_are_within_range(store)
+        && remaining_times_are_32_bit(store)
         && entries_are_distinct(store)
 }
 
@@ -169,6 +170,11 @@ pub fn values_are_within_range(store: &Store) -> bool {
         let mut pairs = types.iter().zip(&entry.values);
         pairs.all(|(&number, &value)| datatype::fits(number, value))
     })
+}
+
+/// An entry's remaining time is at most 2^32 - 1.
+pub fn remaining_times_are_32_bit(store: &Store) -> bool {
+    entries(store).all(|entry| entry.remaining.is_none_or(|time| time <= MAX_32))
 }
 
 /// No two entries have one table and key.

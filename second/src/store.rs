@@ -87,10 +87,12 @@ pub struct Entry {
     pub key: [u8; KEY_LIMIT],
     /// The values as encoded integers, in the order of an update.
     pub values: Vec<u64>,
+    /// The remaining time in milliseconds, if it has one.
+    pub remaining: Option<u64>,
 }
 
 impl Entry {
-    /// An entry with a key of at most [`KEY_LIMIT`] bytes.
+    /// An entry with a key of at most [`KEY_LIMIT`] bytes and no remaining time.
     pub fn new(table: usize, key: &[u8], values: Vec<u64>) -> Entry {
         let mut padded = [0; KEY_LIMIT];
         padded[..key.len()].copy_from_slice(key);
@@ -99,6 +101,21 @@ impl Entry {
             key_length: key.len(),
             key: padded,
             values,
+            remaining: None,
+        }
+    }
+
+    /// The entry with this remaining time.
+    pub fn lasting(self, remaining: Option<u64>) -> Entry {
+        Entry { remaining, ..self }
+    }
+
+    /// What is left of the entry after some time; `None` if it's removed.
+    fn after(self, milliseconds: u64) -> Option<Entry> {
+        match self.remaining {
+            None => Some(self),
+            Some(time) if time <= milliseconds => None,
+            Some(time) => Some(self.lasting(Some(time - milliseconds))),
         }
     }
 
@@ -155,6 +172,14 @@ impl Store {
     /// The lowest free table place.
     pub fn free_table(&self) -> Option<usize> {
         self.tables.iter().position(Option::is_none)
+    }
+
+    /// Passes time: entries with no more than this left are removed, the time
+    /// of the others is lowered.
+    pub fn pass(&mut self, milliseconds: u32) {
+        for place in &mut self.entries {
+            *place = place.take().and_then(|e| e.after(milliseconds.into()));
+        }
     }
 
     /// The lowest free entry place.

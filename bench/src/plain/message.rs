@@ -6,6 +6,15 @@ use super::wire::{write_int, Reader};
 use super::{Judged, Refusal, Settled};
 use crate::layout::{Binding, Connection, Entry, Store, Table, KEY_MAX, NAME_MAX, RATES, VALUES};
 
+/// Types of stick table messages.
+const UPDATE: u8 = 128;
+const INCREMENTAL: u8 = 129;
+const DEFINITION: u8 = 130;
+const SWITCH: u8 = 131;
+const ACKNOWLEDGEMENT: u8 = 132;
+const TIMED: u8 = 133;
+const TIMED_INCREMENTAL: u8 = 134;
+
 /// The rate types, ascending.
 pub const RATE_TYPES: [u8; RATES] = [3, 5, 8, 10, 12, 14, 16, 18];
 
@@ -66,11 +75,10 @@ fn stick_table(
     body: &[u8],
 ) -> Result<Settled, Refusal> {
     match kind {
-        128 => update(connection, store, body, false),
-        129 => update(connection, store, body, true),
-        130 => definition(connection, store, body),
-        131 => switch(connection, body),
-        133 => acknowledgement(body),
+        UPDATE | INCREMENTAL | TIMED | TIMED_INCREMENTAL => update(connection, store, kind, body),
+        DEFINITION => definition(connection, store, body),
+        SWITCH => switch(connection, body),
+        ACKNOWLEDGEMENT => acknowledgement(body),
         _ => Ok(Settled::new(269, &[kind.into()], &[])),
     }
 }
@@ -182,17 +190,32 @@ fn acknowledgement(body: &[u8]) -> Result<Settled, Refusal> {
 
 /// The fields of an update but for its ID.
 struct Fields<'a> {
+    remaining: Option<u32>,
     key: &'a [u8],
     server_id: i32,
     values: [u64; VALUES],
 }
 
-fn entry_fields<'a>(reader: &mut Reader<'a>, table: &Table) -> Result<Fields<'a>, Refusal> {
+/// The remaining time: the message's own, else the table's expiry, if it has one.
+fn remaining(reader: &mut Reader, table: &Table, timed: bool) -> Result<Option<u32>, Refusal> {
+    match timed {
+        true => reader.number().map(Some),
+        false => Ok((table.timed == 1).then_some(table.expiry)),
+    }
+}
+
+fn entry_fields<'a>(
+    reader: &mut Reader<'a>,
+    table: &Table,
+    timed: bool,
+) -> Result<Fields<'a>, Refusal> {
+    let remaining = remaining(reader, table, timed)?;
     let key_len = match KeyType::of_table(table) {
         Some(KeyType::String) => reader.within(0, table.key_len.into())? as usize,
         _ => table.key_len as usize,
     };
     let mut fields = Fields {
+        remaining,
         key: reader.bytes(key_len)?,
         server_id: 0,
         values: [0; VALUES],
@@ -215,9 +238,11 @@ fn entry_fields<'a>(reader: &mut Reader<'a>, table: &Table) -> Result<Fields<'a>
 fn update(
     connection: &mut Connection,
     store: &mut Store,
+    kind: u8,
     body: &[u8],
-    incremental: bool,
 ) -> Result<Settled, Refusal> {
+    let incremental = matches!(kind, INCREMENTAL | TIMED_INCREMENTAL);
+    let timed = matches!(kind, TIMED | TIMED_INCREMENTAL);
     let place = connection.current.checked_sub(1).ok_or(27)? as usize;
     let binding = &mut connection.bindings[place];
     if incremental && binding.updated != 1 {
@@ -228,7 +253,7 @@ fn update(
         true => binding.previous.wrapping_add(1),
         false => reader.number()?,
     };
-    let fields = entry_fields(&mut reader, &store.tables[place])?;
+    let fields = entry_fields(&mut reader, &store.tables[place], timed)?;
     let (entry, replaced) = entry_place(store, place, fields.key)?;
     put_entry(&mut store.entries[entry], place, &fields);
     binding.updated = 1;
@@ -254,6 +279,8 @@ fn entry_place(store: &Store, table: usize, key: &[u8]) -> Result<(usize, bool),
 fn put_entry(entry: &mut Entry, table: usize, fields: &Fields) {
     entry.held = 1;
     entry.server_id = fields.server_id;
+    entry.timed = fields.remaining.is_some().into();
+    entry.remaining = fields.remaining.unwrap_or(0);
     entry.table = table;
     entry.key_len = fields.key.len();
     entry.key = [0; KEY_MAX];
@@ -264,7 +291,7 @@ fn put_entry(entry: &mut Entry, table: usize, fields: &Fields) {
 /// Writes the acknowledgement of an update and gives its length.
 fn acknowledge(reply: &mut [u8; 12], id: u32, update: u32) -> usize {
     let len = write_int(&mut reply[3..], id.into());
-    reply[..3].copy_from_slice(&[10, 133, 4 + len as u8]);
+    reply[..3].copy_from_slice(&[10, ACKNOWLEDGEMENT, 4 + len as u8]);
     reply[3 + len..7 + len].copy_from_slice(&update.to_be_bytes());
     7 + len
 }

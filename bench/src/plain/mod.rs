@@ -6,12 +6,14 @@ mod handshake;
 mod key_type;
 mod message;
 mod sound;
+mod time;
 mod wire;
 
 use crate::layout::{Connection, Outcome, Session, Store, UNFINISHED_MAX};
 
 use sound::is_sound;
 pub use sound::mark;
+pub use time::pass_time;
 
 /// Room that a reading call asks for.
 const READING_ROOM: usize = 12;

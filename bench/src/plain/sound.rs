@@ -17,7 +17,7 @@ pub fn is_sound(session: &Session, store: &Store) -> bool {
 
 // ---- the store
 
-fn store_is_sound(store: &Store) -> bool {
+pub fn store_is_sound(store: &Store) -> bool {
     store.tables.iter().all(table_is_sound)
         && names_are_distinct(&store.tables)
         && store.entries.iter().all(|e| entry_is_sound(store, e))
@@ -67,6 +67,7 @@ fn entry_fits(table: &Table, entry: &Entry) -> bool {
         value <= u32::MAX.into() || is_wide(t) || !has(table.data_types, t)
     };
     length_fits
+        && entry.timed <= 1
         && entry.key[entry.key_len..].iter().all(|&b| b == 0)
         && entry.values.iter().zip(&SLOT_TYPES).all(slot_fits)
 }

@@ -56,6 +56,20 @@ const BOUNDARIES: &[(Change, Change)] = &[
         |_, t| t.entries[0].key[3] = 255,
         |_, t| t.entries[0].key[4] = 1,
     ),
+    (|_, t| t.entries[0].timed = 1, |_, t| t.entries[0].timed = 2),
+    (
+        |_, t| (t.entries[5].timed, t.entries[5].remaining) = (0, 7),
+        |_, t| (t.entries[5].timed, t.entries[5].remaining) = (257, 7),
+    ),
+    (
+        |_, t| t.entries[0].remaining = u32::MAX,
+        |_, t| t.entries[0].timed = u32::MAX,
+    ),
+    (
+        |_, t| (t.entries[0].timed, t.entries[0].held) = (2, 0),
+        |_, t| (t.entries[0].timed, t.entries[0].held) = (2, 1),
+    ),
+    (|_, t| t.entries[6].timed = 2, |_, t| t.entries[5].timed = 2),
     (
         |_, t| t.entries[4].values[0] = 0xFFFF_FFFF,
         |_, t| t.entries[4].values[0] = 1 << 32,

@@ -49,8 +49,23 @@ impl Both {
         told.1
     }
 
-    /// Whether the state is unsound: calls with all pieces say the same.
+    /// One passing call of each: its number.
+    fn pass(&mut self, milliseconds: u32) -> u32 {
+        let number = self.library.pass(milliseconds);
+        assert_eq!(number, self.plain.pass(milliseconds));
+        assert!(*self.library.session.layout() == self.plain.session);
+        assert!(self.library.store.layout() == &*self.plain.store);
+        number
+    }
+
+    /// Whether the state is unsound: calls with all pieces say the same. Passing calls agree on whether the store is.
     fn is_unsound(&self) -> bool {
+        let refused = self.clone().pass(0) == UNSOUND;
+        for time in [0, 7, 60_000, u32::MAX] {
+            let mut both = self.clone();
+            assert_eq!(both.pass(time) == UNSOUND, refused);
+            assert_eq!(both.pass(1) == UNSOUND, refused);
+        }
         let unsound = self.clone().call(b"", 12) == UNSOUND;
         let pieces = [&[0, 4][..], &message(200, b"x"), &update(b"\x02ab", 35)];
         for piece in pieces {
@@ -59,6 +74,10 @@ impl Both {
             assert_eq!(both.call(piece, 12) == UNSOUND, unsound);
             both.call(piece, 12);
         }
+        assert!(
+            unsound || !refused,
+            "a call takes a store that time can't pass in"
+        );
         unsound
     }
 }
@@ -75,13 +94,19 @@ fn update(key: &[u8], values: u8) -> Vec<u8> {
     message(128, &[&[0, 0, 0, 9], key, &values].concat())
 }
 
-/// Five tables with entries 0 to 5, the last table current; strings have all data types.
+/// The same with 7 milliseconds remaining.
+fn timed_update(key: &[u8], values: u8) -> Vec<u8> {
+    let values: Vec<u8> = (0..values).collect();
+    message(133, &[&[0, 0, 0, 9, 0, 0, 0, 7], key, &values].concat())
+}
+
+/// Five tables with entries 0 to 5, the last table current; strings have all data types. Entries 1 and 5 have a time.
 fn five_tables() -> Vec<u8> {
     [
         HELLO.to_vec(),
         define(0, KeyType::Integer, 4, 1 << 2),
         update(b"int0", 1),
-        update(b"int1", 1),
+        timed_update(b"int1", 1),
         define(1, KeyType::Ipv4, 4, 0),
         define(2, KeyType::Ipv6, 16, 0),
         update(&[6; 16], 0),
@@ -89,7 +114,7 @@ fn five_tables() -> Vec<u8> {
         update(&[7; 64], 0),
         define(4, KeyType::String, 8, 0x7_FFFF),
         update(b"\x02ab", 35),
-        update(b"\x03abc", 35),
+        timed_update(b"\x03abc", 35),
     ]
     .concat()
 }

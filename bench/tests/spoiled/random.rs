@@ -94,7 +94,7 @@ fn spoil_entry(random: &mut Random, store: &mut Store) {
     });
     let copy = store.entries[other];
     let entry = &mut store.entries[place];
-    match random.below(8) {
+    match random.below(10) {
         0 => random.spoil_word(&mut entry.held),
         1 => entry.server_id = random.below(256) as i32 - 128,
         2 => random.spoil_size(&mut entry.table),
@@ -102,6 +102,8 @@ fn spoil_entry(random: &mut Random, store: &mut Store) {
         4 => random.spoil(&mut entry.key),
         5 => entry.values[random.below(34)] = random.power(),
         6 => entry.key = copy.key,
+        7 => random.spoil_word(&mut entry.timed),
+        8 => random.spoil_word(&mut entry.remaining),
         _ => *entry = copy,
     }
 }
@@ -120,6 +122,7 @@ fn calls_agree(random: &mut Random, both: &mut Both) -> bool {
     for _ in 0..2 {
         let room = [11, 12, 15][random.below(3)];
         both.call(&pieces[random.below(pieces.len())], room);
+        both.pass([0, 7, u32::MAX][random.below(3)]);
     }
     unsound
 }

@@ -14,8 +14,9 @@ use Rattle.wire.proofs.Behind.{int-behind, number-behind, server-behind}
 use Rattle.store.specs.declared.Table.{Table}
 use Rattle.store.specs.Limits.{nameMax, keyKind, isString, keyLengthOk, dataTypesOk, present, widthOf, slotTypes, rateTypes}
 use Rattle.body.specs.declared.Failure.the-variants as failure
+use Rattle.body.specs.declared.update.Form.{Form}
 use Rattle.body.specs.Fields.{Read, got, failed, fault, short, Reader, andThen, forEach, tested, integer, between, integerOf, bytes, Span, numberRead, number4, serverRead, serverId}
-use Rattle.body.specs.Bodies.{nameField, namedFields, isKeyType, shapeFields, pairField, periodField, periodFields, Times, noTimes, timesThere, timesFields, Definition, defined, restFields, definitionFields, switchFields, Acknowledged, acknowledgementFields, stringField, keyField, serverField, slotField, valueFields, dataFields, Update, entryFields, updateFields, incrementalFields}
+use Rattle.body.specs.Bodies.{nameField, namedFields, isKeyType, shapeFields, pairField, periodField, periodFields, Times, noTimes, timesThere, timesFields, Definition, defined, restFields, definitionFields, switchFields, Acknowledged, acknowledgementFields, stringField, keyField, serverField, slotField, valueFields, dataFields, Time, Update, entryFields, numberOr, timeMark, timedFields, updateFields}
 use Rattle.body.proofs.Within.{shape-end}
 use Rattle.body.proofs.Spans.{span-behind}
 
@@ -149,26 +150,31 @@ steady-data types =
     steady-then (valueFields types) _ (steady-each (slotField types) (steady-slot types) slotTypes) λ values.
     steady-got _
 
-pub steady-entry : (t : Table) (id : ℕ) → Steady (entryFields t id)
+pub steady-entry : (t : Table) (id : ℕ) (time : Time) → Steady (entryFields t id time)
 unfolding entryFields
-steady-entry t id =
+steady-entry t id time =
     steady-then (keyField (t .«key_type») (t .«key_len»)) _ (steady-key (t .«key_type») (t .«key_len»)) λ key.
     steady-then (dataFields (t .«data_types»)) _ (steady-data (t .«data_types»)) λ d.
     steady-got _
 
--- ---- whole bodies
-pub update-behind : (t : Table) (body more : List ℕ) (u : Update) (next : ℕ)
-    → updateFields t body ≡ got u next → updateFields t (body ++ more) ≡ got u next
-unfolding updateFields
-update-behind t body more u next e =
-    behind (λ s at. andThen (number4 s at) λ id n. entryFields t id s n)
-    (steady-then number4 _ steady-number λ id. steady-entry t id)
-    body more 0 u next e
+steady-number-or : (there : Bool) (known : ℕ) → Steady (numberOr there known)
+unfolding numberOr
+steady-number-or there known = steady-cond there number4 (λ s at. got known at) steady-number (steady-got known)
 
-pub incremental-behind : (t : Table) (id : ℕ) (body more : List ℕ) (u : Update) (next : ℕ)
-    → incrementalFields t id body ≡ got u next → incrementalFields t id (body ++ more) ≡ got u next
-unfolding incrementalFields
-incremental-behind t id body more u next e = behind (entryFields t id) (steady-entry t id) body more 0 u next e
+steady-timed : (form : Form) (t : Table) (id : ℕ) → Steady (timedFields form t id)
+unfolding timedFields
+steady-timed form t id =
+    steady-then (numberOr (form .timed) (t .expiry)) _ (steady-number-or (form .timed) (t .expiry)) λ remaining.
+    steady-entry t id (record { timed = timeMark form t; remaining = remaining })
+
+-- ---- whole bodies
+pub update-behind : (form : Form) (t : Table) (following : ℕ) (body more : List ℕ) (u : Update) (next : ℕ)
+    → updateFields form t following body ≡ got u next → updateFields form t following (body ++ more) ≡ got u next
+unfolding updateFields
+update-behind form t following body more u next e =
+    behind (λ s at. andThen (numberOr (form .explicit) following s at) λ id n. timedFields form t id s n)
+    (steady-then (numberOr (form .explicit) following) _ (steady-number-or (form .explicit) following) λ id. steady-timed form t id)
+    body more 0 u next e
 
 pub switch-behind : (body more : List ℕ) (id next : ℕ) → switchFields body ≡ got id next → switchFields (body ++ more) ≡ got id next
 unfolding switchFields

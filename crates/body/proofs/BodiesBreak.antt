@@ -17,7 +17,9 @@ use Rattle.store.specs.declared.Table.{Table}
 use Rattle.store.specs.Limits.{nameMax, plainName, keyKind, isString}
 use Rattle.body.specs.declared.Fault.{Fault}
 use Rattle.body.specs.Fields.{Read, got, failed, short, unplain, Reader, andThen, integer, between, integerOf, Span, spanIn, bytes, numberRead, number4}
-use Rattle.body.specs.Bodies.{Named, nameField, namedFields, Shape, shapeFields, Times, noTimes, timesThere, timesFields, Definition, defined, restFields, definitionFields, switchFields, Acknowledged, acknowledgementFields, stringField, keyField, dataFields, keyed, entryFields, updateFields, incrementalFields}
+use Rattle.body.specs.Bodies.{Named, nameField, namedFields, Shape, shapeFields, Times, noTimes, timesThere, timesFields, Definition, defined, restFields, definitionFields, switchFields, Acknowledged, acknowledgementFields, stringField, keyField, dataFields, Time, keyed, entryFields, numberOr, timeMark, timedFields, updateFields}
+use Rattle.body.specs.declared.update.Form.{Form}
+use Rattle.body.specs.Encodings.{entryStart}
 use Rattle.body.specs.Breaks.{Reached, NotBefore, Sized, noneSized, definitionSized, acknowledgementSized, keySized, updateSized, cutSized, Broke, Breaks, BodiesBreak}
 use Rattle.body.proofs.Taken.{integer-value}
 use Rattle.body.proofs.Breaking.{BrokeAt, BreaksAt, Regular, Ordinary, why-too, then-breaks, then-regular, next-regular, next-breaks, got-regular, cond-regular}
@@ -263,29 +265,29 @@ module _ (sized : Sized) (t : Table) (at : ℕ)
       (λ p. string-regular sized (t .«key_len») at (string p) u k)
       (λ p. bytes-regular sized (t .«key_len») u at k (λ z. cutSized (t .«key_len») (other p u) z))
 
-  data-then : (id : ℕ) (key : Span) (u : List ℕ) (n : ℕ) → n ≤ length u
-      → BreaksAt (λ v k. andThen (dataFields (t .«data_types») v k) λ d m. got (keyed id key d) m) u n sized
-  data-then id key u n k =
+  data-then : (id : ℕ) (time : Time) (key : Span) (u : List ℕ) (n : ℕ) → n ≤ length u
+      → BreaksAt (λ v k. andThen (dataFields (t .«data_types») v k) λ d m. got (keyed id time key d) m) u n sized
+  data-then id time key u n k =
       next-regular sized (dataFields (t .«data_types»)) _ n u k (data-regular sized (t .«data_types»)) (λ v d m i q. got-regular sized _ v m i) .breaks
 
-  entry-breaks : (id : ℕ) (s : List ℕ) → at ≤ length s → BreaksAt (entryFields t id) s at sized
+  entry-breaks : (id : ℕ) (time : Time) (s : List ℕ) → at ≤ length s → BreaksAt (entryFields t id time) s at sized
   unfolding entryFields
-  entry-breaks id s l =
-      then-breaks sized (keyField (t .«key_type») (t .«key_len»)) _ at s (λ u k b. key-regular u k) (λ u key n k b e. data-then id key u n k) s l refl
+  entry-breaks id time s l =
+      then-breaks sized (keyField (t .«key_type») (t .«key_len»)) _ at s (λ u k b. key-regular u k) (λ u key n k b e. data-then id time key u n k) s l refl
 
   -- the key is read before any field behind it
-  entry-apart : (id : ℕ) (s : List ℕ) → at ≤ length s → (x : Fault) → entryFields t id s at ≡ failed x → (start n : ℕ) → keySized t at s start n
-      → start < x .start → start + n ≤ x .start
+  entry-apart : (id : ℕ) (time : Time) (s : List ℕ) → at ≤ length s → (x : Fault) → entryFields t id time s at ≡ failed x → (start n : ℕ)
+      → keySized t at s start n → start < x .start → start + n ≤ x .start
   unfolding entryFields
-  entry-apart id s l x e start n d b =
+  entry-apart id time s l x e start n d b =
       split (then-failed (keyField (t .«key_type») (t .«key_len») s at) _ x e)
       (λ f. absurd (key-fails t s at start n x f d b))
       (λ a.
       let w = key-regular s l .values (a .0) (a .1 .0) (a .1 .1 .0) in
-      let o = data-then id (a .0) s (a .1 .0) (w .end) x (a .1 .1 .1) .from in
+      let o = data-then id time (a .0) s (a .1 .0) (w .end) x (a .1 .1 .1) .from in
       omega (arith, o, key-end t s at start n (a .0) (a .1 .0) (a .1 .1 .0) d))
 
--- ---- an update: its ID takes four bytes
+-- ---- an update: its ID and its remaining time take four bytes each, where it has them
 number-end : (s : List ℕ) (at v next : ℕ) → number4 s at ≡ got v next → next ≡ at + 4
 unfolding number4 numberRead
 number-end s at v next e =
@@ -293,50 +295,128 @@ number-end s at v next e =
     (λ l. absurd (let q : short at ≡ got v next = rw (number-short s at l) at e in let w : _≡_ {A = ℕ} 0 1 = cc in omega (arith, w)))
     (λ l. let q = rw (number-value s at l) at e in cc)
 
-module _ (t : Table) where
-  behind-id : (id : ℕ) (s : List ℕ) → 4 ≤ length s → BreaksAt (entryFields t id) s 4 (updateSized t)
-  behind-id = entry-breaks (updateSized t) t 4 (λ p u start n e. inr (inl (p, e))) (λ p u. inr (inr (p, (refl, refl))))
+number-or-end : (there : Bool) (known : ℕ) (s : List ℕ) (at v next : ℕ) → numberOr there known s at ≡ got v next → next ≡ at + cond there 4 0
+unfolding numberOr
+number-or-end true known s at v next e = number-end s at v next e
+number-or-end false known s at v next e = let q : at ≡ next = cc in omega (arith, q)
 
-  update-at : (body : List ℕ) → BreaksAt (λ s at. andThen (number4 s at) λ id n. entryFields t id s n) body 0 (updateSized t)
-  update-at body =
-      then-breaks (updateSized t) number4 (λ id u n. entryFields t id u n) 0 body
-      (λ u k b. number-regular (updateSized t) u 0 k (inl (refl, refl)))
+number-or-starts : (there : Bool) (known : ℕ) (s : List ℕ) (at : ℕ) (x : Fault) → numberOr there known s at ≡ failed x → x .start ≡ at
+unfolding numberOr
+number-or-starts true known s at x e = number-starts s at x e
+number-or-starts false known s at x e = absurd (not-failed _ _ x e)
+
+number-or-regular : (sized : Sized) (there : Bool) (known : ℕ) (s : List ℕ) (at : ℕ) → at ≤ length s → (there ≡ true → sized s at 4)
+    → Regular (numberOr there known) s at sized
+unfolding numberOr
+number-or-regular sized there known s at l h =
+    cond-regular sized there number4 (λ b n. got known n) s at (λ p. number-regular sized s at l (h p)) (λ p. got-regular sized known s at l)
+
+module _ (form : Form) (t : Table) where
+  abbrev sized : Sized
+  sized = updateSized form t
+
+  -- where the remaining time stands
+  abbrev idEnd : ℕ
+  idEnd = cond (form .explicit) 4 0
+
+  id-end : (following : ℕ) (s : List ℕ) (v next : ℕ) → numberOr (form .explicit) following s 0 ≡ got v next → next ≡ idEnd
+  id-end following s v next e = omega (arith, number-or-end (form .explicit) following s 0 v next e)
+
+  -- the ID takes all bytes before the remaining time, which takes those before the key
+  id-four : form .explicit ≡ true → idEnd ≡ 4
+  id-four p = rw p
+
+  time-four : form .timed ≡ true → entryStart form ≡ idEnd + 4
+  unfolding entryStart
+  time-four p = rw p
+
+  id-first : idEnd ≤ entryStart form
+  unfolding entryStart
+  id-first = omega arith
+
+  key-last : (s : List ℕ) (start n : ℕ) → keySized t (entryStart form) s start n → entryStart form ≤ start
+  key-last s start n d = split d (λ h. omega (arith, advance s (entryStart form) n start (h .1) .0)) (λ h. omega (arith, h .1 .0))
+
+  time-sized : (s : List ℕ) → form .timed ≡ true → sized s idEnd 4
+  unfolding entryStart
+  time-sized s p = inr (inl (p, (rw p, refl)))
+
+  -- and key and data behind it
+  time-end : (s : List ℕ) (v next : ℕ) → numberOr (form .timed) (t .expiry) s idEnd ≡ got v next → next ≡ entryStart form
+  unfolding entryStart
+  time-end s v next e = number-or-end (form .timed) (t .expiry) s idEnd v next e
+
+  behind-time : (id : ℕ) (time : Time) (s : List ℕ) → entryStart form ≤ length s → BreaksAt (entryFields t id time) s (entryStart form) sized
+  behind-time =
+      entry-breaks sized t (entryStart form) (λ p u start n e. inr (inr (inl (p, e)))) (λ p u. inr (inr (inr (p, (refl, refl)))))
+
+  behind-id : (id : ℕ) (s : List ℕ) → idEnd ≤ length s → BreaksAt (timedFields form t id) s idEnd sized
+  unfolding timedFields
+  behind-id id s l =
+      then-breaks sized (numberOr (form .timed) (t .expiry)) _ idEnd s
+      (λ u k b. number-or-regular sized (form .timed) (t .expiry) u idEnd k (time-sized u))
+      (λ u remaining n k b q.
+      let z = time-end u remaining n q in
+      let time : Time = record { timed = timeMark form t; remaining = remaining } in
+      subst (λ (j : ℕ). BreaksAt (entryFields t id time) u j sized) (sym z) (behind-time id time u (omega (arith, k, z))))
+      s l refl
+
+  update-at : (following : ℕ) (body : List ℕ)
+      → BreaksAt (λ s at. andThen (numberOr (form .explicit) following s at) λ id n. timedFields form t id s n) body 0 sized
+  update-at following body =
+      then-breaks sized (numberOr (form .explicit) following) (λ id u n. timedFields form t id u n) 0 body
+      (λ u k b. number-or-regular sized (form .explicit) following u 0 k (λ p. inl (p, (refl, refl))))
       (λ u id n k b q.
-      let z = number-end u 0 id n q in
-      subst (λ (j : ℕ). BreaksAt (entryFields t id) u j (updateSized t)) (sym z) (behind-id id u (omega (arith, k, z))))
+      let z : n ≡ idEnd = id-end following u id n q in
+      subst (λ (j : ℕ). BreaksAt (timedFields form t id) u j sized) (sym z) (behind-id id u (omega (arith, k, z))))
       body (omega arith) refl
 
-  update-apart : (body : List ℕ) (x : Fault) → updateFields t body ≡ failed x → (at n : ℕ) → updateSized t body at n → at < x .start → at + n ≤ x .start
-  unfolding updateFields
-  update-apart body x e at n d l =
-      split (then-failed (number4 body 0) _ x e)
-      (λ f. absurd (omega (arith, number-starts body 0 x f)))
-      (λ a.
-      let z = number-end body 0 (a .0) (a .1 .0) (a .1 .1 .0) in
-      let w = number-regular (updateSized t) body 0 (omega arith) (inl (refl, refl)) .values (a .0) (a .1 .0) (a .1 .1 .0) in
-      let k : 4 ≤ length body = omega (arith, w .end, z) in
-      let g = subst (λ (j : ℕ). entryFields t (a .0) body j ≡ failed x) z (a .1 .1 .1) in
+  timed-apart : (id : ℕ) (s : List ℕ) → idEnd ≤ length s → (x : Fault) → timedFields form t id s idEnd ≡ failed x
+      → (at n : ℕ) → sized s at n → at < x .start → at + n ≤ x .start
+  unfolding timedFields
+  timed-apart id s l x e at n d b =
+      split (then-failed (numberOr (form .timed) (t .expiry) s idEnd) _ x e)
+      (λ f.
+      let w = number-or-starts (form .timed) (t .expiry) s idEnd x f in
       split d
-      (λ h. omega (arith, behind-id (a .0) body k x g .from, h .0, h .1))
-      (λ h. entry-apart (updateSized t) t 4 (λ p u start m q. inr (inl (p, q))) (λ p u. inr (inr (p, (refl, refl)))) (a .0) body k x g at n h l))
+      (λ h. omega (arith, id-four (h .0), h .1 .0, h .1 .1, w))
+      (λ r.
+      split r
+      (λ h. absurd (omega (arith, time-four (h .0), h .1 .0, w)))
+      (λ h. absurd (omega (arith, key-last s at n h, id-first, w)))))
+      (λ a.
+      let z = time-end s (a .0) (a .1 .0) (a .1 .1 .0) in
+      let w = number-or-regular sized (form .timed) (t .expiry) s idEnd l (time-sized s) .values (a .0) (a .1 .0) (a .1 .1 .0) in
+      let k : entryStart form ≤ length s = omega (arith, w .end, z) in
+      let time : Time = record { timed = timeMark form t; remaining = a .0 } in
+      let g = subst (λ (j : ℕ). entryFields t id time s j ≡ failed x) z (a .1 .1 .1) in
+      let o = behind-time id time s k x g .from in
+      split d
+      (λ h. omega (arith, id-four (h .0), h .1 .0, h .1 .1, id-first, o))
+      (λ r.
+      split r
+      (λ h. omega (arith, h .1 .0, h .1 .1, o))
+      (λ h.
+      entry-apart sized t (entryStart form) (λ p u start m q. inr (inr (inl (p, q)))) (λ p u. inr (inr (inr (p, (refl, refl)))))
+      id time s k x g at n h b)))
 
-  update-breaks : Breaks (updateFields t) (updateSized t)
+  update-apart : (following : ℕ) (body : List ℕ) (x : Fault) → updateFields form t following body ≡ failed x → (at n : ℕ) → sized body at n
+      → at < x .start → at + n ≤ x .start
   unfolding updateFields
-  update-breaks body x e =
-      let b = update-at body x e in
-      record { inside = b .inside; before = b .before; why = b .why; apart = unfold updateFields in update-apart body x e }
+  update-apart following body x e at n d l =
+      split (then-failed (numberOr (form .explicit) following body 0) _ x e)
+      (λ f. absurd (omega (arith, number-or-starts (form .explicit) following body 0 x f)))
+      (λ a.
+      let z : a .1 .0 ≡ idEnd = id-end following body (a .0) (a .1 .0) (a .1 .1 .0) in
+      let w = number-or-regular sized (form .explicit) following body 0 (omega arith) (λ p. inl (p, (refl, refl))) .values (a .0) (a .1 .0) (a .1 .1 .0) in
+      let k : idEnd ≤ length body = omega (arith, w .end, z) in
+      timed-apart (a .0) body k x (subst (λ (j : ℕ). timedFields form t (a .0) body j ≡ failed x) z (a .1 .1 .1)) at n d l)
 
-  -- ---- an incremental update
-  incremental-breaks : (id : ℕ) → Breaks (incrementalFields t id) (keySized t 0)
-  unfolding incrementalFields
-  incremental-breaks id body x e =
-      let b = entry-breaks (keySized t 0) t 0 (λ p u start n q. inl (p, q)) (λ p u. inr (p, (refl, refl))) id body (omega arith) x e in
-      record {
-        inside = b .inside;
-        before = b .before;
-        why = b .why;
-        apart = entry-apart (keySized t 0) t 0 (λ p u start n q. inl (p, q)) (λ p u. inr (p, (refl, refl))) id body (omega arith) x e;
-      }
+  update-breaks : (following : ℕ) → Breaks (updateFields form t following) sized
+  unfolding updateFields
+  update-breaks following body x e =
+      let b = update-at following body x e in
+      record { inside = b .inside; before = b .before; why = b .why; apart = unfold updateFields in update-apart following body x e }
 
 pub bodies-break : BodiesBreak
 bodies-break = record {
@@ -344,5 +424,4 @@ bodies-break = record {
   switch = switch-breaks;
   acknowledgement = acknowledgement-breaks;
   update = update-breaks;
-  incremental = incremental-breaks;
 }

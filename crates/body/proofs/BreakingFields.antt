@@ -29,7 +29,7 @@ use Rattle.body.specs.declared.Failure.{Failure}
 use Rattle.body.specs.declared.Failure.the-variants as failure
 use Rattle.body.specs.declared.Fault.{Fault}
 use Rattle.body.specs.Fields.{Read, got, failed, fault, short, outside, unplain, Reader, andThen, forEach, tested, integer, between, integerOf, Span, spanIn, bytes, numberRead, number4, serverRead, serverId}
-use Rattle.body.specs.Bodies.{nameField, namedFields, isKeyType, shapeFields, pairField, periodField, periodFields, timesThere, timesFields, noTimes, serverField, slotField, valueFields, dataFields, stringField, keyField, entryFields, updateFields, incrementalFields, restFields, definitionFields, switchFields, acknowledgementFields}
+use Rattle.body.specs.Bodies.{nameField, namedFields, isKeyType, shapeFields, pairField, periodField, periodFields, timesThere, timesFields, noTimes, serverField, slotField, valueFields, dataFields, stringField, keyField, restFields, definitionFields, switchFields, acknowledgementFields}
 use Rattle.body.specs.Breaks.{definitionSized, Reached, NotBefore, Sized, EndsInside, cutInteger, cutSized, Ends, wholeInteger, overflowing, wholeName, CutShort, Decided, ByFailure, Broke}
 use Rattle.body.proofs.Taken.{integer-value, integer-passed, between-low}
 use Rattle.body.proofs.Breaking.{agree-fewer, Whole, BrokeAt, BreaksAt, Regular, Ordinary, reached-short, then-regular, next-regular, next-breaks, got-regular, cond-regular, each-regular}

@@ -73,6 +73,7 @@ module _ (x : Read Definition) (r : DefinitionBody) (p : r ≡ definitionBody x)
 abbrev pub updateIn : UpdateBody → Update
 updateIn r = record {
   id = r .id;
+  time = record { timed = r .timed; remaining = r .remaining };
   key = record { start = r .«key_at»; len = r .«key_len» };
   server = r .«server_id»;
   values = r .values;

@@ -3,7 +3,7 @@ use Prim.Native.Nat.{ℕ, suc, _^_, _<_, min, _≤_}
 use native.Mathlib.Omega.{arith}
 use mathlib.Core.Path.{_≡_, refl, sym, ap, _∙_}
 use mathlib.Core.List.{List, [], _∷_, _++_, append-assoc}
-use mathlib.Core.Bool.{true, false}
+use mathlib.Core.Bool.{Bool, true, false, true≢false}
 use lib.ListN.{length, take, drop, getD, length-take, replicate}
 use lib.Seq.{drop-append-seam, take-append-seam}
 use lib.IntN.{ℤ, pos}
@@ -27,7 +27,8 @@ use Rattle.store.specs.Shape.{Cells, TableShape}
 use Rattle.store.specs.Sound.{entryKeyLengthOk}
 use Rattle.store.specs.Store.{keyOf, nameOf}
 use Rattle.store.proofs.Rules.{slot-count, rate-count}
-use Rattle.body.specs.Encodings.{messageBytes, eachBytes, keyBytes, serverBytes, valueBytes, dataBytes, entryBytes, updateBytes, incrementalBytes, periodBytes, timesBytes, definitionBytes}
+use Rattle.body.specs.declared.update.Form.{Form}
+use Rattle.body.specs.Encodings.{messageBytes, eachBytes, keyBytes, serverBytes, valueBytes, dataBytes, entryBytes, numberIf, updateBytes, periodBytes, timesBytes, definitionBytes}
 use Rattle.body.proofs.Taken.{Along}
 
 -- ---- bytes before others
@@ -53,6 +54,12 @@ number-once v w p q l k e =
     let r = sym (number-trip [] p v l) ∙ (ap (λ (x : List ℕ). readNumber x 0) e ∙ number-trip [] q w k) in
     let same : v ≡ w = cc in
     (same, rest-once (encodeNumber v) p q (e ∙ ap (λ (n : ℕ). encodeNumber n ++ q) (sym same)))
+
+number-if-once : (there : Bool) (v w : ℕ) (p q : List ℕ) → v < 2 ^ 32 → w < 2 ^ 32 → numberIf there v ++ p ≡ numberIf there w ++ q
+    → (there ≡ true → v ≡ w) × (p ≡ q)
+unfolding numberIf
+number-if-once true v w p q l k e = let r = number-once v w p q l k e in ((λ h. r .0), r .1)
+number-if-once false v w p q l k e = ((λ h. absurd (true≢false (sym h))), e)
 
 word-once : (y z : ℤ) → mag y < 2 ^ 31 → mag z < 2 ^ 31 → serverWord y ≡ serverWord z → y ≡ z
 word-once y z l k e =
@@ -182,16 +189,22 @@ module _ (t : Table) where
         let r₃ = each-once (valueBytes types) (IfPresent types) (value-once types) slotTypes (e .values) (f .values) p q (numbers e h) (numbers f k) (r₂ .1) in
         record { key = r₁ .0; server = r₂ .0; values = r₃ .0 }
 
-    pub incremental-once : (p q : List ℕ) → incrementalBytes t e ++ p ≡ incrementalBytes t f ++ q → SameFields e f
-    unfolding incrementalBytes
-    incremental-once p q z = entry-once p q z
+    joined : (x y z w : List ℕ) → x ++ (y ++ (z ++ w)) ≡ (x ++ (y ++ z)) ++ w
+    joined x y z w = simp append-assoc
 
-    pub update-once : (i j : ℕ) (p q : List ℕ) → i < 2 ^ 32 → j < 2 ^ 32 → updateBytes t i e ++ p ≡ updateBytes t j f ++ q → (i ≡ j) × SameFields e f
+    -- two updates of one form: the ID and the remaining time, where it has them, and the rest
+    pub update-once : (form : Form) (i j : ℕ) (p q : List ℕ) → i < 2 ^ 32 → j < 2 ^ 32 → e .remaining < 2 ^ 32 → f .remaining < 2 ^ 32
+        → updateBytes form t i e ++ p ≡ updateBytes form t j f ++ q
+        → (form .explicit ≡ true → i ≡ j) × (form .timed ≡ true → e .remaining ≡ f .remaining) × SameFields e f
     unfolding updateBytes
-    update-once i j p q l m z =
-        let a = sym (append-assoc (encodeNumber i) (entryBytes t e) p) ∙ (z ∙ append-assoc (encodeNumber j) (entryBytes t f) q) in
-        let r = number-once i j (entryBytes t e ++ p) (entryBytes t f ++ q) l m a in
-        (r .0, entry-once p q (r .1))
+    update-once form i j p q l m d g z =
+        let xt = numberIf (form .timed) (e .remaining) in
+        let yt = numberIf (form .timed) (f .remaining) in
+        let a : numberIf (form .explicit) i ++ (xt ++ (entryBytes t e ++ p)) ≡ numberIf (form .explicit) j ++ (yt ++ (entryBytes t f ++ q)) =
+        joined (numberIf (form .explicit) i) xt (entryBytes t e) p ∙ (z ∙ sym (joined (numberIf (form .explicit) j) yt (entryBytes t f) q)) in
+        let r₁ = number-if-once (form .explicit) i j (xt ++ (entryBytes t e ++ p)) (yt ++ (entryBytes t f ++ q)) l m a in
+        let r₂ = number-if-once (form .timed) (e .remaining) (f .remaining) (entryBytes t e ++ p) (entryBytes t f ++ q) d g (r₁ .1) in
+        (r₁ .0, r₂ .0, entry-once p q (r₂ .1))
 
 -- ---- a table
 

@@ -3,7 +3,7 @@ use Prim.Native.Nat.{ℕ, zero, suc, _+_, _<_}
 use native.Mathlib.Omega.{arith}
 use mathlib.Core.Path.{_≡_, refl, sym, ap, _∙_}
 use mathlib.Core.List.{List, [], _∷_, _++_, append-assoc}
-use mathlib.Core.Bool.{true}
+use mathlib.Core.Bool.{Bool, true, false, cond}
 use lib.ListN.{length, take, drop, getD, length-append}
 use lib.Seq.{drop-append-seam, take-append-seam}
 use lib.IntN.{ℤ, pos}
@@ -12,14 +12,16 @@ use Rattle.wire.specs.Integer.{encodeInt}
 use Rattle.wire.specs.Number.{encodeNumber}
 use Rattle.wire.specs.Server.{serverWord}
 use Rattle.wire.specs.Value.{Bytes}
+use Rattle.wire.proofs.Numbers.{number-length}
 use Rattle.store.specs.declared.Table.{Table}
 use Rattle.store.specs.declared.Entry.{Entry}
 use Rattle.store.specs.Limits.{keyKind, isString, present, widthOf, slotTypes}
 use Rattle.store.specs.Store.{keyOf}
 use Rattle.store.proofs.Rules.{slot-count}
 use Rattle.body.specs.Fields.{got, integer, between, integerOf, Span, spanIn, bytes, number4, serverId}
-use Rattle.body.specs.Bodies.{stringField, keyField, serverField, slotField, valueFields, Data, dataFields, Update, entryFields, updateFields, incrementalFields}
-use Rattle.body.specs.Encodings.{eachBytes, keyBytes, serverBytes, valueBytes, dataBytes, entryBytes, updateBytes, incrementalBytes, serverStart, slotStart}
+use Rattle.body.specs.Bodies.{stringField, keyField, serverField, slotField, valueFields, Data, dataFields, Time, Update, entryFields, numberOr, timeMark, timedFields, updateFields}
+use Rattle.body.specs.declared.update.Form.{Form}
+use Rattle.body.specs.Encodings.{eachBytes, keyBytes, serverBytes, valueBytes, dataBytes, entryBytes, numberIf, updateBytes, entryStart, serverStart, slotStart}
 use Rattle.body.proofs.Holds.{Holds, held, holds-cond, holds-got, holds-each, holds-then}
 use Rattle.body.proofs.Encoding.{Stands, stands-none, stands-then, Encoded, integer-encoded, width-encoded, number-encoded, server-encoded, PartHere, bytes-encoded, each-encoded}
 
@@ -71,47 +73,77 @@ module _ (s : List ℕ) (b : Bytes s) where
       (each-encoded (slotField types) (valueBytes types) s (slot-encoded types) slotTypes at₁) λ values at₂ r.
       holds-got Q _ at₂ (stands-then s q r)
 
--- an entry with the key, the server ID and the values that were read
-pub record EntryRead (body : List ℕ) (u : Update) (e : Entry) : Type 0 where
+-- an entry with what was read: the remaining time, if the update has one, the key, the server ID and the values
+pub record EntryRead (form : Form) (body : List ℕ) (u : Update) (e : Entry) : Type 0 where
+  pub remaining : form .timed ≡ true → e .remaining ≡ u .time .remaining
   pub key : keyOf e ≡ spanIn body (u .key)
   pub server : e .«server_id» ≡ u .server
   pub values : e .values ≡ u .values
 
--- key and data of an update that was read with this ID
-record KeyedAt (t : Table) (id : ℕ) (s : List ℕ) (at : ℕ) (u : Update) (next : ℕ) : Type 0 where
+-- key and data of an update that was read with this ID and this remaining time
+record KeyedAt (t : Table) (id : ℕ) (time : Time) (s : List ℕ) (at : ℕ) (u : Update) (next : ℕ) : Type 0 where
   same : u .id ≡ id
+  same-time : u .time ≡ time
   here : Stands s (keyBytes (t .«key_type») (spanIn s (u .key)) ++ dataBytes (t .«data_types») (u .server) (u .values)) at next
 
+-- four bytes that were read are those of the number; none were where it isn't there
+number-or-encoded : (s : List ℕ) → Bytes s → (there : Bool) (known at : ℕ) → Holds (Encoded (numberIf there) s at) (numberOr there known s at)
+unfolding numberOr
+number-or-encoded s b there known at =
+    let Q : ℕ → ℕ → Type 0 = Encoded (numberIf there) s at in
+    holds-cond Q there (number4 s at) (got known at)
+    (λ e. holds-each _ Q (number4 s at) (number-encoded s b at) λ v next r. unfold numberIf in rw (cond-true _ _ _ e) r)
+    (λ e. holds-got Q known at (unfold numberIf in rw (cond-false _ _ _ e) (stands-none s at)))
+
+-- the entry's own remaining time stands there
+number-same : (there : Bool) (v w : ℕ) → (there ≡ true → v ≡ w) → numberIf there w ≡ numberIf there v
+unfolding numberIf
+number-same true v w h = rw (h refl)
+number-same false v w h = refl
+
 module _ (t : Table) (s : List ℕ) (b : Bytes s) where
-  entry-encoded : (id at : ℕ) → Holds (KeyedAt t id s at) (entryFields t id s at)
+  entry-encoded : (id : ℕ) (time : Time) (at : ℕ) → Holds (KeyedAt t id time s at) (entryFields t id time s at)
   unfolding entryFields
-  entry-encoded id at =
-      let Q : Update → ℕ → Type 0 = KeyedAt t id s at in
+  entry-encoded id time at =
+      let Q : Update → ℕ → Type 0 = KeyedAt t id time s at in
       holds-then _ Q (keyField (t .«key_type») (t .«key_len») s at) _ (key-encoded s b (t .«key_type») (t .«key_len») at) λ key at₁ q.
       holds-then _ Q (dataFields (t .«data_types») s at₁) _ (data-encoded s b (t .«data_types») at₁) λ d at₂ r.
-      holds-got Q _ at₂ (record { same = refl; here = stands-then s q r })
-
-  entry-is : (id at : ℕ) (u : Update) (next : ℕ) (e : Entry) → EntryRead s u e → KeyedAt t id s at u next → Stands s (entryBytes t e) at next
-  unfolding entryBytes
-  entry-is id at u next e r k = rw (r .key, r .server, r .values) (k .here)
+      holds-got Q _ at₂ (record { same = refl; same-time = refl; here = stands-then s q r })
 
   -- an update's body is its encoding, and ignored bytes
-  pub update-encoded : (u : Update) (next : ℕ) (e : Entry) → EntryRead s u e → updateFields t s ≡ got u next → s ≡ updateBytes t (u .id) e ++ drop next s
-  unfolding updateFields updateBytes
-  update-encoded u next e r q =
-      let Q : Update → ℕ → Type 0 = λ u next. (e : Entry) → EntryRead s u e → Stands s (encodeNumber (u .id) ++ entryBytes t e) 0 next in
+  pub update-encoded : (form : Form) (following : ℕ) (u : Update) (next : ℕ) (e : Entry) → EntryRead form s u e
+      → updateFields form t following s ≡ got u next → s ≡ updateBytes form t (u .id) e ++ drop next s
+  unfolding updateFields timedFields updateBytes entryBytes
+  update-encoded form following u next e r q =
+      let Q : Update → ℕ → Type 0 =
+      λ u next. (e : Entry) → EntryRead form s u e
+      → Stands s (numberIf (form .explicit) (u .id) ++ (numberIf (form .timed) (e .remaining) ++ entryBytes t e)) 0 next in
       held Q _
-      (holds-then (Encoded encodeNumber s 0) Q (number4 s 0) _ (number-encoded s b 0) λ id at₁ p.
-      holds-each (KeyedAt t id s at₁) Q (entryFields t id s at₁) (entry-encoded id at₁) λ u next k e r.
-      let h : Stands s (encodeNumber (u .id)) 0 at₁ = rw (k .same) p in
-      stands-then s h (entry-is id at₁ u next e r k))
+      (holds-then (Encoded (numberIf (form .explicit)) s 0) Q (numberOr (form .explicit) following s 0) _
+      (number-or-encoded s b (form .explicit) following 0) λ id at₁ p.
+      holds-then (Encoded (numberIf (form .timed)) s at₁) Q (numberOr (form .timed) (t .expiry) s at₁) _
+      (number-or-encoded s b (form .timed) (t .expiry) at₁) λ remaining at₂ w.
+      let time : Time = record { timed = timeMark form t; remaining = remaining } in
+      holds-each (KeyedAt t id time s at₂) Q (entryFields t id time s at₂) (entry-encoded id time at₂) λ u next k e r.
+      let h : Stands s (numberIf (form .explicit) (u .id)) 0 at₁ = rw (k .same) p in
+      let left : u .time .remaining ≡ remaining = ap (λ (x : Time). x .remaining) (k .same-time) in
+      let v : numberIf (form .timed) remaining ≡ numberIf (form .timed) (e .remaining) =
+      number-same (form .timed) (e .remaining) remaining (λ z. r .remaining z ∙ left) in
+      let h₁ : Stands s (numberIf (form .timed) (e .remaining)) at₁ at₂ = rw (← v) w in
+      stands-then s h (stands-then s h₁ (rw (r .key, r .server, r .values) (k .here))))
       u next q e r .split
 
-  -- so is an incremental update's
-  pub incremental-encoded : (id : ℕ) (u : Update) (next : ℕ) (e : Entry) → EntryRead s u e → incrementalFields t id s ≡ got u next
-      → s ≡ incrementalBytes t e ++ drop next s
-  unfolding incrementalFields incrementalBytes
-  incremental-encoded id u next e r q = entry-is id 0 u next e r (held (KeyedAt t id s 0) _ (entry-encoded id 0) u next q) .split
+-- the bytes of a number, where it is there, and those before key and data
+pub if-length : (there : Bool) (n : ℕ) → length (numberIf there n) ≡ cond there 4 0
+unfolding numberIf
+if-length true n = number-length n
+if-length false n = refl
+
+pub entry-start : (form : Form) (id remaining : ℕ) → length (numberIf (form .explicit) id ++ numberIf (form .timed) remaining) ≡ entryStart form
+unfolding entryStart
+entry-start form id remaining =
+    length-append (numberIf (form .explicit) id) (numberIf (form .timed) remaining)
+    ∙ rw (if-length (form .explicit) id, if-length (form .timed) remaining)
 
 -- ---- the integers of an update
 

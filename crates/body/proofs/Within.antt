@@ -1,7 +1,7 @@
 -- What was read of a body is within the limits.
 use Prim.Native.Nat.{ℕ, _+_, _-_, _^_, _≤_, _<_}
 use native.Mathlib.Omega.{arith}
-use mathlib.Core.Path.{_≡_, refl, _∙_}
+use mathlib.Core.Path.{_≡_, refl, _∙_, ap}
 use mathlib.Core.List.{List, [], _∷_}
 use mathlib.Core.Bool.{Bool, true, false, cond, _||_}
 use lib.ListN.{length, getD, replicate, getD-replicate, List·getD-eq-default}
@@ -16,8 +16,9 @@ use Rattle.store.specs.Shape.{Cells}
 use Rattle.store.specs.Limits.{nameMax, plainName, keyKind, isKnown, isString, keyLengthOk, dataTypesOk, present, isWide, widthOf, slotTypes, rateTypes}
 use Rattle.store.specs.Sound.{slotOk, slotsOk}
 use Rattle.store.proofs.Rules.{slot-count, rate-count}
+use Rattle.body.specs.declared.update.Form.{Form}
 use Rattle.body.specs.Fields.{got, between, Span, spanIn}
-use Rattle.body.specs.Bodies.{Named, nameField, namedFields, isKeyType, Shape, shapeFields, pairField, periodField, Times, noTimes, timesThere, timesFields, Definition, defined, restFields, definitionFields, switchFields, stringField, keyField, serverField, slotField, Data, dataFields, Update, keyed, entryFields, updateFields, incrementalFields}
+use Rattle.body.specs.Bodies.{Named, nameField, namedFields, isKeyType, Shape, shapeFields, pairField, periodField, Times, noTimes, timesThere, timesFields, Definition, defined, restFields, definitionFields, switchFields, stringField, keyField, serverField, slotField, Data, dataFields, Time, Update, keyed, entryFields, numberOr, timeMark, timedFields, updateFields}
 use Rattle.body.proofs.Holds.{Holds, held, holds-cond, holds-each}
 use Rattle.body.proofs.Taken.{Taken, taken-got, weaken, taken-then, Along, along-at, along-cells, each-holds, Tested, integer-holds, Width, width-holds, PartOf, bytes-holds, name-holds, number-holds, server-holds, between-low, between-high}
 
@@ -253,20 +254,23 @@ pub record UpdateWithin (t : Table) (body : List ℕ) (u : Update) : Type 0 wher
   pub slots : slotsOk (t .«data_types») slotTypes (u .values) ≡ true
   pub absent : (i : ℕ) → i < 34 → present (t .«data_types») (getD slotTypes i 0) ≡ false → getD (u .values) i 0 ≡ 0
 
-pub record EntryWithin (t : Table) (id : ℕ) (body : List ℕ) (u : Update) : Type 0 where
+pub record EntryWithin (t : Table) (id : ℕ) (time : Time) (body : List ℕ) (u : Update) : Type 0 where
   pub same : u .id ≡ id
+  pub same-time : u .time ≡ time
   pub within : UpdateWithin t body u
 
-pub entry-holds : (t : Table) (id : ℕ) (body : List ℕ) (at : ℕ) → Holds (Taken (EntryWithin t id body) body at) (entryFields t id body at)
+pub entry-holds : (t : Table) (id : ℕ) (time : Time) (body : List ℕ) (at : ℕ)
+    → Holds (Taken (EntryWithin t id time body) body at) (entryFields t id time body at)
 unfolding entryFields
-entry-holds t id body at =
+entry-holds t id time body at =
     let types = t .«data_types» in
-    taken-then (KeyWithin (t .«key_type») (t .«key_len») body) (EntryWithin t id body) body at _ _
+    taken-then (KeyWithin (t .«key_type») (t .«key_len») body) (EntryWithin t id time body) body at _ _
     (key-holds (t .«key_type») (t .«key_len») body at) λ key at₁ k l₁.
-    taken-then (DataWithin types) (EntryWithin t id body) body at₁ _ _ (data-holds types body at₁ l₁) λ d at₂ h l₂.
-    taken-got (EntryWithin t id body) body at₂ (keyed id key d)
+    taken-then (DataWithin types) (EntryWithin t id time body) body at₁ _ _ (data-holds types body at₁ l₁) λ d at₂ h l₂.
+    taken-got (EntryWithin t id time body) body at₂ (keyed id time key d)
     (record {
       same = refl;
+      same-time = refl;
       within = record {
         keyLength = k .len;
         keyEnd = k .inside;
@@ -279,30 +283,51 @@ entry-holds t id body at =
     })
     l₂
 
-pub record ExplicitWithin (t : Table) (body : List ℕ) (u : Update) : Type 0 where
-  pub id : Bytes body → u .id < 2 ^ 32
+-- a 4-byte number that was read, or the one that is known without it
+record NumberWithin (there : Bool) (known : ℕ) (s : List ℕ) (v : ℕ) : Type 0 where
+  small : Bytes s → known < 2 ^ 32 → v < 2 ^ 32
+  same : there ≡ false → v ≡ known
+
+number-or-holds : (there : Bool) (known : ℕ) (s : List ℕ) (at : ℕ) → at ≤ length s
+    → Holds (Taken (NumberWithin there known s) s at) (numberOr there known s at)
+unfolding numberOr
+number-or-holds there known s at l =
+    holds-cond (Taken (NumberWithin there known s) s at) there _ _
+    (λ e. weaken (λ v. Bytes s → v < 2 ^ 32) (NumberWithin there known s) (λ v h. record { small = λ b k. h b; same = λ q. never e q }) s at _ (number-holds s at))
+    (λ e. taken-got (NumberWithin there known s) s at known (record { small = λ b k. k; same = λ q. refl }) l)
+
+-- an update that was read: its ID and remaining time, each read or known without the body, and the rest
+pub record UpdateRead (form : Form) (t : Table) (following : ℕ) (body : List ℕ) (u : Update) : Type 0 where
+  pub id-small : Bytes body → following < 2 ^ 32 → u .id < 2 ^ 32
+  pub id-known : form .explicit ≡ false → u .id ≡ following
+  pub mark : u .time .timed ≡ timeMark form t
+  pub time-small : Bytes body → t .expiry < 2 ^ 32 → u .time .remaining < 2 ^ 32
+  pub time-known : form .timed ≡ false → u .time .remaining ≡ t .expiry
   pub within : UpdateWithin t body u
 
-pub update-holds : (t : Table) (body : List ℕ) → Holds (Taken (ExplicitWithin t body) body 0) (updateFields t body)
-unfolding updateFields
-update-holds t body =
-    taken-then (λ v. Bytes body → v < 2 ^ 32) (ExplicitWithin t body) body 0 _ _ (number-holds body 0) λ id at₁ h l₁.
-    weaken (EntryWithin t id body) (ExplicitWithin t body)
-    (λ u k. record { id = λ b. rw (k .same) (h b); within = k .within })
-    body at₁ _ (entry-holds t id body at₁)
+update-holds : (form : Form) (t : Table) (following : ℕ) (body : List ℕ)
+    → Holds (Taken (UpdateRead form t following body) body 0) (updateFields form t following body)
+unfolding updateFields timedFields
+update-holds form t following body =
+    let P = UpdateRead form t following body in
+    taken-then (NumberWithin (form .explicit) following body) P body 0 _ _ (number-or-holds (form .explicit) following body 0 (omega arith)) λ id at₁ i l₁.
+    taken-then (NumberWithin (form .timed) (t .expiry) body) P body at₁ _ _ (number-or-holds (form .timed) (t .expiry) body at₁ l₁) λ remaining at₂ r l₂.
+    let time : Time = record { timed = timeMark form t; remaining = remaining } in
+    weaken (EntryWithin t id time body) P
+    (λ u k.
+    let left : u .time .remaining ≡ remaining = ap (λ (x : Time). x .remaining) (k .same-time) in
+    record {
+      id-small = λ b l. rw (k .same) (i .small b l);
+      id-known = λ e. k .same ∙ i .same e;
+      mark = ap (λ (x : Time). x .timed) (k .same-time);
+      time-small = λ b l. rw left (r .small b l);
+      time-known = λ e. left ∙ r .same e;
+      within = k .within;
+    })
+    body at₂ _ (entry-holds t id time body at₂)
 
-pub update-within : (t : Table) (body : List ℕ) (u : Update) (next : ℕ) → updateFields t body ≡ got u next
-    → UpdateWithin t body u × (next ≤ length body)
-update-within t body u next e =
-    let h = held (Taken (ExplicitWithin t body) body 0) _ (update-holds t body) u next e in
-    (h .fact .within, h .end)
-
-pub update-id : (t : Table) (body : List ℕ) (u : Update) (next : ℕ) → Bytes body → updateFields t body ≡ got u next → u .id < 2 ^ 32
-update-id t body u next b e = held (Taken (ExplicitWithin t body) body 0) _ (update-holds t body) u next e .fact .id b
-
-pub incremental-within : (t : Table) (id : ℕ) (body : List ℕ) (u : Update) (next : ℕ) → incrementalFields t id body ≡ got u next
-    → (u .id ≡ id) × UpdateWithin t body u × (next ≤ length body)
-unfolding incrementalFields
-incremental-within t id body u next e =
-    let h = held (Taken (EntryWithin t id body) body 0) _ (entry-holds t id body 0) u next e in
-    (h .fact .same, h .fact .within, h .end)
+pub update-within : (form : Form) (t : Table) (following : ℕ) (body : List ℕ) (u : Update) (next : ℕ) → updateFields form t following body ≡ got u next
+    → UpdateRead form t following body u × (next ≤ length body)
+update-within form t following body u next e =
+    let h = held (Taken (UpdateRead form t following body) body 0) _ (update-holds form t following body) u next e in
+    (h .fact, h .end)

@@ -1,12 +1,15 @@
 -- The bodies of class 10, field by field.
 use Prim.Native.Nat.{ℕ}
 use mathlib.Core.List.{List}
-use mathlib.Core.Bool.{Bool, cond}
+use mathlib.Core.Bool.{Bool, true, false, cond}
+use mathlib.Core.Option.{Option, some, none}
 use lib.ListN.{length, replicate}
 use lib.Dec.{eqb}
 use lib.IntN.{ℤ, pos}
+use Rattle.frame.specs.Frame.{updateType, incrementalType, timedType, timedIncrementalType}
 use Rattle.store.specs.declared.Table.{Table}
 use Rattle.store.specs.Limits.{nameMax, plainName, keyKind, isKnown, isString, keyLengthOk, dataTypesOk, present, widthOf, slotTypes, rateTypes, rateCount}
+use Rattle.body.specs.declared.update.Form.{Form}
 use Rattle.body.specs.Fields.{Read, got, unplain, Reader, andThen, forEach, Span, spanIn, integer, between, integerOf, bytes, number4, serverId}
 
 -- ---- definition
@@ -156,26 +159,50 @@ dataFields types body at =
     andThen (valueFields types body at₁) λ values at₂.
     got (record { server = server; values = values }) at₂
 
+-- request 2: the remaining time of an entry in milliseconds, marked by 1, or none, marked by 0
+pub record Time : Type 0 where
+  pub timed : ℕ
+  pub remaining : ℕ
+
 pub record Update : Type 0 where
   pub id : ℕ
+  pub time : Time
   pub key : Span
   pub server : ℤ
   pub values : List ℕ
 
-abbrev pub keyed : ℕ → Span → Data → Update
-keyed id key d = record { id = id; key = key; server = d .server; values = d .values }
+abbrev pub keyed : ℕ → Time → Span → Data → Update
+keyed id time key d = record { id = id; time = time; key = key; server = d .server; values = d .values }
 
--- key and data, of an update whose ID is known
-unfoldable pub entryFields : Table → ℕ → Reader Update
-entryFields t id body at =
+-- key and data, of an update whose ID and remaining time are known
+unfoldable pub entryFields : Table → ℕ → Time → Reader Update
+entryFields t id time body at =
     andThen (keyField (t .«key_type») (t .«key_len») body at) λ key at₁.
     andThen (dataFields (t .«data_types») body at₁) λ d at₂.
-    got (keyed id key d) at₂
+    got (keyed id time key d) at₂
 
--- "Update: 4-byte big-endian update ID, key, data."
-unfoldable pub updateFields : Table → List ℕ → Read Update
-updateFields t body = andThen (number4 body 0) λ id at₁. entryFields t id body at₁
+-- a 4-byte big-endian number, where the update has one there; else what is known without it
+unfoldable pub numberOr : Bool → ℕ → Reader ℕ
+numberOr there known body at = cond there (number4 body at) (got known at)
 
--- "Incremental has no ID": it comes from the table's previous one
-unfoldable pub incrementalFields : Table → ℕ → List ℕ → Read Update
-incrementalFields t id body = entryFields t id body 0
+-- request 2: "an untimed update takes the table's expiry, else none"
+unfoldable pub timeMark : Form → Table → ℕ
+timeMark form t = cond (form .timed) 1 (t .timed)
+
+-- "A timed message has a 4-byte big-endian remaining time in milliseconds after the update ID (133), or first (134)"; key and data follow
+unfoldable pub timedFields : Form → Table → ℕ → Reader Update
+timedFields form t id body at =
+    andThen (numberOr (form .timed) (t .expiry) body at) λ remaining at₁.
+    entryFields t id (record { timed = timeMark form t; remaining = remaining }) body at₁
+
+-- "Update: 4-byte big-endian update ID, key, data. Incremental has no ID": it follows the table's previous one
+unfoldable pub updateFields : Form → Table → ℕ → List ℕ → Read Update
+updateFields form t following body = andThen (numberOr (form .explicit) following body 0) λ id at₁. timedFields form t id body at₁
+
+-- the form of an update of this type; other types are no updates
+unfoldable pub formOf : ℕ → Option Form
+formOf kind =
+    cond (eqb kind updateType) (some (record { explicit = true; timed = false }))
+    (cond (eqb kind incrementalType) (some (record { explicit = false; timed = false }))
+    (cond (eqb kind timedType) (some (record { explicit = true; timed = true }))
+    (cond (eqb kind timedIncrementalType) (some (record { explicit = false; timed = true })) none)))

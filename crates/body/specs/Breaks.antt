@@ -13,7 +13,9 @@ use Rattle.body.specs.declared.Failure.{Failure}
 use Rattle.body.specs.declared.Failure.the-variants as failure
 use Rattle.body.specs.declared.Fault.{Fault}
 use Rattle.body.specs.Fields.{Read, got, failed, fault, short}
-use Rattle.body.specs.Bodies.{definitionFields, switchFields, acknowledgementFields, updateFields, incrementalFields}
+use Rattle.body.specs.Bodies.{definitionFields, switchFields, acknowledgementFields, updateFields}
+use Rattle.body.specs.declared.update.Form.{Form}
+use Rattle.body.specs.Encodings.{entryStart}
 
 module _ {A : Type 0} where
   -- reading came as far as `start`: all is read there, or what is missing is the field that starts there
@@ -48,9 +50,11 @@ keySized t at body start n =
     ((isString (keyKind (t .«key_type»)) ≡ true) × (readInt body at ≡ int.Value n start))
     ⊎ ((isString (keyKind (t .«key_type»)) ≡ false) × ((start ≡ at) × (n ≡ t .«key_len»)))
 
--- an update's 4-byte update ID, and its key
-abbrev pub updateSized : Table → Sized
-updateSized t body start n = ((start ≡ 0) × (n ≡ 4)) ⊎ keySized t 4 body start n
+-- an update's 4-byte update ID, its 4-byte remaining time behind that, and its key behind both, where its form has them
+abbrev pub updateSized : Form → Table → Sized
+updateSized form t body start n =
+    ((form .explicit ≡ true) × ((start ≡ 0) × (n ≡ 4)))
+    ⊎ (((form .timed ≡ true) × ((start + 4 ≡ entryStart form) × (n ≡ 4))) ⊎ keySized t (entryStart form) body start n)
 
 -- ---- the failing field
 
@@ -106,5 +110,4 @@ pub record BodiesBreak : Type 1 where
   pub definition : Breaks definitionFields definitionSized
   pub switch : Breaks switchFields noneSized
   pub acknowledgement : Breaks acknowledgementFields acknowledgementSized
-  pub update : (t : Table) → Breaks (updateFields t) (updateSized t)
-  pub incremental : (t : Table) (id : ℕ) → Breaks (incrementalFields t id) (keySized t 0)
+  pub update : (form : Form) (t : Table) (following : ℕ) → Breaks (updateFields form t following) (updateSized form t)

@@ -1,7 +1,7 @@
 -- The bytes that stand for an update or a definition, in wire order.
 use Prim.Native.Nat.{ℕ, _+_}
 use mathlib.Core.List.{List, [], _∷_, _++_}
-use mathlib.Core.Bool.{cond}
+use mathlib.Core.Bool.{Bool, cond}
 use lib.ListN.{length, take}
 use lib.Dec.{eqb}
 use lib.IntN.{ℤ}
@@ -12,6 +12,7 @@ use Rattle.store.specs.declared.Table.{Table}
 use Rattle.store.specs.declared.Entry.{Entry}
 use Rattle.store.specs.Limits.{keyKind, isString, present, slotTypes, rateTypes}
 use Rattle.store.specs.Store.{nameOf, keyOf}
+use Rattle.body.specs.declared.update.Form.{Form}
 
 -- "Class 10 continues with the encoded body length, .. then the body"
 unfoldable pub messageBytes : ℕ → List ℕ → List ℕ
@@ -51,13 +52,18 @@ dataBytes types id values = serverBytes types id ++ eachBytes (valueBytes types)
 unfoldable pub entryBytes : Table → Entry → List ℕ
 entryBytes t e = keyBytes (t .«key_type») (keyOf e) ++ dataBytes (t .«data_types») (e .«server_id») (e .values)
 
--- "Update: 4-byte big-endian update ID, key, data."
-unfoldable pub updateBytes : Table → ℕ → Entry → List ℕ
-updateBytes t id e = encodeNumber id ++ entryBytes t e
+-- four bytes of a number, where the update has it
+unfoldable pub numberIf : Bool → ℕ → List ℕ
+numberIf there n = cond there (encodeNumber n) []
 
--- "Incremental has no ID"
-unfoldable pub incrementalBytes : Table → Entry → List ℕ
-incrementalBytes t e = entryBytes t e
+-- "Update: 4-byte big-endian update ID, key, data. Incremental has no ID"; request 2: "a 4-byte big-endian remaining time in milliseconds after
+-- the update ID (133), or first (134)"
+unfoldable pub updateBytes : Form → Table → ℕ → Entry → List ℕ
+updateBytes form t id e = numberIf (form .explicit) id ++ (numberIf (form .timed) (e .remaining) ++ entryBytes t e)
+
+-- how many bytes stand before key and data
+unfoldable pub entryStart : Form → ℕ
+entryStart form = cond (form .explicit) 4 0 + cond (form .timed) 4 0
 
 -- the position in an entry's bytes at which the server ID starts: behind the key
 unfoldable pub serverStart : Table → Entry → ℕ

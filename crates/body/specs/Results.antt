@@ -27,7 +27,7 @@ use Rattle.body.specs.declared.update.UpdateBody.{UpdateBody}
 use Rattle.body.specs.declared.AcknowledgementBody.{AcknowledgementBody}
 use Rattle.body.specs.declared.AcknowledgementBody.the-variants as acked
 use Rattle.body.specs.Fields.{Read, got, failed, short, outside, Span}
-use Rattle.body.specs.Bodies.{Named, Shape, Times, noTimes, Definition, Acknowledged, Data, Update}
+use Rattle.body.specs.Bodies.{Named, Shape, Times, noTimes, Definition, Acknowledged, Data, Time, Update}
 
 -- ---- of one field
 
@@ -123,14 +123,19 @@ unfoldable pub updateStruct : Reading → Update → UpdateBody
 updateStruct how u = record {
   reading = how;
   id = u .id;
+  timed = u .time .timed;
+  remaining = u .time .remaining;
   «key_at» = u .key .start;
   «key_len» = u .key .len;
   «server_id» = u .server;
   values = u .values;
 }
 
+abbrev pub noTime : Time
+noTime = record { timed = 0; remaining = 0 }
+
 abbrev pub noUpdate : Update
-noUpdate = record { id = 0; key = noSpan; server = pos 0; values = replicate valueCount 0 }
+noUpdate = record { id = 0; time = noTime; key = noSpan; server = pos 0; values = replicate valueCount 0 }
 
 unfoldable pub updateBody : Read Update → UpdateBody
 updateBody (got u next) = updateStruct (reading.Whole next) u

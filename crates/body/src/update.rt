@@ -3,6 +3,7 @@ use crate::Failure;
 use crate::Fault;
 use crate::PartRead;
 use crate::Reading;
+use crate::Word;
 use crate::read_part;
 use crate::string_key::read_string;
 use crate::update_data::read_data;
@@ -10,13 +11,21 @@ use store::Table;
 use store::VALUES;
 use wire::fixed::FourBytes;
 ghost use mathlib.Core.Path.{_≡_};
-ghost use Rattle.body.specs.Bodies.{keyField, entryFields, updateFields, incrementalFields};
-ghost use Rattle.body.specs.Results.{partRead, updateStruct, noUpdate, updateBody};
+ghost use Rattle.body.specs.Bodies.{keyField, entryFields, numberOr, timeMark, timedFields, updateFields};
+ghost use Rattle.body.specs.Results.{wordRead, partRead, updateStruct, noUpdate, updateBody};
 
-// The fields of an update. Its key stands in the body from `key_at` on.
+// The form of an update: whether it has an ID or is incremental, and whether it has a remaining time.
+pub struct Form {
+    pub explicit: bool,
+    pub timed: bool,
+}
+
+// The fields of an update. Its key stands in the body from `key_at` on. `timed` is 1 where its entry has a remaining time, else 0.
 pub struct UpdateBody {
     pub reading: Reading,
     pub id: u32,
+    pub timed: u32,
+    pub remaining: u32,
     pub key_at: usize,
     pub key_len: usize,
     pub server_id: i32,
@@ -33,9 +42,16 @@ fn read_key(key_type: u32, key_len: usize, body: &[u8], at: usize) -> PartRead
     read_part(key_len, body, at)
 }
 
-// Key and data at `at`, of an update of this table with this ID.
-fn read_entry(table: Table, id: u32, body: &[u8], at: usize) -> UpdateBody
-    ensures { λ r. ⌜ r ≡ updateBody (entryFields table id (now (body .entry)) at) ⌝ }
+// Key and data at `at`, of an update of this table with this ID and this remaining time, or none where `timed` is 0.
+fn read_entry(
+    table: Table,
+    id: u32,
+    timed: u32,
+    remaining: u32,
+    body: &[u8],
+    at: usize,
+) -> UpdateBody
+    ensures { λ r. ⌜ r ≡ updateBody (entryFields table id (record { timed = timed; remaining = remaining }) (now (body .entry)) at) ⌝ }
 {
     let key_type = table.key_type;
     let key_len = table.key_len as usize;
@@ -50,6 +66,8 @@ fn read_entry(table: Table, id: u32, body: &[u8], at: usize) -> UpdateBody
                 Reading::Whole(end) => UpdateBody {
                     reading: Reading::Whole(end),
                     id,
+                    timed,
+                    remaining,
                     key_at: start,
                     key_len: len,
                     server_id,
@@ -62,24 +80,56 @@ fn read_entry(table: Table, id: u32, body: &[u8], at: usize) -> UpdateBody
     }
 }
 
-// The fields of an update of this table: its ID, key and data.
-pub fn read_update(table: Table, body: &[u8]) -> UpdateBody
-    ensures { λ r. ⌜ r ≡ updateBody (updateFields table (now (body .entry))) ⌝ }
+// The 4-byte number at `at`, if it is there; else what is known without it.
+fn read_number_or(there: bool, known: u32, body: &[u8], at: usize) -> Word
+    ensures { λ r. ⌜ wordRead r ≡ numberOr there known (now (body .entry)) at ⌝ }
 {
-    match wire::fixed::read_number(body, 0) {
-        FourBytes::Value { value, next } => read_entry(table, value, body, next),
-        FourBytes::Short => no_update(Reading::Failed(Fault {
-            failure: Failure::Short,
-            start: 0,
-        })),
+    if there {
+        return match wire::fixed::read_number(body, at) {
+            FourBytes::Value { value, next } => Word::Value { value, next },
+            FourBytes::Short => Word::Failed(Fault {
+                failure: Failure::Short,
+                start: at,
+            }),
+        };
+    }
+    Word::Value {
+        value: known,
+        next: at,
     }
 }
 
-// The fields of an incremental update of this table, which has this ID.
-pub fn read_incremental(table: Table, id: u32, body: &[u8]) -> UpdateBody
-    ensures { λ r. ⌜ r ≡ updateBody (incrementalFields table id (now (body .entry))) ⌝ }
+// Whether an update of this form gives its entry a remaining time: 1 where it has one itself, else the table's mark.
+fn time_mark(form: Form, table: Table) -> u32
+    ensures { λ r. ⌜ r ≡ timeMark form table ⌝ }
 {
-    read_entry(table, id, body, 0)
+    if form.timed {
+        return 1;
+    }
+    table.timed
+}
+
+// The fields at `at` of an update of this form and table with this ID: remaining time, key and data.
+fn read_timed(form: Form, table: Table, id: u32, body: &[u8], at: usize) -> UpdateBody
+    ensures { λ r. ⌜ r ≡ updateBody (timedFields form table id (now (body .entry)) at) ⌝ }
+{
+    match read_number_or(form.timed, table.expiry, body, at) {
+        Word::Value { value, next } => {
+            let timed = time_mark(form, table);
+            read_entry(table, id, timed, value, body, next)
+        }
+        Word::Failed(f) => no_update(Reading::Failed(f)),
+    }
+}
+
+// The fields of an update of this form and table: its ID, or the one that follows the table's previous ID, remaining time, key and data.
+pub fn read_update(form: Form, table: Table, following: u32, body: &[u8]) -> UpdateBody
+    ensures { λ r. ⌜ r ≡ updateBody (updateFields form table following (now (body .entry))) ⌝ }
+{
+    match read_number_or(form.explicit, following, body, 0) {
+        Word::Value { value, next } => read_timed(form, table, value, body, next),
+        Word::Failed(f) => no_update(Reading::Failed(f)),
+    }
 }
 
 // An update that could not be read.
@@ -89,6 +139,8 @@ fn no_update(reading: Reading) -> UpdateBody
     UpdateBody {
         reading,
         id: 0,
+        timed: 0,
+        remaining: 0,
         key_at: 0,
         key_len: 0,
         server_id: 0,

@@ -1,6 +1,7 @@
-// Runs the cases of document 01 that are not in the proved table, each refusal, and each side of the rules of requests 1 and 8: key types
-// and table names. A line with # says what is tried; the lines below it are those of the listing, with `more` for more wanted, and where a
-// call has to change nothing, how many bytes it took and the record's lines afterwards.
+// Runs the cases of document 01 that are not in the proved table, each refusal, and each side of the rules of requests 1, 2 and 8: key
+// types, remaining times and table names. A line with # says what is tried; the lines below it are those of the listing, with `more` for
+// more wanted, `passed` and the number for time that passes, then the entries afterwards where values or times are tried, and where a call
+// has to change nothing, how many bytes it took and the record's lines afterwards.
 use dump::lines::put_entry;
 use dump::record_lines::put_record;
 use libc::STDOUT_FILENO;
@@ -10,12 +11,14 @@ use opening::OPENING_ROOM;
 use opening::Opened;
 use opening::open_answerer;
 use opening::open_caller;
+use passing::pass;
 use reading::REPLY_ROOM;
 use reading::read;
 use session::Answer;
 use session::Session;
 use store::Store;
 use text::output::write;
+use wire::fixed::write_number;
 
 struct Run {
     session: Session,
@@ -47,10 +50,22 @@ fn show_answer(session: Session, store: Store, answer: Answer, room: &[u8], n: u
     write(&out, end);
 }
 
-fn show_taken(n: usize) {
-    io::write_all(STDOUT_FILENO, b"took ");
-    io::print_decimal(STDOUT_FILENO, n as u64);
+fn show_number(word: &[u8], n: u64) {
+    io::write_all(STDOUT_FILENO, word);
+    io::write_all(STDOUT_FILENO, b" ");
+    io::print_decimal(STDOUT_FILENO, n);
     io::write_all(STDOUT_FILENO, b"\n");
+}
+
+// The entries at places 0 and 1, of a table with these data types.
+fn show_entries(store: Store, types: u32) {
+    let mut out = io::buffer();
+    let entries = store.entries;
+    let first = entries[0];
+    let second = entries[1];
+    let next = put_entry(&mut out, 0, 0, types, first);
+    let n = put_entry(&mut out, next, 1, types, second);
+    write(&out, n);
 }
 
 // ---- calls
@@ -137,23 +152,19 @@ fn as_status(text: &[u8], bytes: &[u8]) {
     );
 }
 
-// ---- server IDs
-
-// The entry at place 0, whose only data type is 0.
-fn show_entry(store: Store) {
-    let mut out = io::buffer();
-    let entries = store.entries;
-    let e = entries[0];
-    let n = put_entry(&mut out, 0, 0, 1, e);
-    write(&out, n);
+// What the bytes come to on a table with these data types, and its entries.
+fn on_table(text: &[u8], run: Run, types: u32, bytes: &[u8]) {
+    title(text);
+    let r = feed(run, bytes, true);
+    show_entries(r.store, types);
 }
 
-// An update of a table whose only data type is 0, and its entry.
+// ---- server IDs
+
+// An update of a table whose only data type is 0.
 fn server_id(text: &[u8], update: &[u8]) {
-    title(text);
     let run = feed(greeted(), b"\x0a\x82\x06\x01\x01t\x02\x04\x01", false);
-    let r = feed(run, update, true);
-    show_entry(r.store);
+    on_table(text, run, 1, update);
 }
 
 fn server_ids() {
@@ -181,7 +192,7 @@ fn server_ids() {
 fn taking_nothing(text: &[u8], run: Run, piece: &[u8], room: &mut [u8]) {
     title(text);
     let r = call(run, piece, room, true);
-    show_taken(r.taken);
+    show_number(b"took", r.taken as u64);
     show_record(r.session);
 }
 
@@ -394,6 +405,286 @@ fn messages() {
     after_hello(b"the peer's error message", b"\x01\x01");
 }
 
+// ---- remaining times
+
+// A session with the table t, whose only data type is 2.
+fn without_expiry() -> Run {
+    feed(greeted(), b"\x0a\x82\x06\x01\x01t\x02\x04\x04", false)
+}
+
+// The same with an expiry of 60,000.
+fn with_expiry() -> Run {
+    feed(
+        greeted(),
+        b"\x0a\x82\x09\x01\x01t\x02\x04\x04\xf0\x97\x1c",
+        false,
+    )
+}
+
+// An untimed update of a table without expiry.
+fn updated() -> Run {
+    feed(
+        without_expiry(),
+        b"\x0a\x80\x09\x00\x00\x00\x01\x00\x00\x00\x2a\x05",
+        false,
+    )
+}
+
+// An entry with this time remaining.
+fn lasting(remaining: u32) -> Run {
+    let time = write_number(remaining);
+    let a = feed(without_expiry(), b"\x0a\x85\x0d\x00\x00\x00\x01", false);
+    let b = feed(a, &time, false);
+    feed(b, b"\x00\x00\x00\x2a\x05", false)
+}
+
+fn timed_updates() {
+    on_table(
+        b"a timed update with 60,000",
+        without_expiry(),
+        4,
+        b"\x0a\x85\x0f\x00\x00\x00\x01\x00\x00\xea\x60\x00\x00\x00\x2a\xf4\x94\x01",
+    );
+    on_table(
+        b"a timed update with 0",
+        without_expiry(),
+        4,
+        b"\x0a\x85\x0d\x00\x00\x00\x01\x00\x00\x00\x00\x00\x00\x00\x2a\x05",
+    );
+    on_table(
+        b"a timed update with 2^32 - 1, over the expiry",
+        with_expiry(),
+        4,
+        b"\x0a\x85\x0d\x00\x00\x00\x01\xff\xff\xff\xff\x00\x00\x00\x2a\x05",
+    );
+    on_table(
+        b"a timed incremental update with 60,000 of an entry without a time",
+        updated(),
+        4,
+        b"\x0a\x86\x09\x00\x00\xea\x60\x00\x00\x00\x2a\x06",
+    );
+    on_table(
+        b"a timed incremental update with 6 of a new key",
+        lasting(5),
+        4,
+        b"\x0a\x86\x09\x00\x00\x00\x06\x00\x00\x00\x2b\x06",
+    );
+}
+
+// "an untimed update takes the table's expiry, else none"
+fn untimed_updates() {
+    on_table(
+        b"untimed updates, expiry 60,000",
+        with_expiry(),
+        4,
+        b"\x0a\x80\x09\x00\x00\x00\x01\x00\x00\x00\x2a\x05\x0a\x81\x05\x00\x00\x00\x2b\x06",
+    );
+    on_table(
+        b"an untimed update, expiry 0",
+        greeted(),
+        4,
+        b"\x0a\x82\x07\x01\x01t\x02\x04\x04\x00\x0a\x80\x09\x00\x00\x00\x01\x00\x00\x00\x2a\x05",
+    );
+    on_table(
+        b"an untimed update of an entry with 5, expiry 60,000",
+        with_expiry(),
+        4,
+        b"\x0a\x85\x0d\x00\x00\x00\x01\x00\x00\x00\x05\x00\x00\x00\x2a\x05\x0a\x80\x09\x00\x00\x00\x02\x00\x00\x00\x2a\x06",
+    );
+    on_table(
+        b"an untimed update of an entry with 5, no expiry",
+        lasting(5),
+        4,
+        b"\x0a\x80\x09\x00\x00\x00\x02\x00\x00\x00\x2a\x06",
+    );
+    on_table(
+        b"an untimed incremental update of an entry with 5, no expiry",
+        lasting(5),
+        4,
+        b"\x0a\x81\x05\x00\x00\x00\x2a\x06",
+    );
+    on_table(
+        b"a definition without expiry between two untimed updates",
+        with_expiry(),
+        4,
+        b"\x0a\x80\x09\x00\x00\x00\x01\x00\x00\x00\x2a\x05\x0a\x82\x06\x01\x01t\x02\x04\x04\x0a\x81\x05\x00\x00\x00\x2b\x06",
+    );
+}
+
+fn faults_of_timed_updates() {
+    on_table(
+        b"refusal 23: a timed update that ends in its ID",
+        without_expiry(),
+        4,
+        b"\x0a\x85\x03\x00\x00\x00",
+    );
+    on_table(
+        b"refusal 23: a timed update that ends before its remaining time",
+        without_expiry(),
+        4,
+        b"\x0a\x85\x04\x00\x00\x00\x01",
+    );
+    on_table(
+        b"refusal 23: a timed update that ends in its remaining time",
+        without_expiry(),
+        4,
+        b"\x0a\x85\x07\x00\x00\x00\x01\x00\x00\xea",
+    );
+    on_table(
+        b"refusal 23: a timed update that ends behind its remaining time",
+        without_expiry(),
+        4,
+        b"\x0a\x85\x08\x00\x00\x00\x01\x00\x00\xea\x60",
+    );
+    after_hello(
+        b"refusal 27: a timed update, no current table",
+        b"\x0a\x85\x00",
+    );
+}
+
+fn faults_of_timed_incremental_updates() {
+    on_table(
+        b"refusal 23: a timed incremental update that ends before its remaining time",
+        updated(),
+        4,
+        b"\x0a\x86\x00",
+    );
+    on_table(
+        b"refusal 23: a timed incremental update that ends in its remaining time",
+        updated(),
+        4,
+        b"\x0a\x86\x03\x00\x00\xea",
+    );
+    on_table(
+        b"refusal 23: a timed incremental update that ends behind its remaining time",
+        updated(),
+        4,
+        b"\x0a\x86\x04\x00\x00\xea\x60",
+    );
+    on_table(
+        b"refusal 28: a timed incremental update, no previous ID",
+        without_expiry(),
+        4,
+        b"\x0a\x86\x00",
+    );
+}
+
+fn message_types() {
+    after_hello(
+        b"message types 132, 135 and 255",
+        b"\x0a\x84\x05\x05\x00\x00\x00\x07\x0a\x87\x02\xff\xff\x0a\xff\x00",
+    );
+    after_hello(
+        b"refusal 23: an acknowledgement that ends in its update ID",
+        b"\x0a\x84\x04\x05\x00\x00\x00",
+    );
+}
+
+// ---- time that passes
+
+// So many milliseconds pass; the entries afterwards.
+fn passing(text: &[u8], run: Run, milliseconds: u32) -> Run {
+    title(text);
+    let p = pass(run.store, milliseconds);
+    let store = p.store;
+    show_number(b"passed", p.number as u64);
+    show_entries(store, 4);
+    let mut r = run;
+    r.store = store;
+    r
+}
+
+// "entries with at most e remaining are removed, other times lowered by e"
+fn times_passed() {
+    passing(b"0 of 60,000 pass", lasting(60000), 0);
+    passing(b"59,999 of 60,000 pass", lasting(60000), 59999);
+    passing(b"60,000 of 60,000 pass", lasting(60000), 60000);
+    passing(b"60,001 of 60,000 pass", lasting(60000), 60001);
+    passing(b"0 of 0 pass", lasting(0), 0);
+    passing(b"0 of 1 pass", lasting(1), 0);
+    passing(
+        b"2^32 - 2 of 2^32 - 1 pass",
+        lasting(0xffff_ffff),
+        0xffff_fffe,
+    );
+    passing(
+        b"2^32 - 1 of 2^32 - 1 pass",
+        lasting(0xffff_ffff),
+        0xffff_ffff,
+    );
+    passing(
+        b"2^32 - 1 pass, an entry without a time",
+        updated(),
+        0xffff_ffff,
+    );
+}
+
+// Entries with 5 and with 10, of which the first is removed; its place is then the lowest free one.
+fn places_used_again() {
+    let two = feed(
+        lasting(5),
+        b"\x0a\x86\x09\x00\x00\x00\x0a\x00\x00\x00\x2b\x06",
+        false,
+    );
+    let one = passing(b"5 of 5 and of 10 pass", two, 5);
+    on_table(
+        b"new keys behind the removed one, and a known one",
+        one,
+        4,
+        b"\x0a\x81\x05\x00\x00\x00\x2c\x07\x0a\x81\x05\x00\x00\x00\x2d\x08\x0a\x81\x05\x00\x00\x00\x2b\x09",
+    );
+}
+
+// An entry with 5 whose mark of a time is then this, and the mark of being held at the place beside it.
+fn marked(timed: u32, beside: u32) -> Run {
+    let mut r = lasting(5);
+    let mut store = r.store;
+    let mut entries = store.entries;
+    let mut e = entries[0];
+    let mut other = entries[1];
+    e.timed = timed;
+    other.held = beside;
+    entries[0] = e;
+    entries[1] = other;
+    store.entries = entries;
+    r.store = store;
+    r
+}
+
+fn marks() {
+    let mut room = [0u8; REPLY_ROOM];
+    taking_nothing(
+        b"a store with a number beside a time mark of 0",
+        marked(0, 0),
+        b"",
+        &mut room,
+    );
+    taking_nothing(
+        b"refusal 4: a store with a time mark of 2",
+        marked(2, 0),
+        b"",
+        &mut room,
+    );
+    passing(b"5 pass, a number beside a time mark of 0", marked(0, 0), 5);
+    passing(b"refusal 4: 5 pass, a time mark of 2", marked(2, 0), 5);
+    passing(
+        b"refusal 4: 5 of 5 pass, and a place that is neither held nor free",
+        marked(1, 2),
+        5,
+    );
+}
+
+fn times() {
+    timed_updates();
+    untimed_updates();
+    faults_of_timed_updates();
+    faults_of_timed_incremental_updates();
+    message_types();
+    times_passed();
+    places_used_again();
+    marks();
+}
+
 // ---- names of tables
 
 // A definition whose name has this byte between two letters, and one that ends behind that name.
@@ -508,5 +799,6 @@ fn main() {
     openings();
     handshakes();
     messages();
+    times();
     names();
 }

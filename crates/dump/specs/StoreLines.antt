@@ -38,9 +38,13 @@ tableLine place t =
     (decimal place ∷ hex (nameOf t) ∷ decimal (t .«key_type») ∷ decimal (t .«key_len») ∷ decimal (t .«data_types») ∷ timesWords t))
     []
 
--- `entry P TABLE KEYHEX` and its values in bit order, for the data types of its table; a free place has no line
+-- the remaining time: `T` and the milliseconds, `-` where the entry has none
+unfoldable pub timeWord : Entry → List ℕ
+timeWord e = cond (eqb (e .timed) 1) (ascii "T" ++ decimal (e .remaining)) (ascii "-")
+
+-- `entry P TABLE KEYHEX TIME` and its values in bit order, for the data types of its table; a free place has no line
 unfoldable pub entryLine : ℕ → ℕ → Entry → List ℕ
 entryLine place types e =
     cond (entryHeld e)
-    (line (ascii "entry") (decimal place ∷ decimal (e .table) ∷ hexOrNone (keyOf e) ∷ map signed (valuesOf types e)))
+    (line (ascii "entry") (decimal place ∷ decimal (e .table) ∷ hexOrNone (keyOf e) ∷ timeWord e ∷ map signed (valuesOf types e)))
     []

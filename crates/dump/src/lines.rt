@@ -1,4 +1,5 @@
 // The lines of a table and of an entry.
+use crate::entry::put_time;
 use crate::entry::put_values;
 use crate::table::put_times;
 use crate::table::put_types;
@@ -14,7 +15,7 @@ ghost use Rattle.handshake.specs.Bytes.{decimal};
 ghost use Rattle.store.specs.Store.{nameOf, keyOf};
 ghost use Rattle.text.specs.Text.{hex, hexOrNone, signed, spaced};
 ghost use Rattle.text.specs.Room.{Wrote};
-ghost use Rattle.dump.specs.StoreLines.{valuesOf, timesWords, tableLine, entryLine};
+ghost use Rattle.dump.specs.StoreLines.{valuesOf, timesWords, timeWord, tableLine, entryLine};
 
 fn put_definition(room: &mut [u8], at: usize, t: Table) -> usize
     ensures { λ r. ⌜ Wrote (now (room .entry)) at (spaced (hex (nameOf t) ∷ decimal (t .«key_type») ∷ decimal (t .«key_len») ∷ decimal (t .«data_types») ∷ timesWords t)) (now (room .exit)) r ⌝ }
@@ -48,13 +49,14 @@ fn put_key(room: &mut [u8], at: usize, e: Entry) -> usize
     put_hex_or_none(room, at, &key)
 }
 
-// Table, key and values.
+// Table, key, remaining time and values.
 fn put_content(room: &mut [u8], at: usize, types: u32, e: Entry) -> usize
-    ensures { λ r. ⌜ Wrote (now (room .entry)) at (spaced (decimal (e .table) ∷ hexOrNone (keyOf e) ∷ map signed (valuesOf types e))) (now (room .exit)) r ⌝ }
+    ensures { λ r. ⌜ Wrote (now (room .entry)) at (spaced (decimal (e .table) ∷ hexOrNone (keyOf e) ∷ timeWord e ∷ map signed (valuesOf types e))) (now (room .exit)) r ⌝ }
 {
     let a = put_decimal_word(room, at, e.table as u64);
     let b = put_key(room, a, e);
-    put_values(room, b, types, e)
+    let c = put_time(room, b, e);
+    put_values(room, c, types, e)
 }
 
 // The line of the entry at a place, whose table has these data types; none if the place is free.

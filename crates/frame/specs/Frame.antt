@@ -12,13 +12,44 @@ use Rattle.frame.specs.declared.Header.the-variants as header
 use Rattle.frame.specs.declared.Frame.{Frame}
 use Rattle.frame.specs.declared.Frame.the-variants as frame
 
+-- ---- classes and types of messages
+
+-- "class 10 with types from 128 up"
+abbrev pub stickTableClass : ℕ
+stickTableClass = 10
+
+-- "Types: 128 update, 129 incremental update, 130 definition, 131 switch, .."; request 2: "numbers the acknowledgement 132, a timed update 133
+-- and a timed incremental one 134"
+abbrev pub updateType : ℕ
+updateType = 128
+
+abbrev pub incrementalType : ℕ
+incrementalType = 129
+
+abbrev pub definitionType : ℕ
+definitionType = 130
+
+abbrev pub switchType : ℕ
+switchType = 131
+
+abbrev pub acknowledgementType : ℕ
+acknowledgementType = 132
+
+abbrev pub timedType : ℕ
+timedType = 133
+
+abbrev pub timedIncrementalType : ℕ
+timedIncrementalType = 134
+
+-- ---- a message's first bytes
+
 -- "The header's two bytes decide among these: class 0 with type 0 request, 1 finished, 2 partial, 3 confirmed, 4 heartbeat; class 1 with
 -- type 0 protocol error, 1 size limit; class 10 with types from 128 up. All else is refusal 20"
 unfoldable pub headerOf : ℕ → ℕ → Header
 headerOf class type =
     cond (eqb class 0 && leb type 4) (header.Control type)
     (cond (eqb class 1 && leb type 1) (header.Error type)
-    (cond (eqb class 10 && leb 128 type) (header.StickTable type) header.Unknown))
+    (cond (eqb class stickTableClass && leb updateType type) (header.StickTable type) header.Unknown))
 
 -- "22 | body over 1,024 bytes"
 abbrev pub bodyMax : ℕ

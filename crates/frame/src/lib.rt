@@ -6,6 +6,23 @@ ghost use Rattle.frame.specs.Frame.{headerOf, withLength, judgeFrame};
 // The longest body.
 pub const BODY_MAX: u64 = 1024;
 
+// The class of stick table messages, and their types.
+pub const STICK_TABLE: u8 = 10;
+
+pub const UPDATE: u8 = 128;
+
+pub const INCREMENTAL: u8 = 129;
+
+pub const DEFINITION: u8 = 130;
+
+pub const SWITCH: u8 = 131;
+
+pub const ACKNOWLEDGEMENT: u8 = 132;
+
+pub const TIMED: u8 = 133;
+
+pub const TIMED_INCREMENTAL: u8 = 134;
+
 // What a message's first two bytes, its class and its type, say.
 pub enum Header {
     Control(u8),
@@ -37,8 +54,8 @@ pub fn header_of(class: u8, kind: u8) -> Header
             0..=1 => Header::Error(kind),
             _ => Header::Unknown,
         },
-        10 => match kind {
-            128..=255 => Header::StickTable(kind),
+        STICK_TABLE => match kind {
+            UPDATE..=255 => Header::StickTable(kind),
             _ => Header::Unknown,
         },
         _ => Header::Unknown,

@@ -37,7 +37,7 @@ both-length id update = omega (arith, length-append (encodeInt id) (encodeNumber
 
 -- so that the length of both is one byte
 pub acknowledge-bytes : (id update : ℕ) → id < 2 ^ 32
-    → acknowledge id update ≡ 0x0A ∷ 0x85 ∷ (4 + length (encodeInt id)) ∷ (encodeInt id ++ encodeNumber update)
+    → acknowledge id update ≡ 0x0A ∷ 0x84 ∷ (4 + length (encodeInt id)) ∷ (encodeInt id ++ encodeNumber update)
 unfolding acknowledge
 acknowledge-bytes id update l =
     let h : length (both id update) < 240 = omega (arith, both-length id update, id-few id l) in
@@ -59,14 +59,14 @@ drop-zeros m n h =
 
 -- twelve places with three bytes in front
 abbrev room : ℕ → List ℕ
-room n = 0x0A ∷ 0x85 ∷ n ∷ 0 ∷ 0 ∷ 0 ∷ 0 ∷ 0 ∷ 0 ∷ 0 ∷ 0 ∷ 0 ∷ []
+room n = 0x0A ∷ 0x84 ∷ n ∷ 0 ∷ 0 ∷ 0 ∷ 0 ∷ 0 ∷ 0 ∷ 0 ∷ 0 ∷ 0 ∷ []
 
-room-over : (n : ℕ) (bytes : List ℕ) → length bytes ≤ 9 → overlay 3 bytes (room n) ≡ padTo 12 (0x0A ∷ 0x85 ∷ n ∷ bytes)
+room-over : (n : ℕ) (bytes : List ℕ) → length bytes ≤ 9 → overlay 3 bytes (room n) ≡ padTo 12 (0x0A ∷ 0x84 ∷ n ∷ bytes)
 unfolding overlay padTo
 room-over n bytes h =
     let e : drop (3 + length bytes) (room n) ≡ zeros (9 - length bytes) =
     sym (drop-drop (length bytes) 3 (room n)) ∙ drop-zeros (length bytes) 9 h in
-    ap (λ (z : List ℕ). (0x0A ∷ 0x85 ∷ n ∷ bytes) ++ z) e ∙ sym (ap (λ (z : List ℕ). 0x0A ∷ 0x85 ∷ n ∷ z) (pad-fits 9 bytes h))
+    ap (λ (z : List ℕ). (0x0A ∷ 0x84 ∷ n ∷ bytes) ++ z) e ∙ sym (ap (λ (z : List ℕ). 0x0A ∷ 0x84 ∷ n ∷ z) (pad-fits 9 bytes h))
 
 -- ---- where e is the ID's encoding
 module _ (id : ℕ) (l : id < 2 ^ 32) (e : Encoded) (p : e ≡ encodedInt id) where

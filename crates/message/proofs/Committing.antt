@@ -59,7 +59,13 @@ module _ (c : Connection) (body : List ℕ) (table : ℕ) (r : UpdateBody) where
   read how =
       readAs {A = Update}
       how
-      (record { id = r .id; key = record { start = r .«key_at»; len = r .«key_len» }; server = r .«server_id»; values = r .values })
+      (record {
+        id = r .id;
+        time = record { timed = r .timed; remaining = r .remaining };
+        key = record { start = r .«key_at»; len = r .«key_len» };
+        server = r .«server_id»;
+        values = r .values;
+      })
 
   by-reading : (how : Reading) → r .reading ≡ how → withFields c body table (updateRead r) ≡ withFields c body table (read how)
   unfolding updateRead
@@ -76,10 +82,11 @@ module _ (c : Connection) (body : List ℕ) (table : ℕ) (r : UpdateBody) where
   key = take (r .«key_at» + r .«key_len» - r .«key_at») (drop (r .«key_at») body)
 
   -- a signed number is passed on as a word, and read from it
-  pub fields-whole : (next : ℕ) → r .reading ≡ reading.Whole next → (server : ℤ) → server ≡ r .«server_id» → (e : Entry) (a : Asked)
-      → e ≡ makeEntry table key server (r .values) → a ≡ asksCommit c (r .id) e → a ≡ asked c (withFields c body table (updateRead r))
+  pub fields-whole : (next : ℕ) → r .reading ≡ reading.Whole next → (server : ℤ) (e : Entry) (a : Asked)
+      → e ≡ makeEntry table key server (r .timed) (r .remaining) (r .values) → a ≡ asksCommit c (r .id) e → server ≡ r .«server_id»
+      → a ≡ asked c (withFields c body table (updateRead r))
   unfolding withFields fieldsThen readAs updatedEntry spanIn asked
-  fields-whole next w server z e a p q =
+  fields-whole next w server e a p q z =
       let n : r .«key_at» + r .«key_len» - r .«key_at» ≡ r .«key_len» = omega arith in
       q ∙ (rw (p, z, n) refl ∙ ap (asked c) (sym (by-reading (reading.Whole next) w)))
 

@@ -3,7 +3,8 @@
 use Prim.Native.Nat.{ℕ, _-_}
 use mathlib.Core.Path.{_≡_, refl, sym, ap, _∙_}
 use mathlib.Core.List.{List, _++_}
-use mathlib.Core.Bool.{Bool, true, false, true≢false}
+use mathlib.Core.Bool.{Bool, true, false, true≢false, _||_}
+use mathlib.Core.Option.{Option, some, none}
 use lib.ListN.{getD}
 use lib.Dec.{eqb}
 use borrow.Author.Tests.{eqb-true}
@@ -16,11 +17,12 @@ use Rattle.session.specs.declared.Answer.the-variants as answer
 use Rattle.session.specs.Session.{bindingAt, isUpdated}
 use Rattle.body.specs.declared.Fault.{Fault}
 use Rattle.body.specs.Fields.{Read, got, failed, spanIn}
-use Rattle.body.specs.Bodies.{Definition, definitionFields, switchFields, acknowledgementFields, Update, updateFields, incrementalFields}
-use Rattle.body.proofs.Behind.{definition-behind, update-behind, incremental-behind, switch-behind, acknowledgement-behind}
+use Rattle.body.specs.Bodies.{Definition, definitionFields, switchFields, acknowledgementFields, Update, updateFields, formOf}
+use Rattle.body.specs.declared.update.Form.{Form}
+use Rattle.body.proofs.Behind.{definition-behind, update-behind, switch-behind, acknowledgement-behind}
 use Rattle.body.proofs.Spans.{span-behind}
-use Rattle.body.proofs.Within.{definition-within, update-within, incremental-within}
-use Rattle.message.specs.Effects.{Effect, Asks, does, commits, refuseWith, refuse, refusal, refuseBody, fieldsThen, definedTable, definition, switch, acknowledgement, updatedEntry, withFields, followingId, incrementalOf, update, incremental, stickTable}
+use Rattle.body.proofs.Within.{definition-within, update-within}
+use Rattle.message.specs.Effects.{Effect, Asks, does, commits, refuseWith, refuse, refusal, refuseBody, fieldsThen, definedTable, definition, switch, acknowledgement, updatedEntry, withFields, followingId, updateOf, update, otherMessage, byForm, stickTable}
 
 -- an answer that is no refusal
 abbrev pub isAccepted : Answer → Bool
@@ -95,21 +97,9 @@ module _ (c : Connection) (tables : List Table) where
     unfolding withFields updatedEntry
     with-same table x y k h = fields-same AcceptedAsk (λ f. does (refuseBody c f)) broken-not x y _ _ k (λ u n e. let w = h u n e in (w .0, rw (w .1) refl))
 
-    update-same : AcceptedAsk (update c tables body) → update c tables (body ++ more) ≡ update c tables body
-    unfolding update
-    update-same k =
-        let t = getD tables (c .current - 1) noTable in
-        by-test (eqb (c .current) 0)
-        (λ z. rw z refl)
-        (λ z.
-        let q = rw z at k in
-        rw z
-        (with-same (c .current - 1) (updateFields t body) (updateFields t (body ++ more)) q
-        (λ u n e. (update-behind t body more u n e, span-behind body (u .key) (update-within t body u n e .0 .keyEnd) more))))
-
-    incremental-same : AcceptedAsk (incremental c tables body) → incremental c tables (body ++ more) ≡ incremental c tables body
-    unfolding incremental incrementalOf
-    incremental-same k =
+    update-same : (form : Form) → AcceptedAsk (update form c tables body) → update form c tables (body ++ more) ≡ update form c tables body
+    unfolding update updateOf
+    update-same form k =
         let table = c .current - 1 in
         let t = getD tables table noTable in
         let id = followingId (bindingAt c table .previous) in
@@ -118,38 +108,41 @@ module _ (c : Connection) (tables : List Table) where
         (λ z.
         let q = rw z at k in
         rw z
-        (by-test (isUpdated (bindingAt c table))
+        (by-test (form .explicit || isUpdated (bindingAt c table))
         (λ y.
         let r = rw y at q in
         rw y
-        (with-same table (incrementalFields t id body) (incrementalFields t id (body ++ more)) r
-        (λ u n e. (incremental-behind t id body more u n e, span-behind body (u .key) (incremental-within t id body u n e .1 .keyEnd) more))))
+        (with-same table (updateFields form t id body) (updateFields form t id (body ++ more)) r
+        (λ u n e. (update-behind form t id body more u n e, span-behind body (u .key) (update-within form t id body u n e .0 .within .keyEnd) more))))
         (λ y. rw y refl)))
+
+    other-same : (kind : ℕ) → Accepted (otherMessage c tables kind body)
+        → (kind ≡ 130 → (d : Definition) (n : ℕ) → definitionFields body ≡ got d n → d .times .timed ≡ 1)
+        → otherMessage c tables kind (body ++ more) ≡ otherMessage c tables kind body
+    unfolding otherMessage
+    other-same kind q timed =
+        by-test (eqb kind 130)
+        (λ d. let r = rw d at q in rw d (definition-same r (timed (eqb-true kind 130 d))))
+        (λ d.
+        let r = rw d at q in
+        rw d
+        (by-test (eqb kind 131)
+        (λ e. let u = rw e at r in rw e (switch-same u))
+        (λ e.
+        let u = rw e at r in
+        rw e
+        (by-test (eqb kind 132) (λ f. let v = rw f at u in rw f (acknowledgement-same v)) (λ f. rw f refl)))))
+
+    form-same : (kind : ℕ) (form : Option Form) → AcceptedAsk (byForm c tables kind body form)
+        → (kind ≡ 130 → (d : Definition) (n : ℕ) → definitionFields body ≡ got d n → d .times .timed ≡ 1)
+        → byForm c tables kind (body ++ more) form ≡ byForm c tables kind body form
+    unfolding byForm
+    form-same kind (some form) k timed = update-same form k
+    form-same kind none k timed = ap does (other-same kind k timed)
 
     -- every accepted message; a definition where it has its expiry
     pub ignored-behind : (kind : ℕ) → AcceptedAsk (stickTable c tables kind body)
         → (kind ≡ 130 → (d : Definition) (n : ℕ) → definitionFields body ≡ got d n → d .times .timed ≡ 1)
         → stickTable c tables kind (body ++ more) ≡ stickTable c tables kind body
     unfolding stickTable
-    ignored-behind kind k timed =
-        by-test (eqb kind 128)
-        (λ a. let p = rw a at k in rw a (update-same p))
-        (λ a.
-        let p = rw a at k in
-        rw a
-        (by-test (eqb kind 129)
-        (λ b. let q = rw b at p in rw b (incremental-same q))
-        (λ b.
-        let q = rw b at p in
-        rw b
-        (by-test (eqb kind 130)
-        (λ d. let r = rw d at q in rw d (ap does (definition-same r (timed (eqb-true kind 130 d)))))
-        (λ d.
-        let r = rw d at q in
-        rw d
-        (by-test (eqb kind 131)
-        (λ e. let u = rw e at r in rw e (ap does (switch-same u)))
-        (λ e.
-        let u = rw e at r in
-        rw e
-        (by-test (eqb kind 133) (λ f. let v = rw f at u in rw f (ap does (acknowledgement-same v))) (λ f. rw f refl)))))))))
+    ignored-behind kind k timed = form-same kind (formOf kind) k timed

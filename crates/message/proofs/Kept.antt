@@ -43,9 +43,10 @@ use Rattle.session.proofs.Shapes.{closed-shape, current-shape, bind-shape, comm
 use Rattle.body.specs.declared.Failure.{Failure}
 use Rattle.body.specs.declared.Failure.the-variants as failure
 use Rattle.body.specs.Fields.{got, spanIn}
-use Rattle.body.specs.Bodies.{Definition, definitionFields, Update}
+use Rattle.body.specs.declared.update.Form.{Form}
+use Rattle.body.specs.Bodies.{Definition, definitionFields, Update, timeMark}
 use Rattle.body.proofs.Spans.{span-length, span-bytes}
-use Rattle.body.proofs.Within.{definition-within, UpdateWithin}
+use Rattle.body.proofs.Within.{definition-within, UpdateWithin, UpdateRead}
 use Rattle.wire.specs.Value.{Bytes}
 use Rattle.message.specs.Changes.{noChange, tableChange, entryChange, changed}
 use Rattle.message.specs.Targets.{goesTo}
@@ -61,6 +62,11 @@ key-at-most t n h =
     (λ k. leb-true n (t .«key_len») (sym (cond-true (isString (keyKind (t .«key_type»))) y z k) ∙ h))
     (λ k. let q = eqb-true n (t .«key_len») (sym (cond-false (isString (keyKind (t .«key_type»))) y z k) ∙ h) in omega arith)
 
+-- an update's mark of a remaining time is 0 or 1 where its table's is
+mark-at-most : (form : Form) (t : Table) → t .timed ≤ 1 → timeMark form t ≤ 1
+unfolding timeMark
+mark-at-most form t l = by-test (form .timed) (λ e. rw e (omega arith)) (λ e. rw e l)
+
 -- ---- a table and an entry that are made
 
 made-mark : (name : List ℕ) (d : Rules) → makeTable name d .held ≡ 1
@@ -72,27 +78,28 @@ made-facts : (name : List ℕ) (d : Rules) → 1 ≤ length name → length name
 unfolding makeTable
 made-facts name d a b p k l e t = record { nameLeast = a; nameMost = b; plain = made-plain name d b p; known = k; keyLength = l; dataTypes = e; timed = t }
 
-module _ (table : ℕ) (key : List ℕ) (server : ℤ) (values : List ℕ) where
-  made-entry-mark : makeEntry table key server values .held ≡ 1
+module _ (table : ℕ) (key : List ℕ) (server : ℤ) (timed remaining : ℕ) (values : List ℕ) where
+  made-entry-mark : makeEntry table key server timed remaining values .held ≡ 1
   unfolding makeEntry
   made-entry-mark = refl
 
-  made-size : length key ≤ 64 → makeEntry table key server values .«key_len» ≤ 64
+  made-size : length key ≤ 64 → makeEntry table key server timed remaining values .«key_len» ≤ 64
   unfolding makeEntry
   made-size l = l
 
-  made-entry-table : makeEntry table key server values .table ≡ table
+  made-entry-table : makeEntry table key server timed remaining values .table ≡ table
   unfolding makeEntry
   made-entry-table = refl
 
   made-entry-facts : (tables : List Table) → table < 8 → tableHeld (getD tables table noTable) ≡ true → length key ≤ 64
       → cond (isString (keyKind (getD tables table noTable .«key_type»))) (leb (length key) (getD tables table noTable .«key_len»)) (eqb (length key) (getD tables table noTable .«key_len»)) ≡ true
-      → slotsOk (getD tables table noTable .«data_types») slotTypes values ≡ true → EntryFacts tables (makeEntry table key server values)
-  made-entry-facts tables a b l k v = record {
+      → slotsOk (getD tables table noTable .«data_types») slotTypes values ≡ true → timed ≤ 1 → EntryFacts tables (makeEntry table key server timed remaining values)
+  made-entry-facts tables a b l k v m = record {
     place = unfold makeEntry in a;
     tableHeld = unfold makeEntry in b;
+    timed = unfold makeEntry in m;
     keyLength = unfold makeEntry entryKeyLengthOk in k;
-    keyRest = made-rest table key server values l;
+    keyRest = made-rest table key server timed remaining values l;
     values = unfold makeEntry valuesOk in v;
   }
 
@@ -323,12 +330,13 @@ module _ (c : Connection) (s : Store) (h : Held c s) where
         commit-free found.Nothing = refuse-kept 29 closing-29 (lit< tt)
 
   -- the entry that an update makes
-  pub update-kept : (body : List ℕ) (table : ℕ) (u : Update) → Bytes body → c .current ≡ table + 1 → u .id < 2 ^ 32
-      → UpdateWithin (getD (s .tables) table noTable) body u
+  pub update-kept : (form : Form) (following : ℕ) (body : List ℕ) (table : ℕ) (u : Update) → Bytes body → following < 2 ^ 32
+      → c .current ≡ table + 1 → UpdateRead form (getD (s .tables) table noTable) following body u
       → Kept s (Effects.commitEntry c (u .id) (Effects.updatedEntry body table u) (goesTo (s .entries) (Effects.updatedEntry body table u)))
   unfolding Effects.updatedEntry findEntry
-  update-kept body table u bytes now idFits w =
+  update-kept form following body table u bytes l now r =
       let t = getD (s .tables) table noTable in
+      let w = r .within in
       let key = spanIn body (u .key) in
       let n : length key ≡ u .key .len = span-length body (u .key) (w .keyEnd) in
       let small : table < 8 = (let l = h .connection .currentLimit in omega arith) in
@@ -336,12 +344,16 @@ module _ (c : Connection) (s : Store) (h : Held c s) where
       let tf = h .store .table table (omega (arith, small, h .storeShape .tables)) held in
       let most = key-length-most (t .«key_type») (t .«key_len») (tf .keyLength) in
       let short : length key ≤ 64 = omega (arith, key-at-most t (u .key .len) (w .keyLength)) in
-      let made = makeEntry table key (u .server) (u .values) in
-      let size : made .«key_len» ≤ 64 = made-size table key (u .server) (u .values) short in
-      let table-is = made-entry-table table key (u .server) (u .values) in
-      let key-is = made-key table key (u .server) (u .values) short in
+      let mark : u .time .timed ≤ 1 = rw (r .mark) (mark-at-most form t (tf .timed)) in
+      let left = r .time-small bytes (h .storeShape .table table small .expiry) in
+      let made = makeEntry table key (u .server) (u .time .timed) (u .time .remaining) (u .values) in
+      let size : made .«key_len» ≤ 64 = made-size table key (u .server) (u .time .timed) (u .time .remaining) (u .values) short in
+      let table-is = made-entry-table table key (u .server) (u .time .timed) (u .time .remaining) (u .values) in
+      let key-is = made-key table key (u .server) (u .time .timed) (u .time .remaining) (u .values) short in
       subst (λ (f : Place). Kept s (Effects.commitEntry c (u .id) made f)) (sym (goes-by-key (s .entries) made table key size table-is key-is))
-      (commit-kept table (u .id) key made idFits now (made-entry-mark table key (u .server) (u .values))
-      (made-entry-facts table key (u .server) (u .values) (s .tables) small held short (rw n (w .keyLength)) (w .slots))
-      (made-entry-shape table key (u .server) (u .values) (omega arith) (omega arith) (span-bytes body (u .key) (w .keyEnd) bytes .byte) (w .server) (w .values))
+      (commit-kept table (u .id) key made (r .id-small bytes l) now
+      (made-entry-mark table key (u .server) (u .time .timed) (u .time .remaining) (u .values))
+      (made-entry-facts table key (u .server) (u .time .timed) (u .time .remaining) (u .values) (s .tables) small held short (rw n (w .keyLength)) (w .slots) mark)
+      (made-entry-shape table key (u .server) (u .time .timed) (u .time .remaining) (u .values) (omega arith) (omega arith)
+      (span-bytes body (u .key) (w .keyEnd) bytes .byte) (w .server) (omega (arith, mark)) left (w .values))
       table-is key-is (findEntry s table key) refl)

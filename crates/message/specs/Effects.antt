@@ -1,7 +1,8 @@
 -- What a whole message does: answer, reply, the new session, and what it puts into the store.
 use Prim.Native.Nat.{ℕ, _+_, _-_, _%_, _^_}
 use mathlib.Core.List.{List, [], _∷_, _++_}
-use mathlib.Core.Bool.{Bool, cond, _&&_}
+use mathlib.Core.Bool.{Bool, cond, _&&_, _||_}
+use mathlib.Core.Option.{Option, some, none}
 use lib.ListN.{length, getD}
 use lib.Dec.{leb, eqb}
 use Rattle.lists.specs.declared.Found.{Found}
@@ -9,6 +10,7 @@ use Rattle.lists.specs.declared.Found.the-variants as found
 use Rattle.lists.specs.Lists.{firstPlace}
 use Rattle.wire.specs.Integer.{encodeInt}
 use Rattle.wire.specs.Number.{encodeNumber}
+use Rattle.frame.specs.Frame.{stickTableClass, definitionType, switchType, acknowledgementType}
 use Rattle.store.specs.declared.Table.{Table}
 use Rattle.store.specs.declared.Entry.{Entry}
 use Rattle.store.specs.Store.{tableFree, tableNamed, makeTable, makeEntry, noTable}
@@ -24,8 +26,9 @@ use Rattle.session.specs.Session.{closedWith, makeCurrent, bind, committed, fin
 use Rattle.body.specs.declared.Failure.{Failure}
 use Rattle.body.specs.declared.Failure.the-variants as failure
 use Rattle.body.specs.declared.Fault.{Fault}
+use Rattle.body.specs.declared.update.Form.{Form}
 use Rattle.body.specs.Fields.{Read, got, failed, spanIn}
-use Rattle.body.specs.Bodies.{Definition, definitionFields, switchFields, acknowledgementFields, Update, updateFields, incrementalFields}
+use Rattle.body.specs.Bodies.{Definition, definitionFields, switchFields, acknowledgementFields, Update, updateFields, formOf}
 use Rattle.message.specs.declared.Change.{Change}
 use Rattle.message.specs.Changes.{noChange, tableChange, entryChange}
 use Rattle.message.specs.Targets.{goesTo}
@@ -157,7 +160,7 @@ skipped c kind = note c (answer.Skipped kind) []
 
 -- the entry that an update of the table at a place makes
 unfoldable pub updatedEntry : List ℕ → ℕ → Update → Entry
-updatedEntry body table u = makeEntry table (spanIn body (u .key)) (u .server) (u .values)
+updatedEntry body table u = makeEntry table (spanIn body (u .key)) (u .server) (u .time .timed) (u .time .remaining) (u .values)
 
 unfoldable pub refusal : Connection → ℕ → Asks
 refusal c n = does (refuse c n)
@@ -171,31 +174,31 @@ unfoldable pub followingId : ℕ → ℕ
 followingId id = (id + 1) % 2 ^ 32
 
 -- "28 | incremental, no previous ID"
-unfoldable pub incrementalOf : Connection → List Table → ℕ → List ℕ → Asks
-incrementalOf c tables table body =
-    cond (isUpdated (bindingAt c table))
-    (withFields c body table (incrementalFields (getD tables table noTable) (followingId (bindingAt c table .previous)) body))
+unfoldable pub updateOf : Form → Connection → List Table → ℕ → List ℕ → Asks
+updateOf form c tables table body =
+    cond (form .explicit || isUpdated (bindingAt c table))
+    (withFields c body table (updateFields form (getD tables table noTable) (followingId (bindingAt c table .previous)) body))
     (refusal c 28)
 
 -- "In an update 27 comes first, then 28, then fields, then 29." `current` is 0 where there is no current table, else its place plus 1
-unfoldable pub update : Connection → List Table → List ℕ → Asks
-update c tables body =
-    cond (eqb (c .current) 0) (refusal c 27)
-    (withFields c body (c .current - 1) (updateFields (getD tables (c .current - 1) noTable) body))
+unfoldable pub update : Form → Connection → List Table → List ℕ → Asks
+update form c tables body = cond (eqb (c .current) 0) (refusal c 27) (updateOf form c tables (c .current - 1) body)
 
-unfoldable pub incremental : Connection → List Table → List ℕ → Asks
-incremental c tables body = cond (eqb (c .current) 0) (refusal c 27) (incrementalOf c tables (c .current - 1) body)
+-- ---- "Types: 128 update, 129 incremental update, 130 definition, 131 switch", and request 2's 132 acknowledgement, 133 and 134 timed updates
 
--- ---- "Types: 128 update, 129 incremental update, 130 definition, 131 switch, 133 acknowledgement."
+-- a message that is no update
+unfoldable pub otherMessage : Connection → List Table → ℕ → List ℕ → Effect
+otherMessage c tables kind body =
+    cond (eqb kind definitionType) (definition c tables body)
+    (cond (eqb kind switchType) (switch c body)
+    (cond (eqb kind acknowledgementType) (acknowledgement c body) (skipped c kind)))
+
+unfoldable pub byForm : Connection → List Table → ℕ → List ℕ → Option Form → Asks
+byForm c tables kind body (some form) = update form c tables body
+byForm c tables kind body none = does (otherMessage c tables kind body)
 
 unfoldable pub stickTable : Connection → List Table → ℕ → List ℕ → Asks
-stickTable c tables kind body =
-    cond (eqb kind 128) (update c tables body)
-    (cond (eqb kind 129) (incremental c tables body)
-    (does
-    (cond (eqb kind 130) (definition c tables body)
-    (cond (eqb kind 131) (switch c body)
-    (cond (eqb kind 133) (acknowledgement c body) (skipped c kind))))))
+stickTable c tables kind body = byForm c tables kind body (formOf kind)
 
 -- ---- the entry committed
 
@@ -203,9 +206,9 @@ stickTable c tables kind body =
 unfoldable pub acknowledge : ℕ → ℕ → List ℕ
 acknowledge id update =
     let body = encodeInt id ++ encodeNumber update in
-    0x0A ∷ 0x85 ∷ encodeInt (length body) ++ body
+    stickTableClass ∷ acknowledgementType ∷ encodeInt (length body) ++ body
 
--- the entry is held, and the update's ID is the table's last committed one: "a committed update gives one acknowledgement (class 10, type 133)
+-- the entry is held, and the update's ID is the table's last committed one: "a committed update gives one acknowledgement (class 10, ..)
 -- with the table's bound ID and this update's ID"
 unfoldable pub commitAt : Connection → ℕ → Entry → ℕ → Commit → Effect
 commitAt c id e place how = record {

@@ -13,8 +13,8 @@ use Rattle.body.specs.Fields.{andThen, tested, integer, between, integerOf, spa
 use Rattle.body.specs.Bodies.{nameField, namedFields, isKeyType, shapeFields, restFields, definitionFields}
 use Rattle.message.specs.Effects.{controlReply, acknowledge, followingId, refuseWith, failureNumber, refuseBody, fieldsThen, definition}
 
--- "reply 0A850501FFFFFFFF"
-acknowledged : acknowledge 1 (2 ^ 32 - 1) ≡ 0x0A ∷ 0x85 ∷ 0x05 ∷ 0x01 ∷ 0xFF ∷ 0xFF ∷ 0xFF ∷ 0xFF ∷ []
+-- "reply 0A850501FFFFFFFF", where request 2's `84` stands for `85`
+acknowledged : acknowledge 1 (2 ^ 32 - 1) ≡ 0x0A ∷ 0x84 ∷ 0x05 ∷ 0x01 ∷ 0xFF ∷ 0xFF ∷ 0xFF ∷ 0xFF ∷ []
 unfolding acknowledge encodeInt encodeNumber
 acknowledged = refl
 

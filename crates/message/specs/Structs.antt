@@ -43,6 +43,7 @@ updateRead r =
     (r .reading)
     (record {
       id = r .id;
+      time = record { timed = r .timed; remaining = r .remaining };
       key = record { start = r .«key_at»; len = r .«key_len» };
       server = r .«server_id»;
       values = r .values;

@@ -15,14 +15,27 @@ ghost use Rattle.message.specs.Targets.{targetOf};
 ghost use Rattle.message.specs.Effects.{acknowledge, commitAt};
 ghost use Rattle.message.specs.Structs.{effectStruct, finished};
 
-// The acknowledgement of an update: class 10, type 133, the length of its body, the table's bound ID and the update's ID.
+// The acknowledgement of an update: class 10, type 132, the length of its body, the table's bound ID and the update's ID.
 pub fn acknowledge(id: u32, update: u32) -> Reply
     ensures { λ r. ⌜ r ≡ replyOf (acknowledge id update) ⌝ }
 {
     let e = wire::write_int(id as u64);
     let len = e.len;
     let encoded = e.bytes;
-    let mut bytes = [0x0a, 0x85, (4 + len) as u8, 0, 0, 0, 0, 0, 0, 0, 0, 0];
+    let mut bytes = [
+        frame::STICK_TABLE,
+        frame::ACKNOWLEDGEMENT,
+        (4 + len) as u8,
+        0,
+        0,
+        0,
+        0,
+        0,
+        0,
+        0,
+        0,
+        0,
+    ];
     wire::buffer::fit_bytes(&mut bytes, 3, &encoded[..len]);
     wire::buffer::fit_number(&mut bytes, 3 + len, update);
     Reply {

@@ -7,10 +7,17 @@ use crate::changes::refuse;
 use crate::changes::refuse_body;
 use crate::control::skipped;
 use crate::definition::definition;
-use crate::update::incremental;
 use crate::update::update;
 use body::AcknowledgementBody;
 use body::Word;
+use body::update::Form;
+use frame::ACKNOWLEDGEMENT;
+use frame::DEFINITION;
+use frame::INCREMENTAL;
+use frame::SWITCH;
+use frame::TIMED;
+use frame::TIMED_INCREMENTAL;
+use frame::UPDATE;
 use lists::Found;
 use session::Answer;
 use session::Connection;
@@ -19,6 +26,7 @@ use store::TABLES;
 use store::Table;
 ghost use mathlib.Core.Path.{_≡_};
 ghost use Rattle.session.specs.Session.{findBound};
+ghost use Rattle.body.specs.declared.update.Form.{Form};
 ghost use Rattle.message.specs.Effects.{switchTo, switch, acknowledgement, stickTable};
 ghost use Rattle.message.specs.Structs.{effectStruct, asked};
 
@@ -74,16 +82,25 @@ pub fn acknowledgement(connection: Connection, body: &[u8]) -> Effect
     }
 }
 
+// The form of an update that has an ID or not, and a remaining time or not.
+fn form(explicit: bool, timed: bool) -> Form
+    ensures { λ r. ⌜ _≡_ {A = Form} r (record { explicit = explicit; timed = timed }) ⌝ }
+{
+    Form { explicit, timed }
+}
+
 // A stick table message of this type, from 128 up, with its body.
 pub fn stick_table(connection: Connection, tables: [Table; TABLES], kind: u8, body: &[u8]) -> Asked
     ensures { λ r. ⌜ r ≡ asked connection (stickTable connection tables kind (now (body .entry))) ⌝ }
 {
     match kind {
-        128 => update(connection, tables, body),
-        129 => incremental(connection, tables, body),
-        130 => ask_nothing(definition(connection, tables, body)),
-        131 => ask_nothing(switch(connection, body)),
-        133 => ask_nothing(acknowledgement(connection, body)),
+        UPDATE => update(connection, tables, form(true, false), body),
+        INCREMENTAL => update(connection, tables, form(false, false), body),
+        TIMED => update(connection, tables, form(true, true), body),
+        TIMED_INCREMENTAL => update(connection, tables, form(false, true), body),
+        DEFINITION => ask_nothing(definition(connection, tables, body)),
+        SWITCH => ask_nothing(switch(connection, body)),
+        ACKNOWLEDGEMENT => ask_nothing(acknowledgement(connection, body)),
         _ => ask_nothing(skipped(connection, kind)),
     }
 }

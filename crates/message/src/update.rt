@@ -1,4 +1,4 @@
-// What an update and an incremental update ask for.
+// What an update of each form asks for.
 use crate::Asked;
 use crate::binding_at;
 use crate::changes::ask_commit;
@@ -6,7 +6,9 @@ use crate::changes::ask_nothing;
 use crate::changes::ask_refusal;
 use crate::changes::refuse_body;
 use body::Reading;
+use body::update::Form;
 use body::update::UpdateBody;
+use session::Binding;
 use session::Connection;
 use store::TABLES;
 use store::Table;
@@ -14,7 +16,9 @@ use store::tables::table_at;
 ghost use mathlib.Core.Path.{_≡_};
 ghost use Prim.Native.Nat.{_+_, _≤_};
 ghost use lib.ListN.{length};
-ghost use Rattle.message.specs.Effects.{withFields, incrementalOf, update, incremental};
+ghost use mathlib.Core.Bool.{_||_};
+ghost use Rattle.session.specs.Session.{isUpdated};
+ghost use Rattle.message.specs.Effects.{withFields, updateOf, update};
 ghost use Rattle.message.specs.Structs.{asked, updateRead};
 
 // An update of the table at a place, whose fields were read: its entry is committed.
@@ -29,52 +33,57 @@ fn with_fields(connection: Connection, body: &[u8], table: usize, fields: Update
             let end = start + fields.key_len;
             let values = fields.values;
             let key = &body[start..end];
-            let entry = store::make_entry(table, key, fields.server_id, values);
+            let entry = store::make_entry(
+                table,
+                key,
+                fields.server_id,
+                fields.timed,
+                fields.remaining,
+                values,
+            );
             ask_commit(connection, fields.id, entry)
         }
         Reading::Failed(fault) => ask_nothing(refuse_body(connection, fault)),
     }
 }
 
-// An update: of the current table, with the ID that its body begins with.
-pub fn update(connection: Connection, tables: [Table; TABLES], body: &[u8]) -> Asked
-    ensures { λ r. ⌜ r ≡ asked connection (update connection tables (now (body .entry))) ⌝ }
+// Whether an update of this form has an ID, its own or one that follows the table's previous ID.
+fn has_id(form: Form, binding: Binding) -> bool
+    ensures { λ r. ⌜ r ≡ (form .explicit || isUpdated binding) ⌝ }
 {
-    let current = connection.current as usize;
-    if current == 0 {
-        return ask_refusal(connection, 27);
+    if form.explicit {
+        return true;
     }
-    let place = current - 1;
-    let fields = body::update::read_update(table_at(tables, place), body);
-    with_fields(connection, body, place, fields)
+    binding.updated == 1
 }
 
-// An incremental update of the table at a place: its ID is the previous one plus one, and 4294967295 is followed by 0.
-fn incremental_of(
+// An update of the table at a place. Without an ID of its own it has the previous one plus one, and 4294967295 is followed by 0.
+fn update_of(
     connection: Connection,
     tables: [Table; TABLES],
     table: usize,
+    form: Form,
     body: &[u8],
 ) -> Asked
-    ensures { λ r. ⌜ r ≡ asked connection (incrementalOf connection tables table (now (body .entry))) ⌝ }
+    ensures { λ r. ⌜ r ≡ asked connection (updateOf form connection tables table (now (body .entry))) ⌝ }
 {
     let bindings = connection.bindings;
     let b = binding_at(bindings, table);
-    if b.updated != 1 {
-        return ask_refusal(connection, 28);
+    if has_id(form, b) {
+        let id = std::num::wrapping_add_u32(b.previous, 1);
+        let fields = body::update::read_update(form, table_at(tables, table), id, body);
+        return with_fields(connection, body, table, fields);
     }
-    let id = std::num::wrapping_add_u32(b.previous, 1);
-    let fields = body::update::read_incremental(table_at(tables, table), id, body);
-    with_fields(connection, body, table, fields)
+    ask_refusal(connection, 28)
 }
 
-// An incremental update, of the current table.
-pub fn incremental(connection: Connection, tables: [Table; TABLES], body: &[u8]) -> Asked
-    ensures { λ r. ⌜ r ≡ asked connection (incremental connection tables (now (body .entry))) ⌝ }
+// An update of the current table.
+pub fn update(connection: Connection, tables: [Table; TABLES], form: Form, body: &[u8]) -> Asked
+    ensures { λ r. ⌜ r ≡ asked connection (update form connection tables (now (body .entry))) ⌝ }
 {
     let current = connection.current as usize;
     if current == 0 {
         return ask_refusal(connection, 27);
     }
-    incremental_of(connection, tables, current - 1, body)
+    update_of(connection, tables, current - 1, form, body)
 }

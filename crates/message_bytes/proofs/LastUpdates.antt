@@ -10,16 +10,19 @@ use Rattle.lists.proofs.Cases.{eq-or-ne}
 use Rattle.store.specs.declared.Entry.{Entry}
 use Rattle.store.specs.declared.Store.{Store}
 use Rattle.store.specs.Store.{noEntry}
+use Rattle.store.specs.Time.{Passed, PassPromise}
 use Rattle.session.specs.declared.Session.{Session}
 use Rattle.session.specs.declared.Commit.{Commit}
 use Rattle.session.specs.declared.Answer.{Answer}
 use Rattle.session.specs.Session.{unfinished}
 use Rattle.session.specs.declared.Answer.the-variants as answer
 use Rattle.session_soundness.specs.Sound.{sound}
+use Rattle.streams.specs.Model.{bytesIn}
 use Rattle.streams.specs.Calls.{Call}
+use Rattle.streams.proofs.Timeline.{bytesIn-bytes}
 use Rattle.receiver.specs.Model.{State, heldBy}
 use Rattle.receiver.specs.Promise.{Made, ReadPromise, callOf}
-use Rattle.receiver.specs.Demand3.{Chain, takenBy, lastSession, lastStore}
+use Rattle.receiver.specs.Demand3.{Called, reads, passes, Chain, takenBy, lastSession, lastStore}
 use Rattle.receiver.specs.Corollaries.{messageOf}
 use Rattle.receiver.proofs.Chained.{good-held}
 use Rattle.receiver.proofs.OneRead.{call-is, made-state}
@@ -27,7 +30,8 @@ use Rattle.receiver.proofs.Lawfully.{lawful}
 use Rattle.receiver.proofs.Ways.{Way, staying, waiting-on, judging, ways, taken-is, record-stays}
 use Rattle.receiver.proofs.Acknowledging.{others-untouched}
 use Rattle.message_bytes.specs.MessageBytes.{tableAt, UpdateMessage}
-use Rattle.message_bytes.specs.LastUpdates.{lastEntry, NoneUpdates, NeverUpdated, LastUpdate, BytesOfEveryEntry}
+use Rattle.message_bytes.specs.LastUpdates.{lastEntry, NoneUpdates, passing, NonePasses, Since, same, NeverUpdated, LastUpdate, BytesOfEveryEntry}
+use Rattle.message_bytes.proofs.Aging.{passed-since}
 use Rattle.message_bytes.proofs.UpdateMessages.{bytes-of-update, updated-elsewhere}
 use Rattle.message_bytes.proofs.DefinitionMessages.{bytes-of-definition}
 
@@ -139,33 +143,63 @@ module _ (s : Session) (t : Store) (m : Made) (p : ReadPromise s t m) where
 
 -- ---- all calls
 
-later : (s : Session) (t : Store) (m : Made) (calls : List Made) (place : ℕ) → ReadPromise s t m → LastUpdate (m .session) (m .store) calls place
-    → LastUpdate s t (m ∷ calls) place
-unfolding lastSession lastStore takenBy
+-- the bytes that a call and those after it took
+taken-in : (m : Made) (calls : List Called) → bytesIn (takenBy (reads m ∷ calls)) ≡ take (m .outcome .taken) (m .piece) ++ bytesIn (takenBy calls)
+unfolding takenBy
+taken-in m calls = bytesIn-bytes (take (m .outcome .taken) (m .piece)) (takenBy calls)
+
+passed-in : (p : Passed) (calls : List Called) → bytesIn (takenBy (passes p ∷ calls)) ≡ bytesIn (takenBy calls)
+unfolding takenBy bytesIn
+passed-in p calls = refl
+
+later : (s : Session) (t : Store) (m : Made) (calls : List Called) (place : ℕ) → ReadPromise s t m → LastUpdate (m .session) (m .store) calls place
+    → LastUpdate s t (reads m ∷ calls) place
+unfolding lastSession lastStore
 later s t m calls place p u =
     let c = carries s t m p in
     record {
-      before = m ∷ u .before;
+      before = reads m ∷ u .before;
       call = u .call;
       after = u .after;
-      among = ap (λ (ms : List Made). m ∷ ms) (u .among);
+      among = ap (reads m ∷_) (u .among);
       table = u .table;
       id = u .id;
       how = u .how;
       answer = u .answer;
       last = u .last;
+      since = u .since;
       message = u .message;
       earlier = c .0 ++ u .earlier;
       stood =
-          sym (append-assoc (unfinished s) (take (m .outcome .taken) (m .piece)) (takenBy calls))
-          ∙ (ap (λ (l : List ℕ). l ++ takenBy calls) (c .1)
-          ∙ (append-assoc (c .0) (unfinished (m .session)) (takenBy calls)
-          ∙ (ap (λ (l : List ℕ). c .0 ++ l) (u .stood) ∙ sym (append-assoc (c .0) (u .earlier) _))));
+          ap (λ (l : List ℕ). unfinished s ++ l) (taken-in m calls)
+          ∙ (sym (append-assoc (unfinished s) (take (m .outcome .taken) (m .piece)) (bytesIn (takenBy calls)))
+          ∙ (ap (λ (l : List ℕ). l ++ bytesIn (takenBy calls)) (c .1)
+          ∙ (append-assoc (c .0) (unfinished (m .session)) (bytesIn (takenBy calls))
+          ∙ (ap (λ (l : List ℕ). c .0 ++ l) (u .stood) ∙ sym (append-assoc (c .0) (u .earlier) _)))));
     }
 
-first : (s : Session) (t : Store) (m : Made) (calls : List Made) (place : ℕ) → ReadPromise s t m → NeverUpdated (m .store) calls place
-    → NeverUpdated t (m ∷ calls) place ⊎ LastUpdate s t (m ∷ calls) place
-unfolding lastSession lastStore takenBy NoneUpdates
+later-passed : (s : Session) (t : Store) (p : Passed) (calls : List Called) (place : ℕ) → LastUpdate s (p .store) calls place
+    → LastUpdate s t (passes p ∷ calls) place
+unfolding lastSession lastStore
+later-passed s t p calls place u = record {
+  before = passes p ∷ u .before;
+  call = u .call;
+  after = u .after;
+  among = ap (passes p ∷_) (u .among);
+  table = u .table;
+  id = u .id;
+  how = u .how;
+  answer = u .answer;
+  last = u .last;
+  since = u .since;
+  message = u .message;
+  earlier = u .earlier;
+  stood = ap (λ (l : List ℕ). unfinished s ++ l) (passed-in p calls) ∙ u .stood;
+}
+
+first : (s : Session) (t : Store) (m : Made) (calls : List Called) (place : ℕ) → ReadPromise s t m → NeverUpdated (m .store) calls place
+    → NeverUpdated t (reads m ∷ calls) place ⊎ LastUpdate s t (reads m ∷ calls) place
+unfolding lastSession lastStore NoneUpdates passing
 first s t m calls place p n =
     ⊎-elim
     (λ c.
@@ -181,17 +215,33 @@ first s t m calls place p n =
       how = c .1 .1 .0;
       answer = a;
       last = n .none;
-      message =
-          subst (UpdateMessage s m (c .0) (c .1 .0) (tableAt m (c .0))) (sym (n .same)) (bytes-of-update s t m (c .0) (c .1 .0) place (c .1 .1 .0) p a);
+      since = n .since;
+      message = bytes-of-update s t m (c .0) (c .1 .0) place (c .1 .1 .0) p a;
       earlier = [];
-      stood = sym (append-assoc (unfinished s) (take (m .outcome .taken) (m .piece)) (takenBy calls));
+      stood =
+          ap (λ (l : List ℕ). unfinished s ++ l) (taken-in m calls)
+          ∙ sym (append-assoc (unfinished s) (take (m .outcome .taken) (m .piece)) (bytesIn (takenBy calls)));
     }))
-    (λ k. inl (record { none = (k .0, n .none); same = n .same ∙ k .1 }))
+    (λ k.
+    inl
+    (record {
+      none = (k .0, n .none);
+      since = subst (λ (x : Entry). Since (passing calls) x (lastEntry (m .store) calls place)) (k .1) (n .since);
+    }))
     (one-call s t m p place)
 
+first-passed : (t : Store) (p : Passed) (calls : List Called) (place : ℕ) → PassPromise t p → NeverUpdated (p .store) calls place
+    → NeverUpdated t (passes p ∷ calls) place
+unfolding lastStore NoneUpdates passing
+first-passed t p calls place promise n =
+    record { none = n .none; since = passed-since t p place (passing calls) (lastEntry (p .store) calls place) promise (n .since) }
+
 pub bytes-of-every-entry : BytesOfEveryEntry
-unfolding Chain lastStore NoneUpdates
-bytes-of-every-entry s t [] place c = inl (record { none = tt; same = refl })
-bytes-of-every-entry s t (m ∷ calls) place c =
+unfolding Chain
+bytes-of-every-entry s t [] place c = inl (unfold lastStore NoneUpdates passing NonePasses in record { none = tt; since = same (inr tt) })
+bytes-of-every-entry s t (reads m ∷ calls) place c =
     ⊎-elim (λ n. first s t m calls place (c .0) n) (λ u. inr (later s t m calls place (c .0) u))
     (bytes-of-every-entry (m .session) (m .store) calls place (c .1))
+bytes-of-every-entry s t (passes p ∷ calls) place c =
+    ⊎-elim (λ n. inl (first-passed t p calls place (c .1) n)) (λ u. inr (later-passed s t p calls place u))
+    (bytes-of-every-entry s (p .store) calls place (c .2))

@@ -1,4 +1,5 @@
 pub mod WholeMessage
 pub mod UpdateMessages
 pub mod DefinitionMessages
+pub mod Aging
 pub mod LastUpdates

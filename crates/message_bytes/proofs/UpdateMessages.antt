@@ -2,16 +2,14 @@
 use Prim.Native.Nat.{ℕ, _+_, _-_, _%_, _^_, _≤_, _<_}
 use native.Mathlib.Omega.{arith}
 use mathlib.Core.Path.{_≡_, refl, sym, ap, subst, _∙_}
-use mathlib.Core.Logic.{_⊎_, ⊎-elim}
-use mathlib.Core.Bool.{true}
+use mathlib.Core.Bool.{true, false, cond}
+use mathlib.Core.Option.{some}
 use mathlib.Core.List.{List, [], _++_, append-assoc}
-use lib.Seq.{getD-set-other}
+use lib.Seq.{getD-set-other, drop-append-seam, take-append-seam}
 use lib.ListN.{length, take, drop, getD}
 use lib.IntN.{ℤ}
 use lib.Signed.{mag}
-use lib.Dec.{eqb}
-use borrow.Author.Tests.{eq-eqb, ne-eqb}
-use Rattle.lists.proofs.Cases.{cond-true, cond-false}
+use Rattle.lists.proofs.Cases.{by-test, cond-true, cond-false}
 use Rattle.wire.specs.Integer.{encodeInt}
 use Rattle.wire.specs.Number.{encodeNumber}
 use Rattle.wire.specs.Server.{serverWord}
@@ -24,7 +22,7 @@ use Rattle.store.specs.declared.Store.{Store}
 use Rattle.store.specs.Limits.{slotTypes, present}
 use Rattle.store.specs.Shape.{Cells, EntryShape}
 use Rattle.store.specs.Sound.{soundEntry, entryKeyLengthOk, valuesOk}
-use Rattle.store.specs.Store.{entryHeld, makeEntry, putEntry, noTable, noEntry}
+use Rattle.store.specs.Store.{entryHeld, timeLeft, makeEntry, putEntry, noTable, noEntry}
 use Rattle.store.proofs.Facts.{TableFacts, EntryFacts, facts-entry, key-most}
 use Rattle.store.proofs.Ruled.{made-key}
 use Rattle.session.specs.declared.Session.{Session}
@@ -33,119 +31,97 @@ use Rattle.session.specs.declared.Answer.{Answer}
 use Rattle.session.specs.declared.Answer.the-variants as answer
 use Rattle.session.specs.Session.{bindingAt}
 use Rattle.body.specs.Fields.{got, spanIn}
-use Rattle.body.specs.Bodies.{Update, updateFields, incrementalFields}
-use Rattle.body.specs.Encodings.{messageBytes, entryBytes, updateBytes, incrementalBytes, serverStart, slotStart}
+use Rattle.body.specs.declared.update.Form.{Form}
+use Rattle.body.specs.Bodies.{Update, updateFields, timeMark, formOf}
+use Rattle.body.specs.Encodings.{messageBytes, entryBytes, numberIf, updateBytes, entryStart, serverStart, slotStart}
 use Rattle.body.proofs.Spans.{span-length}
-use Rattle.body.proofs.Within.{UpdateWithin, update-within, update-id, incremental-within}
-use Rattle.body.proofs.UpdateEncoding.{EntryRead, update-encoded, incremental-encoded, slot-there, server-there}
-use Rattle.body.proofs.OneEncoding.{Fitting, SameFields, update-once, incremental-once, type-once, body-once}
+use Rattle.body.proofs.Within.{UpdateWithin, UpdateRead, update-within}
+use Rattle.body.proofs.UpdateEncoding.{EntryRead, update-encoded, if-length, entry-start, slot-there, server-there}
+use Rattle.body.proofs.OneEncoding.{Fitting, SameFields, update-once, type-once, body-once}
 use Rattle.message.specs.Effects.{Effect, updatedEntry, followingId}
 use Rattle.streams.specs.Calls.{Call}
 use Rattle.receiver.specs.Model.{State}
 use Rattle.receiver.specs.Promise.{Made, ReadPromise, callOf}
 use Rattle.receiver.specs.Corollaries.{messageOf, fieldsOf}
-use Rattle.message_bytes.specs.MessageBytes.{tableAt, entryAt, fieldBytes, serverIdStart, integerStart, UpdateMessage, BytesOfUpdate, SameUpdate, OneReading}
+use Rattle.message_bytes.specs.MessageBytes.{tableAt, entryAt, timeStart, serverIdStart, integerStart, UpdateMessage, BytesOfUpdate, SameUpdate, OneReading}
 use Rattle.receiver.proofs.SettledLaws.{Updated, updated}
 use Rattle.receiver.proofs.Ways.{Way, Judging, staying, waiting-on, judging, ways, answer-is}
 use Rattle.receiver.proofs.Acknowledging.{put-here, put-tables, judged, held, bytes}
 use Rattle.message_bytes.proofs.WholeMessage.{StickTable, body-is, message-is, body-most, body-behind, kept, message-ends}
 
--- ---- the fields of either type
+-- ---- the fields of each form
 
 -- what was read of a body, for the table t with this previous ID
-record FieldsAre (kind previous id : ℕ) (t : Table) (body : List ℕ) (u : Update) : Type 0 where
-  within : UpdateWithin t body u
+record FieldsAre (form : Form) (previous id : ℕ) (t : Table) (body : List ℕ) (u : Update) : Type 0 where
+  read : UpdateRead form t (followingId previous) body u
   small : id < 2 ^ 32
-  following : kind ≡ 129 → id ≡ (previous + 1) % 2 ^ 32
+  following : form .explicit ≡ false → id ≡ (previous + 1) % 2 ^ 32
   ignored : List ℕ
-  fields : (e : Entry) → EntryRead body u e → body ≡ fieldBytes kind t id e ++ ignored
+  fields : (e : Entry) → EntryRead form body u e → body ≡ updateBytes form t id e ++ ignored
 
-module _ (t : Table) (body : List ℕ) (b : Bytes body) (u : Update) (after previous id : ℕ) (own : u .id ≡ id) where
-  explicit-are : (kind : ℕ) → kind ≡ 128 → updateFields t body ≡ got u after → FieldsAre kind previous id t body u
-  explicit-are kind k q = record {
-    within = update-within t body u after q .0;
-    small = subst (λ (n : ℕ). n < 2 ^ 32) own (update-id t body u after b q);
-    following = λ z. absurd (omega arith);
-    ignored = drop after body;
-    fields = λ e r.
-        rw (cond-true (eqb kind 128) (updateBytes t id e) (incrementalBytes t e) (eq-eqb kind 128 k))
-        (update-encoded t body b u after e r q ∙ ap (λ (n : ℕ). updateBytes t n e ++ drop after body) own);
-  }
+following-small : (previous : ℕ) → followingId previous < 2 ^ 32
+unfolding followingId
+following-small previous = omega arith
 
-  incremental-are : (kind : ℕ) → kind ≡ 129 → incrementalFields t (followingId previous) body ≡ got u after → FieldsAre kind previous id t body u
-  unfolding followingId
-  incremental-are kind k q =
-      let w = incremental-within t ((previous + 1) % 2 ^ 32) body u after q in
-      let same : id ≡ (previous + 1) % 2 ^ 32 = sym own ∙ w .0 in
-      let n : kind ≡ 128 → ⊥ = λ z. omega arith in
-      record {
-        within = w .1;
-        small = omega (arith, same);
-        following = λ z. same;
-        ignored = drop after body;
-        fields = λ e r.
-            rw (cond-false (eqb kind 128) (updateBytes t id e) (incrementalBytes t e) (ne-eqb kind 128 n))
-            (incremental-encoded t body b ((previous + 1) % 2 ^ 32) u after e r q);
-      }
+fields-are : (form : Form) (t : Table) (body : List ℕ) → Bytes body → (u : Update) (after previous id : ℕ) → u .id ≡ id
+    → updateFields form t (followingId previous) body ≡ got u after → FieldsAre form previous id t body u
+fields-are form t body b u after previous id own q =
+    let w = update-within form t (followingId previous) body u after q .0 in
+    record {
+      read = w;
+      small = subst (λ (n : ℕ). n < 2 ^ 32) own (w .id-small b (following-small previous));
+      following = λ z. sym own ∙ (w .id-known z ∙ unfold followingId in refl);
+      ignored = drop after body;
+      fields = λ e r. update-encoded t body b form (followingId previous) u after e r q ∙ ap (λ (n : ℕ). updateBytes form t n e ++ drop after body) own;
+    }
+
+-- what stands before key and data
+abbrev first : Form → ℕ → Entry → List ℕ
+first form id e = numberIf (form .explicit) id ++ numberIf (form .timed) (e .remaining)
+
+first-then : (form : Form) (t : Table) (id : ℕ) (e : Entry) (rest : List ℕ)
+    → updateBytes form t id e ++ rest ≡ first form id e ++ (entryBytes t e ++ rest)
+unfolding updateBytes
+first-then form t id e rest = simp append-assoc
+
+-- the remaining time, in the body
+time-here : (form : Form) (t : Table) (id : ℕ) (e : Entry) (rest : List ℕ) → form .timed ≡ true
+    → take 4 (drop (timeStart form) (updateBytes form t id e ++ rest)) ≡ encodeNumber (e .remaining)
+time-here form t id e rest h =
+    let x = numberIf (form .explicit) id in
+    let y = encodeNumber (e .remaining) in
+    let z = entryBytes t e ++ rest in
+    let there : numberIf (form .timed) (e .remaining) ≡ y = unfold numberIf in cond-true (form .timed) y [] h in
+    let q : updateBytes form t id e ++ rest ≡ x ++ (y ++ z) =
+    first-then form t id e rest ∙ (append-assoc x (numberIf (form .timed) (e .remaining)) z ∙ ap (λ (l : List ℕ). x ++ (l ++ z)) there) in
+    ap (λ (l : List ℕ). take 4 (drop (timeStart form) l)) q
+    ∙ (ap (λ (n : ℕ). take 4 (drop n (x ++ (y ++ z)))) (sym (if-length (form .explicit) id))
+    ∙ (ap (take 4) (drop-append-seam x (y ++ z)) ∙ (ap (λ (n : ℕ). take n (y ++ z)) (sym (number-length (e .remaining))) ∙ take-append-seam y z)))
 
 -- the integer of a slot, in the body
-module _ (t : Table) (id : ℕ) (e : Entry) (rest : List ℕ) (i : ℕ) (l : i < 34) (size : length (e .values) ≡ 34)
-    (h : present (t .«data_types») (getD slotTypes i 0) ≡ true) where
-  abbrev value : List ℕ
-  value = encodeInt (getD (e .values) i 0)
+module _ (form : Form) (t : Table) (id : ℕ) (e : Entry) (rest : List ℕ) where
+  integer-there : (i : ℕ) → i < 34 → length (e .values) ≡ 34 → present (t .«data_types») (getD slotTypes i 0) ≡ true
+      → (body : List ℕ) → body ≡ updateBytes form t id e ++ rest
+      → take (length (encodeInt (getD (e .values) i 0))) (drop (integerStart form t e i) body) ≡ encodeInt (getD (e .values) i 0)
+  integer-there i l size h body q =
+      rw (q, first-then form t id e rest, ← entry-start form id (e .remaining)) (slot-there t e i l size h (first form id e) rest)
 
-  integer-explicit : take (length value) (drop (4 + slotStart t e i) (updateBytes t id e ++ rest)) ≡ value
-  unfolding updateBytes
-  integer-explicit =
-      rw (append-assoc (encodeNumber id) (entryBytes t e) rest, ← number-length id) (slot-there t e i l size h (encodeNumber id) rest)
-
-  integer-incremental : take (length value) (drop (0 + slotStart t e i) (incrementalBytes t e ++ rest)) ≡ value
-  unfolding incrementalBytes
-  integer-incremental = slot-there t e i l size h [] rest
-
-  integer-here : (kind : ℕ) → (kind ≡ 128) ⊎ (kind ≡ 129) → take (length value) (drop (integerStart kind t e i) (fieldBytes kind t id e ++ rest)) ≡ value
-  integer-here kind k =
-      ⊎-elim
-      (λ z. rw (eq-eqb kind 128 z) integer-explicit)
-      (λ z. let n : kind ≡ 128 → ⊥ = λ y. omega arith in rw (ne-eqb kind 128 n) integer-incremental)
-      k
-
-  integer-there : (kind : ℕ) → (kind ≡ 128) ⊎ (kind ≡ 129) → (body : List ℕ) → body ≡ fieldBytes kind t id e ++ rest
-      → take (length value) (drop (integerStart kind t e i) body) ≡ value
-  integer-there kind k body q = ap (λ (y : List ℕ). take (length value) (drop (integerStart kind t e i) y)) q ∙ integer-here kind k
-
--- the server ID, in the body
-module _ (t : Table) (id : ℕ) (e : Entry) (rest : List ℕ) (h : present (t .«data_types») 0 ≡ true) where
-  abbrev word : List ℕ
-  word = encodeInt (serverWord (e .«server_id»))
-
-  server-explicit : take (length word) (drop (4 + serverStart t e) (updateBytes t id e ++ rest)) ≡ word
-  unfolding updateBytes
-  server-explicit = rw (append-assoc (encodeNumber id) (entryBytes t e) rest, ← number-length id) (server-there t e h (encodeNumber id) rest)
-
-  server-incremental : take (length word) (drop (0 + serverStart t e) (incrementalBytes t e ++ rest)) ≡ word
-  unfolding incrementalBytes
-  server-incremental = server-there t e h [] rest
-
-  server-here : (kind : ℕ) → (kind ≡ 128) ⊎ (kind ≡ 129) → take (length word) (drop (serverIdStart kind t e) (fieldBytes kind t id e ++ rest)) ≡ word
-  server-here kind k =
-      ⊎-elim
-      (λ z. rw (eq-eqb kind 128 z) server-explicit)
-      (λ z. let n : kind ≡ 128 → ⊥ = λ y. omega arith in rw (ne-eqb kind 128 n) server-incremental)
-      k
-
-  server-at : (kind : ℕ) → (kind ≡ 128) ⊎ (kind ≡ 129) → (body : List ℕ) → body ≡ fieldBytes kind t id e ++ rest
-      → take (length word) (drop (serverIdStart kind t e) body) ≡ word
-  server-at kind k body q = ap (λ (y : List ℕ). take (length word) (drop (serverIdStart kind t e) y)) q ∙ server-here kind k
+  -- the server ID, in the body
+  server-at : present (t .«data_types») 0 ≡ true → (body : List ℕ) → body ≡ updateBytes form t id e ++ rest
+      → take (length (encodeInt (serverWord (e .«server_id»)))) (drop (serverIdStart form t e) body) ≡ encodeInt (serverWord (e .«server_id»))
+  server-at h body q = rw (q, first-then form t id e rest, ← entry-start form id (e .remaining)) (server-there t e h (first form id e) rest)
 
 -- ---- the entry that was put
 
-module _ (t : Table) (table : ℕ) (body : List ℕ) (u : Update) (f : TableFacts t) (w : UpdateWithin t body u) where
+module _ (form : Form) (t : Table) (following table : ℕ) (body : List ℕ) (u : Update) (f : TableFacts t) (r : UpdateRead form t following body u) where
+  abbrev w : UpdateWithin t body u
+  w = r .within
+
   abbrev key : List ℕ
   key = spanIn body (u .key)
 
   abbrev made : Entry
-  made = makeEntry table key (u .server) (u .values)
+  made = makeEntry table key (u .server) (u .time .timed) (u .time .remaining) (u .values)
 
   key-ok : entryKeyLengthOk t made ≡ true
   unfolding makeEntry entryKeyLengthOk
@@ -155,9 +131,27 @@ module _ (t : Table) (table : ℕ) (body : List ℕ) (u : Update) (f : TableFact
   unfolding makeEntry
   key-short = key-most t made f key-ok
 
-  entry-read : EntryRead body u (updatedEntry body table u)
+  made-mark : updatedEntry body table u .timed ≡ timeMark form t
   unfolding updatedEntry makeEntry
-  entry-read = record { key = made-key table key (u .server) (u .values) key-short; server = refl; values = refl }
+  made-mark = r .mark
+
+  -- a timed update's own time, and an untimed one's
+  own-time : form .timed ≡ true → updatedEntry body table u .remaining ≡ u .time .remaining
+  unfolding updatedEntry makeEntry timeLeft timeMark
+  own-time h = rw (r .mark, h)
+
+  table-time : form .timed ≡ false → updatedEntry body table u .remaining ≡ timeLeft (t .timed) (t .expiry)
+  unfolding updatedEntry makeEntry timeMark
+  table-time h = rw (r .mark, h, r .time-known h)
+
+  entry-read : EntryRead form body u (updatedEntry body table u)
+  unfolding updatedEntry makeEntry
+  entry-read = record {
+    remaining = own-time;
+    key = made-key table key (u .server) (u .time .timed) (u .time .remaining) (u .values) key-short;
+    server = refl;
+    values = refl;
+  }
 
 entry-owner : (table : ℕ) (body : List ℕ) (u : Update) → (entryHeld (updatedEntry body table u) ≡ true) × (updatedEntry body table u .table ≡ table)
 unfolding updatedEntry makeEntry entryHeld
@@ -193,18 +187,12 @@ module _ (s : Session) (t : Store) (m : Made) (p : ReadPromise s t m) (e : Effec
       let n : table < length (t .tables) = omega (arith, x .current, h .storeShape .tables) in
       h .store .table table n (h .connection .currentHeld table (x .current))
 
-  are : FieldsAre (x .kind) (bindingAt (s .connection) table .previous) id now body (x .fields)
+  are : FieldsAre (x .form) (bindingAt (s .connection) table .previous) id now body (x .fields)
   are =
       let b = drop-bytes (x .start) (bytes s t m p e j) in
-      let q : fieldsOf (s .connection) t table (x .kind) body ≡ got (x .fields) (x .after) =
-      ap (fieldsOf (s .connection) t table (x .kind)) (sym same-body) ∙ x .read in
-      let previous = bindingAt (s .connection) table .previous in
-      ⊎-elim
-      (λ k. explicit-are now body b (x .fields) (x .after) previous id (x .own-id) (x .kind) k (rw (eq-eqb (x .kind) 128 k) at q))
-      (λ k.
-      let n : x .kind ≡ 128 → ⊥ = λ z. omega arith in
-      incremental-are now body b (x .fields) (x .after) previous id (x .own-id) (x .kind) k (rw (ne-eqb (x .kind) 128 n) at q))
-      (x .type)
+      let q : fieldsOf (s .connection) t table (x .form) body ≡ got (x .fields) (x .after) =
+      ap (fieldsOf (s .connection) t table (x .form)) (sym same-body) ∙ x .read in
+      fields-are (x .form) now body b (x .fields) (x .after) (bindingAt (s .connection) table .previous) id (x .own-id) q
 
   stored : m .store ≡ putEntry t place (updatedEntry body table (x .fields))
   stored =
@@ -245,12 +233,15 @@ module _ (s : Session) (t : Store) (m : Made) (p : ReadPromise s t m) (e : Effec
 
   update-message : UpdateMessage s m table id now (updatedEntry body table (x .fields))
   update-message =
-      let r = entry-read now table body (x .fields) facts (are .within) in
+      let following = followingId (bindingAt (s .connection) table .previous) in
+      let w = are .read .within in
+      let r = entry-read (x .form) now following table body (x .fields) facts (are .read) in
       let f = are .fields new r in
-      let v = subst (Cells 34 64) (sym (r .values)) (are .within .values) in
+      let v = subst (Cells 34 64) (sym (r .values)) (w .values) in
       let g = message-is u (bytes s t m p e j) (x .kind) (x .start) (x .end) (x .framed) last in
       record {
         kind = x .kind;
+        form = x .form;
         type = x .type;
         body = body;
         message = g;
@@ -269,13 +260,16 @@ module _ (s : Session) (t : Store) (m : Made) (p : ReadPromise s t m) (e : Effec
         widths = subst (λ (y : Table). valuesOk y new ≡ true) owner-is (new-facts .values);
         following = are .following;
         previous = x .previous;
+        mark = made-mark (x .form) now following table body (x .fields) facts (are .read);
+        expiry = table-time (x .form) now following table body (x .fields) facts (are .read);
+        remaining = λ h. ap (λ (l : List ℕ). take 4 (drop (timeStart (x .form)) l)) f ∙ time-here (x .form) now id new (are .ignored) h;
         id-32-bit = are .small;
-        server-32-bit = subst (λ (z : ℤ). mag z < 2 ^ 31) (sym (r .server)) (are .within .server);
+        server-32-bit = subst (λ (z : ℤ). mag z < 2 ^ 31) (sym (r .server)) (w .server);
         values = v;
-        server = λ h. server-at now id new (are .ignored) h (x .kind) (x .type) body f;
-        integer = λ i l h. integer-there now id new (are .ignored) i l (v .size) h (x .kind) (x .type) body f;
-        absent = λ i l h. ap (λ (y : List ℕ). getD y i 0) (r .values) ∙ are .within .absent i l h;
-        noServer = λ h. r .server ∙ are .within .noServer h;
+        server = λ h. server-at (x .form) now id new (are .ignored) h body f;
+        integer = λ i l h. integer-there (x .form) now id new (are .ignored) i l (v .size) h body f;
+        absent = λ i l h. ap (λ (y : List ℕ). getD y i 0) (r .values) ∙ w .absent i l h;
+        noServer = λ h. r .server ∙ w .noServer h;
       }
 
 by-way : (s : Session) (t : Store) (m : Made) (table id place : ℕ) (how : Commit) → ReadPromise s t m → m .outcome .answer ≡ answer.Update table id place how
@@ -339,11 +333,14 @@ module _ (s : Session) (m : Made) (t : Table) (table id : ℕ) (e : Entry) (tabl
   same-kind : h .kind ≡ k .kind
   same-kind = type-once _ _ (h .body) (k .body) (short _ (h .body-most)) (short _ (k .body-most)) same-message
 
-  same-fields : fieldBytes (h .kind) t id e ++ h .ignored ≡ fieldBytes (h .kind) t id′ f ++ k .ignored
+  same-form : h .form ≡ k .form
+  same-form = let q : some (h .form) ≡ some (k .form) = sym (h .type) ∙ (ap formOf same-kind ∙ k .type) in cc
+
+  same-fields : updateBytes (h .form) t id e ++ h .ignored ≡ updateBytes (h .form) t id′ f ++ k .ignored
   same-fields =
       sym (h .fields)
       ∙ (body-once (h .kind) (k .kind) (h .body) (k .body) (short _ (h .body-most)) (short _ (k .body-most)) same-message
-      ∙ (k .fields ∙ ap (λ (n : ℕ). fieldBytes n t id′ f ++ k .ignored) (sym same-kind)))
+      ∙ (k .fields ∙ ap (λ (x : Form). updateBytes x t id′ f ++ k .ignored) (sym same-form)))
 
   fits : Fitting t e
   fits = fitting s m table id t e h
@@ -351,24 +348,35 @@ module _ (s : Session) (m : Made) (t : Table) (table id : ℕ) (e : Entry) (tabl
   fits′ : Fitting t f
   fits′ = fitting s m table′ id′ t f k
 
-  one-explicit : h .kind ≡ 128 → (id ≡ id′) × SameFields e f
-  one-explicit z =
-      let g : updateBytes t id e ++ h .ignored ≡ updateBytes t id′ f ++ k .ignored = rw (eq-eqb (h .kind) 128 z) at same-fields in
-      update-once t e f fits fits′ id id′ (h .ignored) (k .ignored) (h .id-32-bit) (k .id-32-bit) g
+  once : (h .form .explicit ≡ true → id ≡ id′) × (h .form .timed ≡ true → e .remaining ≡ f .remaining) × SameFields e f
+  once =
+      update-once t e f fits fits′ (h .form) id id′ (h .ignored) (k .ignored) (h .id-32-bit) (k .id-32-bit) (h .shape .remaining) (k .shape .remaining) same-fields
 
-  one-incremental : h .kind ≡ 129 → (id ≡ id′) × SameFields e f
-  one-incremental z =
-      let n : h .kind ≡ 128 → ⊥ = λ y. omega arith in
-      let g : incrementalBytes t e ++ h .ignored ≡ incrementalBytes t f ++ k .ignored = rw (ne-eqb (h .kind) 128 n) at same-fields in
-      let i : id ≡ id′ =
+  same-id : id ≡ id′
+  same-id =
+      by-test (h .form .explicit)
+      (λ z. once .0 z)
+      (λ z.
       h .following z
-      ∙ (ap (λ (p : ℕ). (bindingAt (s .connection) p .previous + 1) % 2 ^ 32) same-table ∙ sym (k .following (sym same-kind ∙ z))) in
-      (i, incremental-once t e f fits fits′ (h .ignored) (k .ignored) g)
+      ∙ (ap (λ (p : ℕ). (bindingAt (s .connection) p .previous + 1) % 2 ^ 32) same-table
+      ∙ sym (k .following (ap (λ (x : Form). x .explicit) (sym same-form) ∙ z))))
+
+  same-time : e .remaining ≡ f .remaining
+  same-time =
+      by-test (h .form .timed)
+      (λ z. once .1 z)
+      (λ z. h .expiry z ∙ sym (k .expiry (ap (λ (x : Form). x .timed) (sym same-form) ∙ z)))
 
   same-update : SameUpdate table id e table′ id′ f
-  same-update =
-      let r = ⊎-elim one-explicit one-incremental (h .type) in
-      record { table = same-table; id = r .0; key = r .1 .key; server = r .1 .server; values = r .1 .values }
+  same-update = record {
+    table = same-table;
+    id = same-id;
+    key = once .2 .key;
+    server = once .2 .server;
+    values = once .2 .values;
+    timed = h .mark ∙ (ap (λ (x : Form). timeMark x t) same-form ∙ sym (k .mark));
+    remaining = same-time;
+  }
 
 pub one-reading : OneReading
 one-reading s m t table id e table′ id′ f h k = same-update s m t table id e table′ id′ f h k

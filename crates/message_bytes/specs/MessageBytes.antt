@@ -1,6 +1,6 @@
 -- "which bytes stood for this counter?": the message of an accepted update or definition, from its first byte to its last.
--- The records below fix the reading by themselves: no other key, server ID or values fit the message of an update, and no other ID, name,
--- shape or times that of a definition.
+-- The records below fix the reading by themselves: no other key, server ID, values or remaining time fit the message of an update, and no other
+-- ID, name, shape or times that of a definition.
 use Prim.Native.Nat.{ℕ, _+_, _%_, _^_, _≤_, _<_}
 use mathlib.Core.Path.{_≡_}
 use mathlib.Core.Logic.{_⊎_}
@@ -10,7 +10,10 @@ use lib.ListN.{length, take, drop, getD, replicate}
 use lib.IntN.{pos}
 use lib.Signed.{mag}
 use lib.Dec.{eqb}
+use mathlib.Core.Option.{some}
+use Rattle.frame.specs.Frame.{definitionType}
 use Rattle.wire.specs.Integer.{encodeInt}
+use Rattle.wire.specs.Number.{encodeNumber}
 use Rattle.wire.specs.Server.{serverWord}
 use Rattle.store.specs.declared.Table.{Table}
 use Rattle.store.specs.declared.Entry.{Entry}
@@ -18,12 +21,14 @@ use Rattle.store.specs.declared.Store.{Store}
 use Rattle.store.specs.Limits.{valueCount, rateCount, slotTypes, rateTypes, present}
 use Rattle.store.specs.Shape.{Cells, TableShape, EntryShape}
 use Rattle.store.specs.Sound.{soundTable, soundEntry, entryKeyLengthOk, keyRestZero, valuesOk}
-use Rattle.store.specs.Store.{tableHeld, entryHeld, nameOf, keyOf, noTable, noEntry}
+use Rattle.store.specs.Store.{tableHeld, entryHeld, nameOf, keyOf, timeLeft, noTable, noEntry}
 use Rattle.session.specs.declared.Session.{Session}
 use Rattle.session.specs.declared.Commit.{Commit}
 use Rattle.session.specs.declared.Answer.the-variants as answer
 use Rattle.session.specs.Session.{bindingAt, isBound, isUpdated}
-use Rattle.body.specs.Encodings.{messageBytes, bodyStart, updateBytes, incrementalBytes, serverStart, slotStart, definitionBytes}
+use Rattle.body.specs.declared.update.Form.{Form}
+use Rattle.body.specs.Bodies.{timeMark, formOf}
+use Rattle.body.specs.Encodings.{messageBytes, bodyStart, updateBytes, entryStart, serverStart, slotStart, definitionBytes}
 use Rattle.receiver.specs.Promise.{Made, ReadPromise}
 use Rattle.receiver.specs.Corollaries.{messageOf}
 
@@ -36,29 +41,29 @@ entryAt m place = getD (m .store .entries) place noEntry
 
 -- ---- update
 
--- The bytes of the fields of an update of this type: "Update: 4-byte big-endian update ID, key, data. Incremental has no ID".
-abbrev pub fieldBytes : ℕ → Table → ℕ → Entry → List ℕ
-fieldBytes kind t id e = cond (eqb kind 128) (updateBytes t id e) (incrementalBytes t e)
+-- The positions in its body at which the remaining time starts, where the update has one, the server ID, and the integer of slot i.
+abbrev pub timeStart : Form → ℕ
+timeStart form = cond (form .explicit) 4 0
 
--- The position in its body at which the server ID starts, and the one at which the integer of slot i starts.
-abbrev pub serverIdStart : ℕ → Table → Entry → ℕ
-serverIdStart kind t e = cond (eqb kind 128) 4 0 + serverStart t e
+abbrev pub serverIdStart : Form → Table → Entry → ℕ
+serverIdStart form t e = entryStart form + serverStart t e
 
-abbrev pub integerStart : ℕ → Table → Entry → ℕ → ℕ
-integerStart kind t e i = cond (eqb kind 128) 4 0 + slotStart t e i
+abbrev pub integerStart : Form → Table → Entry → ℕ → ℕ
+integerStart form t e i = entryStart form + slotStart t e i
 
--- The message that a call ended is an update of table t, at the place `table`, with this ID and with the key, server ID and values of
--- entry e: class 10, the type, the encoded body length, and a body of the encoded fields and then of bytes that are ignored.
+-- The message that a call ended is an update of table t, at the place `table`, with this ID and with the key, server ID, values and
+-- remaining time of entry e: class 10, the type, the encoded body length, and a body of the encoded fields and then of bytes that are ignored.
 pub record UpdateMessage (s : Session) (m : Made) (table id : ℕ) (t : Table) (e : Entry) : Type 0 where
   pub kind : ℕ
-  pub type : (kind ≡ 128) ⊎ (kind ≡ 129)
+  pub form : Form
+  pub type : formOf kind ≡ some form
   pub body : List ℕ
   pub message : messageOf s m ≡ messageBytes kind body
   -- the position of the body in the message; "body over 1,024 bytes" is refused
   pub body-there : drop (bodyStart body) (messageOf s m) ≡ body
   pub body-most : length body ≤ 1024
   pub ignored : List ℕ
-  pub fields : body ≡ fieldBytes kind t id e ++ ignored
+  pub fields : body ≡ updateBytes form t id e ++ ignored
   -- the table is held and was the current one
   pub table-held : tableHeld t ≡ true
   pub current : s .connection .current ≡ table + 1
@@ -73,18 +78,22 @@ pub record UpdateMessage (s : Session) (m : Made) (table id : ℕ) (t : Table) (
   -- "Types 13 and 15 .. take 64 bits, all others 32."
   pub widths : valuesOk t e ≡ true
   -- "it is the table's previous ID plus one, and 4294967295 is followed by 0"; the table has a previous ID
-  pub following : kind ≡ 129 → id ≡ (bindingAt (s .connection) table .previous + 1) % 2 ^ 32
-  pub previous : kind ≡ 129 → isUpdated (bindingAt (s .connection) table) ≡ true
+  pub following : form .explicit ≡ false → id ≡ (bindingAt (s .connection) table .previous + 1) % 2 ^ 32
+  pub previous : form .explicit ≡ false → isUpdated (bindingAt (s .connection) table) ≡ true
+  -- request 2: "an untimed update takes the table's expiry, else none"; a timed one has its own time, four bytes of the body
+  pub mark : e .timed ≡ timeMark form t
+  pub expiry : form .timed ≡ false → e .remaining ≡ timeLeft (t .timed) (t .expiry)
+  pub remaining : form .timed ≡ true → take 4 (drop (timeStart form) body) ≡ encodeNumber (e .remaining)
   -- a 4-byte ID, a signed 32-bit server ID (`mag` of -2^31 is 2^31 - 1) and 34 values of at most 64 bits: each such number has one encoding
   pub id-32-bit : id < 2 ^ 32
   pub server-32-bit : mag (e .«server_id») < 2 ^ 31
   pub values : Cells valueCount 64 (e .values)
   -- where the table has data type 0, these bytes of the body are the server ID's
   pub server : present (t .«data_types») 0 ≡ true
-      → take (length (encodeInt (serverWord (e .«server_id»)))) (drop (serverIdStart kind t e) body) ≡ encodeInt (serverWord (e .«server_id»))
+      → take (length (encodeInt (serverWord (e .«server_id»)))) (drop (serverIdStart form t e) body) ≡ encodeInt (serverWord (e .«server_id»))
   -- a slot whose data type the table has: these bytes of the body are its integer's
   pub integer : (i : ℕ) → i < valueCount → present (t .«data_types») (getD slotTypes i 0) ≡ true
-      → take (length (encodeInt (getD (e .values) i 0))) (drop (integerStart kind t e i) body) ≡ encodeInt (getD (e .values) i 0)
+      → take (length (encodeInt (getD (e .values) i 0))) (drop (integerStart form t e i) body) ≡ encodeInt (getD (e .values) i 0)
   -- a slot whose data type it hasn't is 0; so is the server ID
   pub absent : (i : ℕ) → i < valueCount → present (t .«data_types») (getD slotTypes i 0) ≡ false → getD (e .values) i 0 ≡ 0
   pub noServer : present (t .«data_types») 0 ≡ false → e .«server_id» ≡ pos 0
@@ -96,15 +105,18 @@ BytesOfUpdate =
     (s : Session) (t : Store) (m : Made) (table id place : ℕ) (how : Commit) → ReadPromise s t m
     → m .outcome .answer ≡ answer.Update table id place how → UpdateMessage s m table id (tableAt m table) (entryAt m place)
 
--- What the bytes fix: the place of the table, the update's ID, and the entry's key, server ID and values.
+-- What the bytes fix: the place of the table, the update's ID, and the entry's key, server ID, values and remaining time.
 pub record SameUpdate (place number : ℕ) (e : Entry) (place′ number′ : ℕ) (f : Entry) : Type 0 where
   pub table : place ≡ place′
   pub id : number ≡ number′
   pub key : keyOf e ≡ keyOf f
   pub server : e .«server_id» ≡ f .«server_id»
   pub values : e .values ≡ f .values
+  pub timed : e .timed ≡ f .timed
+  pub remaining : e .remaining ≡ f .remaining
 
--- A message is an update of a table in one way only: its bytes stand for one ID, one key, one server ID and one list of values.
+-- A message is an update of a table in one way only: its bytes stand for one ID, one key, one server ID, one list of values and, with what the
+-- table has for untimed updates, one remaining time.
 abbrev pub OneReading : Type 0
 OneReading =
     (s : Session) (m : Made) (t : Table) (table id : ℕ) (e : Entry) (table′ id′ : ℕ) (f : Entry) → UpdateMessage s m table id t e
@@ -116,7 +128,7 @@ OneReading =
 -- length, and a body of the encoded fields and then of bytes that are ignored. The call came with the store `before`.
 pub record DefinitionMessage (s : Session) (before : Store) (m : Made) (place id : ℕ) (t : Table) : Type 0 where
   pub body : List ℕ
-  pub message : messageOf s m ≡ messageBytes 130 body
+  pub message : messageOf s m ≡ messageBytes definitionType body
   -- the position of the body in the message; "body over 1,024 bytes" is refused
   pub body-there : drop (bodyStart body) (messageOf s m) ≡ body
   pub body-most : length body ≤ 1024

@@ -12,10 +12,10 @@ use Rattle.session.specs.declared.Answer.{Answer}
 use Rattle.session.specs.declared.Answer.the-variants as answer
 use Rattle.session.specs.Answers.{refusalOf, answerNumber, answerValues}
 use Rattle.receiver.specs.Promise.{Made, ReadPromise, callOf, outcomeOf}
-use Rattle.receiver.specs.Demand3.{Chain}
+use Rattle.receiver.specs.Demand3.{Called, reads, passes, Chain}
 use Rattle.peers.specs.Numbers.{rawOutcome}
 use Rattle.peers.specs.Reading.{RawMade, RawPromise}
-use Rattle.peers.specs.ExportedDemand3.{RawChain, rawValues}
+use Rattle.peers.specs.ExportedDemand3.{RawCalled, rawReads, rawPasses, RawChain, rawValues}
 use Rattle.peers.proofs.Promising.{raw-promised}
 
 -- ---- one call
@@ -67,24 +67,33 @@ raw-promise s t m p = raw-promised (rawOutcome (m .outcome)) refl p
 
 -- ---- a list of calls
 
-unfoldable pub madesBy : Session → Store → List RawMade → List Made
-madesBy s t [] = []
-madesBy s t (m ∷ ms) = madeBy s t m ∷ madesBy (m .session) (m .store) ms
+-- a call of a list with its answer in numbers; a passing call returns one already
+abbrev pub rawCalled : Called → RawCalled
+rawCalled (reads m) = rawReads (rawOf m)
+rawCalled (passes p) = rawPasses p
 
-pub mades-chain : (s : Session) (t : Store) (ms : List RawMade) → RawChain s t ms → Chain s t (madesBy s t ms)
+unfoldable pub madesBy : Session → Store → List RawCalled → List Called
+madesBy s t [] = []
+madesBy s t (rawReads m ∷ cs) = reads (madeBy s t m) ∷ madesBy (m .session) (m .store) cs
+madesBy s t (rawPasses p ∷ cs) = passes p ∷ madesBy s (p .store) cs
+
+pub mades-chain : (s : Session) (t : Store) (cs : List RawCalled) → RawChain s t cs → Chain s t (madesBy s t cs)
 unfolding RawChain Chain madesBy
 mades-chain s t [] c = tt
-mades-chain s t (m ∷ ms) c = (made-promised s t m (c .0), mades-chain (m .session) (m .store) ms (c .1))
+mades-chain s t (rawReads m ∷ cs) c = (made-promised s t m (c .0), mades-chain (m .session) (m .store) cs (c .1))
+mades-chain s t (rawPasses p ∷ cs) c = (c .0, c .1, mades-chain s (p .store) cs (c .2))
 
-pub mades-same : (s : Session) (t : Store) (ms : List RawMade) → RawChain s t ms → ms ≡ map rawOf (madesBy s t ms)
+pub mades-same : (s : Session) (t : Store) (cs : List RawCalled) → RawChain s t cs → cs ≡ map rawCalled (madesBy s t cs)
 unfolding RawChain madesBy
 mades-same s t [] c = refl
-mades-same s t (m ∷ ms) c = λ i. made-same s t m (c .0) i ∷ mades-same (m .session) (m .store) ms (c .1) i
+mades-same s t (rawReads m ∷ cs) c = λ i. rawReads (made-same s t m (c .0) i) ∷ mades-same (m .session) (m .store) cs (c .1) i
+mades-same s t (rawPasses p ∷ cs) c = λ i. rawPasses p ∷ mades-same s (p .store) cs (c .2) i
 
-pub raw-chain : (s : Session) (t : Store) (ms : List Made) → Chain s t ms → RawChain s t (map rawOf ms)
+pub raw-chain : (s : Session) (t : Store) (cs : List Called) → Chain s t cs → RawChain s t (map rawCalled cs)
 unfolding RawChain Chain
 raw-chain s t [] c = tt
-raw-chain s t (m ∷ ms) c = (raw-promise s t m (c .0), raw-chain (m .session) (m .store) ms (c .1))
+raw-chain s t (reads m ∷ cs) c = (raw-promise s t m (c .0), raw-chain (m .session) (m .store) cs (c .1))
+raw-chain s t (passes p ∷ cs) c = (c .0, c .1, raw-chain s (p .store) cs (c .2))
 
 -- ---- numbers
 

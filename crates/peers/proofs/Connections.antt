@@ -1,17 +1,19 @@
--- Several connections and one store, by induction on the steps: one call's laws are those of a list of one call.
+-- Several connections and one store, by induction on the steps: one reading call's laws are those of a list of one call.
 use Prim.Native.Nat.{ℕ}
 use native.Mathlib.Omega.{arith}
 use mathlib.Core.Path.{_≡_, refl, sym, ap, subst, _∙_}
 use mathlib.Core.Logic.{_⊎_, inl, inr, ⊎-elim}
-use mathlib.Core.Bool.{Bool, true, false, cond}
+use mathlib.Core.Bool.{true, false, cond}
 use mathlib.Core.List.{List, [], _∷_, _++_, append-assoc}
 use lib.ListN.{length, take, getD}
 use lib.Dec.{eqb}
 use borrow.Author.Tests.{eqb-true, eq-eqb}
 use Rattle.lists.specs.Lists.{front, every}
 use Rattle.lists.proofs.Cases.{by-test, and-first, and-second}
+use Rattle.store.specs.declared.Entry.{Entry}
 use Rattle.store.specs.declared.Store.{Store}
 use Rattle.store.specs.Store.{noEntry, noTable, emptyStore}
+use Rattle.store.specs.Time.{Passed}
 use Rattle.store.proofs.Ruled.{empty-sound}
 use Rattle.session.specs.declared.Session.{Session}
 use Rattle.session.specs.declared.Commit.{Commit}
@@ -20,25 +22,31 @@ use Rattle.session.specs.Session.{unfinished, isClosed}
 use Rattle.session_soundness.specs.Sound.{sound}
 use Rattle.opening.specs.Opening.{Role, «open», openedOf}
 use Rattle.opening.proofs.SoundOpening.{open-sound}
+use Rattle.streams.specs.Model.{bytesIn}
+use Rattle.streams.proofs.Timeline.{bytesIn-bytes}
 use Rattle.receiver.specs.Model.{isByte}
 use Rattle.receiver.specs.Promise.{Made, Shaped, callOf, outcomeOf, sessionOf}
 use Rattle.receiver.specs.Ledger.{Ledger, startLedger}
-use Rattle.receiver.specs.Demand3.{AcknowledgedCalls}
+use Rattle.receiver.specs.Demand3 as list
+use Rattle.receiver.specs.Demand3.{Called, AcknowledgedCalls}
 use Rattle.receiver.proofs.Chained.{good-held}
 use Rattle.receiver.proofs.Following.{Follows, starts-following}
 use Rattle.receiver.proofs.Lawfully.{lawful}
-use Rattle.receiver.proofs.Offered.{next-shaped}
+use Rattle.receiver.proofs.OnePass.{passed-model, passed-keeps-sound, passed-shaped}
+use Rattle.receiver.proofs.Offered.{spent, pass-promised, next-shaped}
 use Rattle.receiver.proofs.Ways.{ways}
 use Rattle.receiver.proofs.LedgerAlong.{acknowledged-next}
 use Rattle.receiver.proofs.Sharing.{refused-byte}
 use Rattle.message_bytes.specs.MessageBytes.{UpdateMessage}
+use Rattle.message_bytes.specs.LastUpdates.{NonePasses, Since, same}
+use Rattle.message_bytes.proofs.Aging.{none-since, passed-since}
 use Rattle.message_bytes.proofs.LastUpdates.{carries}
 use Rattle.peers.specs.declared.numbers.RawOpened.{RawOpened}
 use Rattle.peers.specs.Numbers.{rawOutcome, rawOpened}
 use Rattle.peers.specs.Reading.{RawMade, RawPromise}
-use Rattle.peers.specs.ExportedDemand3.{RawChain, rawValues, rawTaken, rawLastSession, rawLastStore, RawEachCall, RawAcknowledgedCalls, RawNeverUnsound, ExportedDemand3}
-use Rattle.peers.specs.ExportedCorollaries.{rawMessage, ToldUpdate, answering, RawNoneUpdates, RawNeverUpdated, RawLastUpdate}
-use Rattle.peers.specs.Connections.{Records, HostStep, reads, recordsAfter, storeAfter, KeptStep, Interleaved, lastRecords, sharedStore, ownCall, callsOf, SoundCall, OwnStep, ownAfter, EachOwnCall, EveryConnection, EveryOpenedConnection, Asked, askedBy, InOrder, InAnyOrder, UpdatesNot, NoStepUpdates, NeverTouched, LastStep, BytesOfSharedEntries}
+use Rattle.peers.specs.ExportedDemand3.{RawCalled, rawReads, rawPasses, RawChain, rawValues, rawTaken, rawLastSession, rawLastStore, RawEachCall, RawAcknowledgedCalls, RawNeverUnsound, ExportedDemand3}
+use Rattle.peers.specs.ExportedCorollaries.{rawMessage, ToldUpdate, answering, RawNoneUpdates, rawPassing, RawNeverUpdated, RawLastUpdate}
+use Rattle.peers.specs.Connections.{Records, HostStep, reads, passes, recordsAfter, storeAfter, KeptStep, Interleaved, lastRecords, sharedStore, ownCall, callsOf, SoundCall, OwnStep, ownAfter, EachOwnCall, EveryConnection, EveryOpenedConnection, Asked, toRead, toPass, askedBy, askable, InOrder, InAnyOrder, sharedEntry, UpdatesNot, NoStepUpdates, timesOf, NeverTouched, LastStep, BytesOfSharedEntries}
 use Rattle.peers.proofs.AsMade.{madeBy, made-promised, made-same}
 use Rattle.peers.proofs.ExportedDemand3.{acknowledged-call, exported-demand-3}
 use Rattle.peers.proofs.ExportedCorollaries.{raw-other-records-sound, raw-bytes-of-every-entry}
@@ -46,12 +54,12 @@ use Rattle.peers.proofs.ExportedCorollaries.{raw-other-records-sound, r
 -- ---- one call
 
 module _ (s : Session) (t : Store) (m : RawMade) (p : RawPromise s t m) where
-  alone : RawChain s t (m ∷ [])
+  alone : RawChain s t (rawReads m ∷ [])
   unfolding RawChain
   alone = (p, tt)
 
-  demanded : sound s t ≡ true → ExportedDemand3 s t (m ∷ [])
-  demanded f = exported-demand-3 s t (m ∷ []) f alone
+  demanded : sound s t ≡ true → ExportedDemand3 s t (rawReads m ∷ [])
+  demanded f = exported-demand-3 s t (rawReads m ∷ []) f alone
 
   sound-call : sound s t ≡ true → SoundCall s t m
   unfolding RawEachCall RawNeverUnsound
@@ -74,6 +82,7 @@ module _ (s : Session) (t : Store) (m : RawMade) (p : RawPromise s t m) where
 own-after : (records : Records) (i : ℕ) (p : HostStep) → recordsAfter records p i ≡ ownAfter i (records i) p
 unfolding recordsAfter ownAfter
 own-after records i (reads k m) = refl
+own-after records i (passes p) = refl
 
 own-sound : (records : Records) (t : Store) (i : ℕ) (p : HostStep) → KeptStep records t p → sound (records i) t ≡ true
     → sound (recordsAfter records p i) (storeAfter t p) ≡ true
@@ -82,6 +91,7 @@ own-sound records t i (reads k m) p f =
     by-test (eqb k i)
     (λ h. rw h (sound-after (records k) t m p (subst (λ (j : ℕ). sound (records j) t ≡ true) (sym (eqb-true k i h)) f)))
     (λ h. rw h (raw-other-records-sound (records k) t m (records i) p f))
+own-sound records t i (passes q) p f = passed-keeps-sound t q p (records i) f
 
 own-step : (records : Records) (t : Store) (i : ℕ) (p : HostStep) → KeptStep records t p → sound (records i) t ≡ true → OwnStep i (records i) t p
 unfolding KeptStep OwnStep
@@ -89,34 +99,42 @@ own-step records t i (reads k m) p f =
     by-test (eqb k i)
     (λ h. rw h (sound-call (records i) t m (subst (λ (j : ℕ). RawPromise (records j) t m) (eqb-true k i h) p) f))
     (λ h. rw h tt)
+own-step records t i (passes q) p f =
+    record { model = passed-model t q p (records i) f; after = passed-keeps-sound t q p (records i) f; sound = f }
 
-own-last : (s : Session) (i : ℕ) (p : HostStep) (calls : List RawMade) → rawLastSession (ownAfter i s p) calls ≡ rawLastSession s (ownCall i p calls)
+own-last : (s : Session) (i : ℕ) (p : HostStep) (calls : List RawCalled) → rawLastSession (ownAfter i s p) calls ≡ rawLastSession s (ownCall i p calls)
 unfolding ownAfter ownCall rawLastSession
 own-last s i (reads k m) calls = by-test (eqb k i) (λ h. rw h) (λ h. rw h)
+own-last s i (passes p) calls = refl
 
 -- ---- the acknowledgements of one connection
 
 -- the connection's calls, with the answer enum
-ownMade : ℕ → Records → Store → HostStep → List Made → List Made
-ownMade i records t (reads k m) calls = cond (eqb k i) (madeBy (records i) t m ∷ calls) calls
+ownMade : ℕ → Records → Store → HostStep → List Called → List Called
+ownMade i records t (reads k m) calls = cond (eqb k i) (list.reads (madeBy (records i) t m) ∷ calls) calls
+ownMade i records t (passes p) calls = list.passes p ∷ calls
 
-ownMades : ℕ → Records → Store → List HostStep → List Made
+ownMades : ℕ → Records → Store → List HostStep → List Called
 ownMades i records t [] = []
 ownMades i records t (p ∷ steps) = ownMade i records t p (ownMades i (recordsAfter records p) (storeAfter t p) steps)
 
 -- with each ledger that says what the record says, the replies to these calls are right
-abbrev RightAlong : Session → List Made → Type 0
+abbrev RightAlong : Session → List Called → Type 0
 RightAlong s calls =
     (l : Ledger) → Follows (s .connection) l → (u : List ℕ) → (isClosed (s .connection) ≡ false → u ≡ unfinished s) → AcknowledgedCalls l u calls
 
-right-call : (s : Session) (t : Store) (m : RawMade) (calls : List Made) → RawPromise s t m → sound s t ≡ true → RightAlong (m .session) calls
-    → RightAlong s (madeBy s t m ∷ calls)
+right-call : (s : Session) (t : Store) (m : RawMade) (calls : List Called) → RawPromise s t m → sound s t ≡ true → RightAlong (m .session) calls
+    → RightAlong s (list.reads (madeBy s t m) ∷ calls)
 right-call s t m calls p f next l k u o =
     let made = madeBy s t m in
     let q = made-promised s t m p in
     acknowledged-next s t made q f (good-held s t (p .shaped) f) l k u o calls next (ways s t made q)
 
-right-step : (records : Records) (t : Store) (i : ℕ) (p : HostStep) (calls : List Made) → KeptStep records t p → sound (records i) t ≡ true
+right-pass : (s : Session) (p : Passed) (calls : List Called) → RightAlong s calls → RightAlong s (list.passes p ∷ calls)
+unfolding AcknowledgedCalls
+right-pass s p calls next l k u o = next l k u o
+
+right-step : (records : Records) (t : Store) (i : ℕ) (p : HostStep) (calls : List Called) → KeptStep records t p → sound (records i) t ≡ true
     → RightAlong (recordsAfter records p i) calls → RightAlong (records i) (ownMade i records t p calls)
 unfolding KeptStep recordsAfter ownMade
 right-step records t i (reads k m) calls p f next =
@@ -125,6 +143,7 @@ right-step records t i (reads k m) calls p f next =
     let next′ : RightAlong (m .session) calls = rw h at next in
     rw h (right-call (records i) t m calls (subst (λ (j : ℕ). RawPromise (records j) t m) (eqb-true k i h) p) f next′))
     (λ h. let next′ : RightAlong (records i) calls = rw h at next in rw h next′)
+right-step records t i (passes q) calls p f next = right-pass (records i) q calls next
 
 right-along : (records : Records) (t : Store) (i : ℕ) (steps : List HostStep) → Interleaved records t steps → sound (records i) t ≡ true
     → RightAlong (records i) (ownMades i records t steps)
@@ -135,22 +154,27 @@ right-along records t i (p ∷ steps) c f =
     (right-along (recordsAfter records p) (storeAfter t p) i steps (c .1) (own-sound records t i p (c .0) f))
 
 -- in numbers
-abbrev InNumbers : List Made → List RawMade → Type 0
+abbrev InNumbers : List Called → List RawCalled → Type 0
 InNumbers calls others = (l : Ledger) (u : List ℕ) → AcknowledgedCalls l u calls → RawAcknowledgedCalls l u others
 
-numbers-call : (s : Session) (t : Store) (m : RawMade) (calls : List Made) (others : List RawMade) → RawPromise s t m → InNumbers calls others
-    → InNumbers (madeBy s t m ∷ calls) (m ∷ others)
+numbers-call : (s : Session) (t : Store) (m : RawMade) (calls : List Called) (others : List RawCalled) → RawPromise s t m → InNumbers calls others
+    → InNumbers (list.reads (madeBy s t m) ∷ calls) (rawReads m ∷ others)
 numbers-call s t m calls others p next l u k =
-    subst (λ (x : RawMade). RawAcknowledgedCalls l u (x ∷ others)) (sym (made-same s t m p))
+    subst (λ (x : RawMade). RawAcknowledgedCalls l u (rawReads x ∷ others)) (sym (made-same s t m p))
     (acknowledged-call l u (madeBy s t m) calls others (refused-byte s t (madeBy s t m) (made-promised s t m p)) next k)
 
-numbers-step : (records : Records) (t : Store) (i : ℕ) (p : HostStep) (calls : List Made) (others : List RawMade) → KeptStep records t p
+numbers-pass : (p : Passed) (calls : List Called) (others : List RawCalled) → InNumbers calls others → InNumbers (list.passes p ∷ calls) (rawPasses p ∷ others)
+unfolding AcknowledgedCalls RawAcknowledgedCalls
+numbers-pass p calls others next l u k = next l u k
+
+numbers-step : (records : Records) (t : Store) (i : ℕ) (p : HostStep) (calls : List Called) (others : List RawCalled) → KeptStep records t p
     → InNumbers calls others → InNumbers (ownMade i records t p calls) (ownCall i p others)
 unfolding KeptStep ownMade ownCall
 numbers-step records t i (reads k m) calls others p next =
     by-test (eqb k i)
     (λ h. rw h (numbers-call (records i) t m calls others (subst (λ (j : ℕ). RawPromise (records j) t m) (eqb-true k i h) p) next))
     (λ h. rw h next)
+numbers-step records t i (passes q) calls others p next = numbers-pass q calls others next
 
 numbers-along : (records : Records) (t : Store) (i : ℕ) (steps : List HostStep) → Interleaved records t steps
     → InNumbers (ownMades i records t steps) (callsOf i steps)
@@ -240,9 +264,7 @@ all-shaped records t (reads k m) p sh f i =
     by-test (eqb k i)
     (λ h. rw h n)
     (λ h. rw h (record { session = sh i .session; store = n .store }))
-
-abbrev bytesAsked : Asked → Bool
-bytesAsked a = every isByte (a .piece)
+all-shaped records t (passes q) p sh f i = passed-shaped t q p (records i) (f i) (sh i .session)
 
 in-order : (records : Records) (t : Store) (a : Asked) (asked : List Asked) (p : HostStep) → KeptStep records t p → askedBy p ≡ a
     → InOrder (recordsAfter records p) (storeAfter t p) asked → InOrder records t (a ∷ asked)
@@ -253,16 +275,26 @@ in-order records t a asked p k e rest = record {
   order = λ i. e i ∷ rest .order i;
 }
 
+-- what was asked, done
+doing : Records → Store → Asked → HostStep
+doing records t (toRead k piece room) = reads k (made (records k) t piece room)
+doing records t (toPass e) = passes (spent t e)
+
+done : (records : Records) (t : Store) (a : Asked) → ((i : ℕ) → Shaped (records i) t) → askable a ≡ true
+    → KeptStep records t (doing records t a) × (askedBy (doing records t a) ≡ a)
+unfolding doing KeptStep askedBy askable
+done records t (toRead k piece room) sh q = (promised (records k) t piece room (sh k) q, refl)
+done records t (toPass e) sh q = (pass-promised t e (sh 0 .store) q, refl)
+
 pub in-any-order : InAnyOrder
-unfolding Interleaved KeptStep askedBy every
+unfolding Interleaved every
 in-any-order records t [] sh f q = record { steps = []; kept = tt; order = refl }
 in-any-order records t (a ∷ asked) sh f q =
-    let k = a .connection in
-    let m = made (records k) t (a .piece) (a .room) in
-    let p = promised (records k) t (a .piece) (a .room) (sh k) (and-first (bytesAsked a) (every bytesAsked asked) q) in
-    in-order records t a asked (reads k m) p refl
-    (in-any-order (recordsAfter records (reads k m)) (storeAfter t (reads k m)) asked (all-shaped records t (reads k m) p sh f)
-    (λ i. own-sound records t i (reads k m) p (f i)) (and-second (bytesAsked a) (every bytesAsked asked) q))
+    let p = doing records t a in
+    let d = done records t a sh (and-first (askable a) (every askable asked) q) in
+    in-order records t a asked p (d .0) (d .1)
+    (in-any-order (recordsAfter records p) (storeAfter t p) asked (all-shaped records t p (d .0) sh f) (λ i. own-sound records t i p (d .0) (f i))
+    (and-second (askable a) (every askable asked) q))
 
 -- ---- the bytes of every entry of the one store
 
@@ -280,14 +312,14 @@ record NotUpdated (t : Store) (m : RawMade) (place : ℕ) : Type 0 where
   pub none : m .outcome .number ≡ 267 → getD (rawValues m) 2 0 ≡ place → ⊥
   pub same : getD (m .store .entries) place noEntry ≡ getD (t .entries) place noEntry
 
-the-one : (m call : RawMade) (before after : List RawMade) → m ∷ [] ≡ before ++ (call ∷ after) → (before ≡ []) × (m ≡ call)
+the-one : (m call : RawMade) (before after : List RawCalled) → rawReads m ∷ [] ≡ before ++ (rawReads call ∷ after) → (before ≡ []) × (m ≡ call)
 the-one m call [] after e = (refl, cc)
 the-one m call (b ∷ []) after e = absurd (let l = ap length e in omega (arith, l))
 the-one m call (b ∷ (d ∷ before)) after e = absurd (let l = ap length e in omega (arith, l))
 
 module _ (s : Session) (t : Store) (m : RawMade) (p : RawPromise s t m) (place : ℕ) where
-  updated : RawLastUpdate s t (m ∷ []) place → Updated s t m place
-  unfolding rawLastSession rawLastStore
+  updated : RawLastUpdate s t (rawReads m ∷ []) place → Updated s t m place
+  unfolding rawLastSession
   updated u =
       let o = the-one m (u .call) (u .before) (u .after) (u .among) in
       record {
@@ -299,40 +331,55 @@ module _ (s : Session) (t : Store) (m : RawMade) (p : RawPromise s t m) (place :
             subst
             (λ (x : RawMade).
             UpdateMessage s (answering (answer.Update (u .table) (u .id) place (u .how)) x) (u .table) (u .id)
-            (getD (x .store .tables) (u .table) noTable) (getD (m .store .entries) place noEntry))
+            (getD (x .store .tables) (u .table) noTable) (getD (x .store .entries) place noEntry))
             (sym (o .1))
             (subst
-            (λ (before : List RawMade).
+            (λ (before : List RawCalled).
             UpdateMessage (rawLastSession s before) (answering (answer.Update (u .table) (u .id) place (u .how)) (u .call)) (u .table) (u .id)
-            (getD (u .call .store .tables) (u .table) noTable) (getD (m .store .entries) place noEntry))
+            (getD (u .call .store .tables) (u .table) noTable) (getD (u .call .store .entries) place noEntry))
             (o .0) (u .message));
       }
 
-  not-updated : RawNeverUpdated t (m ∷ []) place → NotUpdated t m place
-  unfolding RawNoneUpdates rawLastStore
-  not-updated n = record { none = n .none .0; same = n .same }
+  not-updated : RawNeverUpdated t (rawReads m ∷ []) place → NotUpdated t m place
+  unfolding RawNoneUpdates rawLastStore rawPassing
+  not-updated n = record {
+    none = n .none .0;
+    same = none-since (getD (t .entries) place noEntry) (getD (m .store .entries) place noEntry) (n .since);
+  }
 
   one-call : NotUpdated t m place ⊎ Updated s t m place
-  one-call = ⊎-elim (λ n. inl (not-updated n)) (λ u. inr (updated u)) (raw-bytes-of-every-entry s t (m ∷ []) place (alone s t m p))
+  one-call = ⊎-elim (λ n. inl (not-updated n)) (λ u. inr (updated u)) (raw-bytes-of-every-entry s t (rawReads m ∷ []) place (alone s t m p))
+
+-- the bytes that a call and those after it took
+taken-in : (m : RawMade) (calls : List RawCalled) → bytesIn (rawTaken (rawReads m ∷ calls)) ≡ take (m .outcome .taken) (m .piece) ++ bytesIn (rawTaken calls)
+unfolding rawTaken
+taken-in m calls = bytesIn-bytes (take (m .outcome .taken) (m .piece)) (rawTaken calls)
+
+passed-in : (p : Passed) (calls : List RawCalled) → bytesIn (rawTaken (rawPasses p ∷ calls)) ≡ bytesIn (rawTaken calls)
+unfolding rawTaken bytesIn
+passed-in p calls = refl
 
 -- where a message stood among a connection's bytes, with one step more before them
-stood-later : (records : Records) (t : Store) (p : HostStep) (i : ℕ) (calls : List RawMade) (earlier rest : List ℕ) → KeptStep records t p
-    → unfinished (recordsAfter records p i) ++ rawTaken calls ≡ earlier ++ rest
-    → (before : List ℕ) × (unfinished (records i) ++ rawTaken (ownCall i p calls) ≡ before ++ rest)
-unfolding KeptStep recordsAfter ownCall rawTaken
+stood-later : (records : Records) (t : Store) (p : HostStep) (i : ℕ) (calls : List RawCalled) (earlier rest : List ℕ) → KeptStep records t p
+    → unfinished (recordsAfter records p i) ++ bytesIn (rawTaken calls) ≡ earlier ++ rest
+    → (before : List ℕ) × (unfinished (records i) ++ bytesIn (rawTaken (ownCall i p calls)) ≡ before ++ rest)
+unfolding KeptStep recordsAfter ownCall
 stood-later records t (reads k m) i calls earlier rest p e =
     by-test (eqb k i)
     (λ h.
     let c = carries-on (records i) t m (subst (λ (j : ℕ). RawPromise (records j) t m) (eqb-true k i h) p) in
-    let e′ : unfinished (m .session) ++ rawTaken calls ≡ earlier ++ rest = rw h at e in
+    let e′ : unfinished (m .session) ++ bytesIn (rawTaken calls) ≡ earlier ++ rest = rw h at e in
     rw h (
       c .0 ++ earlier,
-      sym (append-assoc (unfinished (records i)) (take (m .outcome .taken) (m .piece)) (rawTaken calls))
-          ∙ (ap (λ (l : List ℕ). l ++ rawTaken calls) (c .1)
-          ∙ (append-assoc (c .0) (unfinished (m .session)) (rawTaken calls)
-          ∙ (ap (λ (l : List ℕ). c .0 ++ l) e′ ∙ sym (append-assoc (c .0) earlier rest)))),
+      ap (λ (l : List ℕ). unfinished (records i) ++ l) (taken-in m calls)
+          ∙ (sym (append-assoc (unfinished (records i)) (take (m .outcome .taken) (m .piece)) (bytesIn (rawTaken calls)))
+          ∙ (ap (λ (l : List ℕ). l ++ bytesIn (rawTaken calls)) (c .1)
+          ∙ (append-assoc (c .0) (unfinished (m .session)) (bytesIn (rawTaken calls))
+          ∙ (ap (λ (l : List ℕ). c .0 ++ l) e′ ∙ sym (append-assoc (c .0) earlier rest))))),
     ))
-    (λ h. let e′ : unfinished (records i) ++ rawTaken calls ≡ earlier ++ rest = rw h at e in rw h (earlier, e′))
+    (λ h. let e′ : unfinished (records i) ++ bytesIn (rawTaken calls) ≡ earlier ++ rest = rw h at e in rw h (earlier, e′))
+stood-later records t (passes q) i calls earlier rest p e =
+    (earlier, ap (λ (l : List ℕ). unfinished (records i) ++ l) (passed-in q calls) ∙ e)
 
 later : (records : Records) (t : Store) (p : HostStep) (steps : List HostStep) (place : ℕ) → KeptStep records t p
     → LastStep (recordsAfter records p) (storeAfter t p) steps place → LastStep records t (p ∷ steps) place
@@ -350,22 +397,31 @@ later records t p steps place k u =
       how = u .how;
       told = u .told;
       last = u .last;
+      since = u .since;
       message = u .message;
       earlier = at .0;
       stood = at .1;
     }
 
-own-bytes : (s : Session) (i : ℕ) (m : RawMade) (calls : List RawMade)
-    → unfinished s ++ rawTaken (ownCall i (reads i m) calls) ≡ [] ++ (rawMessage s m ++ rawTaken calls)
-unfolding ownCall rawTaken
-own-bytes s i m calls = rw (eq-eqb i i refl) (sym (append-assoc (unfinished s) (take (m .outcome .taken) (m .piece)) (rawTaken calls)))
+own-bytes : (s : Session) (i : ℕ) (m : RawMade) (calls : List RawCalled)
+    → unfinished s ++ bytesIn (rawTaken (ownCall i (reads i m) calls)) ≡ [] ++ (rawMessage s m ++ bytesIn (rawTaken calls))
+unfolding ownCall
+own-bytes s i m calls =
+    rw (eq-eqb i i refl)
+    (ap (λ (l : List ℕ). unfinished s ++ l) (taken-in m calls)
+    ∙ sym (append-assoc (unfinished s) (take (m .outcome .taken) (m .piece)) (bytesIn (rawTaken calls))))
 
 first : (records : Records) (t : Store) (p : HostStep) (steps : List HostStep) (place : ℕ) → KeptStep records t p
     → NeverTouched (storeAfter t p) steps place → NeverTouched t (p ∷ steps) place ⊎ LastStep records t (p ∷ steps) place
-unfolding KeptStep storeAfter lastRecords sharedStore callsOf NoStepUpdates UpdatesNot
+unfolding KeptStep storeAfter lastRecords sharedStore callsOf NoStepUpdates UpdatesNot timesOf
 first records t (reads k m) steps place p n =
     ⊎-elim
-    (λ o. inl (record { none = (o .none, n .none); same = n .same ∙ o .same }))
+    (λ o.
+    inl
+    (record {
+      none = (o .none, n .none);
+      since = subst (λ (x : Entry). Since (timesOf steps) x (sharedEntry (m .store) steps place)) (o .same) (n .since);
+    }))
     (λ u.
     inr
     (record {
@@ -379,18 +435,18 @@ first records t (reads k m) steps place p n =
       how = u .how;
       told = u .told;
       last = n .none;
-      message =
-          subst
-          (UpdateMessage (records k) (answering (answer.Update (u .table) (u .id) place (u .how)) m) (u .table) (u .id) (getD (m .store .tables) (u .table) noTable))
-          (sym (n .same)) (u .message);
+      since = n .since;
+      message = u .message;
       earlier = [];
       stood = own-bytes (records k) k m (callsOf k steps);
     }))
     (one-call (records k) t m p place)
+first records t (passes q) steps place p n =
+    inl (record { none = (tt, n .none); since = passed-since t q place (timesOf steps) (sharedEntry (q .store) steps place) p (n .since) })
 
 pub bytes-of-shared-entries : BytesOfSharedEntries
-unfolding Interleaved sharedStore NoStepUpdates
-bytes-of-shared-entries records t [] place c = inl (record { none = tt; same = refl })
+unfolding Interleaved sharedStore NoStepUpdates timesOf NonePasses
+bytes-of-shared-entries records t [] place c = inl (record { none = tt; since = same (inr tt) })
 bytes-of-shared-entries records t (p ∷ steps) place c =
     ⊎-elim (λ n. first records t p steps place (c .0) n) (λ u. inr (later records t p steps place (c .0) u))
     (bytes-of-shared-entries (recordsAfter records p) (storeAfter t p) steps place (c .1))

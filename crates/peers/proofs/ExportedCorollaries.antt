@@ -1,14 +1,17 @@
--- The corollaries for the exported call, from those for calls with the answer enum.
+-- The corollaries for the exported calls, from those for calls with the answer enum.
 use Prim.Native.Nat.{ℕ, _<_}
 use native.Mathlib.Omega.{arith}
 use mathlib.Core.Path.{_≡_, refl, sym, ap, _∙_, subst}
 use mathlib.Core.Logic.{_⊎_, inl, inr, ⊎-elim}
 use mathlib.Core.Option.{some}
 use mathlib.Core.Bool.{true}
-use mathlib.Core.List.{List, [], _∷_, _++_, map, map-append}
-use lib.ListN.{length, getD}
+use mathlib.Core.List.{List, [], _∷_, _++_, map, flatten, map-append}
+use lib.ListN.{length, take, getD}
+use Rattle.store.specs.declared.Entry.{Entry}
 use Rattle.store.specs.declared.Store.{Store}
 use Rattle.store.specs.Store.{noEntry}
+use Rattle.store.specs.Time.{Passed}
+use Rattle.store.proofs.Passing.{passed-twice}
 use Rattle.session.specs.declared.Session.{Session}
 use Rattle.session.specs.declared.Commit.{Commit}
 use Rattle.session.specs.declared.Answer.{Answer}
@@ -18,28 +21,32 @@ use Rattle.session.specs.Session.{unfinished, holding, closedWith, bindingAt}
 use Rattle.session.proofs.answers.OneToOne.{RefusedByte}
 use Rattle.session_soundness.specs.Sound.{sound}
 use Rattle.opening.specs.Opening.{Role, Opening, «open», openedOf, openRoom}
-use Rattle.receiver.specs.Model.{heldBy}
+use Rattle.streams.specs.Model.{Item, byte, bytes, bytesIn}
+use Rattle.streams.specs.Calls.{pieces}
+use Rattle.receiver.specs.Model.{Event, heldBy}
 use Rattle.receiver.specs.Promise.{Made, ReadPromise}
 use Rattle.receiver.specs.Ledger.{isAcknowledgement}
-use Rattle.receiver.specs.Demand3.{Chain, lastSession}
+use Rattle.receiver.specs.Demand3.{Called, reads, passes, Chain, OffersTo, lastSession}
 use Rattle.receiver.specs.Corollaries.{EntryHeld, NothingChanged, OnlyClosed}
+use Rattle.receiver.proofs.Corollaries.{only-reachable, bytes-offered, bytes-by-reading, bytes-record}
+use Rattle.receiver.proofs.OnePass.{refused-pass-untouched, passed-records-sound}
 use Rattle.receiver.proofs.Acknowledging.{refused-untouched, others-untouched, held-when-acknowledged, refused-opening-untouched}
 use Rattle.receiver.proofs.Sharing.{other-records-sound, refused-byte}
-use Rattle.message_bytes.specs.MessageBytes.{UpdateMessage, DefinitionMessage, tableAt}
-use Rattle.message_bytes.specs.LastUpdates.{lastEntry, NoneUpdates, NeverUpdated, LastUpdate}
+use Rattle.message_bytes.specs.MessageBytes.{UpdateMessage, DefinitionMessage, tableAt, entryAt}
+use Rattle.message_bytes.specs.LastUpdates.{lastEntry, NoneUpdates, passing, Since, NeverUpdated, LastUpdate}
 use Rattle.message_bytes.proofs.LastUpdates.{bytes-of-every-entry}
 use Rattle.message_bytes.proofs.DefinitionMessages.{bytes-of-definition}
 use Rattle.peers.specs.declared.numbers.RawOpened.{RawOpened}
 use Rattle.peers.specs.Numbers.{rawOutcome, rawOpened}
 use Rattle.peers.specs.Reading.{RawMade, RawPromise}
-use Rattle.peers.specs.ExportedDemand3.{RawChain, rawReply, rawTaken, rawLastSession, RawResult, rawCameTo, RawOffersTo}
-use Rattle.peers.specs.ExportedCorollaries.{RawSameByAnyDivision, RawAnyDivision, rawMessage, ToldUpdate, RawEntryHeld, RawHeldWhenAcknowledged, answering, rawLastEntry, RawNoneUpdates, RawNeverUpdated, RawLastUpdate, RawBytesOfEveryEntry, ToldTable, RawDefinition, RawBytesOfDefinition, RawNothingChanged, RawOnlyClosed, RawRefusedCall, RawRefusedUntouched, RawUntouched, RawOthersUntouched, RawRefusedOpening, RawRefusedOpeningUntouched, RawOtherRecordsSound}
-use Rattle.peers.proofs.AsMade.{rawOf, madeBy, made-promised, made-same, madesBy, mades-chain, mades-same, values-told, refused-is}
-use Rattle.peers.proofs.ExportedDemand3.{same-reply, same-taken, same-session, same-store, exported-demand-3}
+use Rattle.peers.specs.ExportedDemand3.{RawCalled, rawReads, rawPasses, RawChain, rawReply, rawTaken, rawLastSession, RawResult, rawCameTo, RawOffersTo}
+use Rattle.peers.specs.ExportedCorollaries.{RawSameByAnyDivision, RawAnyDivision, RawOfferedReachable, RawBytesOffered, RawBytesByReading, RawBytesRecord, RawReadingTakes, rawMessage, ToldUpdate, RawEntryHeld, RawHeldWhenAcknowledged, answering, rawLastEntry, RawNoneUpdates, rawPassing, RawNeverUpdated, RawLastUpdate, RawBytesOfEveryEntry, ToldTable, RawDefinition, RawBytesOfDefinition, RawNothingChanged, RawOnlyClosed, RawRefusedCall, RawRefusedUntouched, RawUntouched, RawOthersUntouched, RawRefusedOpening, RawRefusedOpeningUntouched, RawOtherRecordsSound, PassingCalls}
+use Rattle.peers.proofs.AsMade.{rawOf, rawCalled, madeBy, made-promised, made-same, madesBy, mades-chain, mades-same, values-told, refused-is}
+use Rattle.peers.proofs.ExportedDemand3.{same-reply, same-taken, same-session, same-store, offered, offering, exported-demand-3}
 
 -- ---- any division
 
-module _ (s : Session) (t : Store) (stream : List ℕ) (calls others : List RawMade) (f : sound s t ≡ true) (c : RawChain s t calls) (d : RawChain s t others)
+module _ (s : Session) (t : Store) (stream : List (Item Event)) (calls others : List RawCalled) (f : sound s t ≡ true) (c : RawChain s t calls) (d : RawChain s t others)
     (o : RawOffersTo s stream calls) (q : RawOffersTo s stream others) where
   divided-came : rawCameTo s t calls ≡ rawCameTo s t others
   divided-came = exported-demand-3 s t calls f c .whole stream o ∙ sym (exported-demand-3 s t others f d .whole stream q)
@@ -55,6 +62,44 @@ module _ (s : Session) (t : Store) (stream : List ℕ) (calls others : List RawM
 
 pub raw-any-division : RawAnyDivision
 raw-any-division = divided
+
+-- ---- which streams are offered
+
+-- the calls with the answer enum offer what the exported ones do
+made-offers : (s : Session) (t : Store) (stream : List (Item Event)) (calls : List RawCalled) → RawChain s t calls → RawOffersTo s stream calls
+    → OffersTo s stream (madesBy s t calls)
+made-offers s t stream calls c o = offered s stream (madesBy s t calls) (subst (RawOffersTo s stream) (mades-same s t calls c) o)
+
+pub raw-only-reachable : RawOfferedReachable
+raw-only-reachable s t stream calls f c o =
+    only-reachable s t stream (madesBy s t calls) f (mades-chain s t calls c) (made-offers s t stream calls c o)
+
+-- ---- bytes alone
+
+pub raw-bytes-offered : RawBytesOffered
+raw-bytes-offered s t f sh cuts room q l = offering s t (pieces cuts) room (bytes-offered s t f sh cuts room q l)
+
+reading-only : (ms : List Made) → map rawCalled (map reads ms) ≡ map rawReads (map rawOf ms)
+reading-only [] = refl
+reading-only (m ∷ ms) = ap (rawReads (rawOf m) ∷_) (reading-only ms)
+
+pub raw-bytes-by-reading : RawBytesByReading
+raw-bytes-by-reading s t stream calls c o =
+    let r = bytes-by-reading s stream (madesBy s t calls) (made-offers s t (bytes stream) calls c o) in
+    (map rawOf (r .0), mades-same s t calls c ∙ (ap (map rawCalled) (r .1) ∙ reading-only (r .0)))
+
+pub raw-bytes-record : RawBytesRecord
+raw-bytes-record s t stream calls f c o =
+    ap (rawLastSession s) (mades-same s t calls c)
+    ∙ (same-session s (madesBy s t calls)
+    ∙ bytes-record s t stream (madesBy s t calls) f (mades-chain s t calls c) (made-offers s t (bytes stream) calls c o))
+
+pub raw-reading-takes : RawReadingTakes
+unfolding rawTaken flatten
+raw-reading-takes [] = refl
+raw-reading-takes (m ∷ ms) =
+    let now = take (m .outcome .taken) (m .piece) in
+    ap (bytes now ++_) (raw-reading-takes ms) ∙ sym (map-append byte now (flatten (map (λ (m : RawMade). take (m .outcome .taken) (m .piece)) ms)))
 
 -- ---- one call
 
@@ -106,6 +151,7 @@ module _ (s : Session) (t : Store) (m : Made) where
     start = h .start;
     end = h .end;
     framed = h .framed;
+    form = h .form;
     type = h .type;
     current = h .current;
     body = h .body;
@@ -164,32 +210,48 @@ updates (answer.Skipped type) h e = absurd (omega (arith, e))
 updates (answer.Refused n) h e = let l = h n refl in absurd (omega (arith, l, e))
 updates (answer.RefusedAt n offset) h e = let l = h n refl in absurd (omega (arith, l, e))
 
-none-updates : (s : Session) (t : Store) (place : ℕ) (ms : List Made) → Chain s t ms → NoneUpdates place ms → RawNoneUpdates place (map rawOf ms)
+none-updates : (s : Session) (t : Store) (place : ℕ) (cs : List Called) → Chain s t cs → NoneUpdates place cs → RawNoneUpdates place (map rawCalled cs)
 unfolding Chain NoneUpdates RawNoneUpdates rawOutcome
 none-updates s t place [] c n = tt
-none-updates s t place (m ∷ ms) c n = (
+none-updates s t place (reads m ∷ cs) c n = (
   (λ e q.
       let a = m .outcome .answer in
       let u = updates a (refused-byte s t m (c .0)) e in
       let third = ap (λ (vs : List ℕ). getD vs 2 0) (sym (values-told m)) ∙ q in
       n .0 (u .0) (u .1 .0) (u .1 .1 .0) (u .1 .1 .1 ∙ ap (λ (i : ℕ). answer.Update (u .0) (u .1 .0) i (u .1 .1 .0)) third)),
-  none-updates (m .session) (m .store) place ms (c .1) (n .1),
+  none-updates (m .session) (m .store) place cs (c .1) (n .1),
 )
+none-updates s t place (passes p ∷ cs) c n = none-updates s (p .store) place cs (c .2) n
+
+same-passing : (cs : List Called) → rawPassing (map rawCalled cs) ≡ passing cs
+unfolding rawPassing passing
+same-passing [] = refl
+same-passing (reads m ∷ cs) = same-passing cs
+same-passing (passes p ∷ cs) = ap (p ∷_) (same-passing cs)
 
 -- the calls after some are a list of calls too
-chain-after : (s : Session) (t : Store) (before : List Made) (m : Made) (after : List Made) → Chain s t (before ++ (m ∷ after)) → Chain (m .session) (m .store) after
+chain-after : (s : Session) (t : Store) (before : List Called) (m : Made) (after : List Called) → Chain s t (before ++ (reads m ∷ after))
+    → Chain (m .session) (m .store) after
 unfolding Chain
 chain-after s t [] m after c = c .1
-chain-after s t (b ∷ before) m after c = chain-after (b .session) (b .store) before m after (c .1)
+chain-after s t (reads b ∷ before) m after c = chain-after (b .session) (b .store) before m after (c .1)
+chain-after s t (passes p ∷ before) m after c = chain-after s (p .store) before m after (c .2)
 
-module _ (s : Session) (t : Store) (ms : List Made) (place : ℕ) (c : Chain s t ms) where
-  same-entry : rawLastEntry t (map rawOf ms) place ≡ lastEntry t ms place
-  same-entry = ap (λ (x : Store). getD (x .entries) place noEntry) (same-store t ms)
+module _ (s : Session) (t : Store) (cs : List Called) (place : ℕ) (c : Chain s t cs) where
+  same-entry : rawLastEntry t (map rawCalled cs) place ≡ lastEntry t cs place
+  same-entry = ap (λ (x : Store). getD (x .entries) place noEntry) (same-store t cs)
 
-  never-updated : NeverUpdated t ms place → RawNeverUpdated t (map rawOf ms) place
-  never-updated n = record { none = none-updates s t place ms c (n .none); same = same-entry ∙ n .same }
+  same-since : (later : List Called) (x : Entry) → Since (passing later) x (lastEntry t cs place)
+      → Since (rawPassing (map rawCalled later)) x (rawLastEntry t (map rawCalled cs) place)
+  same-since later x h = rw (same-passing later, same-entry) h
 
-  module _ (u : LastUpdate s t ms place) where
+  never-updated : NeverUpdated t cs place → RawNeverUpdated t (map rawCalled cs) place
+  never-updated n = record {
+    none = none-updates s t place cs c (n .none);
+    since = same-since cs (getD (t .entries) place noEntry) (n .since);
+  }
+
+  module _ (u : LastUpdate s t cs place) where
     after-chain : Chain (u .call .session) (u .call .store) (u .after)
     after-chain = chain-after s t (u .before) (u .call) (u .after) (subst (Chain s t) (u .among) c)
 
@@ -204,28 +266,29 @@ module _ (s : Session) (t : Store) (ms : List Made) (place : ℕ) (c : Chain s t
       final = u .call .final;
     }
 
-    message-is : UpdateMessage (rawLastSession s (map rawOf (u .before))) (answering (answer.Update (u .table) (u .id) place (u .how)) (rawOf (u .call))) (u .table) (u .id)
-        (tableAt (u .call) (u .table)) (rawLastEntry t (map rawOf ms) place)
+    message-is : UpdateMessage (rawLastSession s (map rawCalled (u .before))) (answering (answer.Update (u .table) (u .id) place (u .how)) (rawOf (u .call))) (u .table) (u .id)
+        (tableAt (u .call) (u .table)) (entryAt (u .call) place)
     message-is =
-        rw (same-session s (u .before), same-entry)
-        (subst (λ (x : Made). UpdateMessage (lastSession s (u .before)) x (u .table) (u .id) (tableAt (u .call) (u .table)) (lastEntry t ms place)) answered (u .message))
+        rw (same-session s (u .before))
+        (subst (λ (x : Made). UpdateMessage (lastSession s (u .before)) x (u .table) (u .id) (tableAt (u .call) (u .table)) (entryAt (u .call) place)) answered (u .message))
 
-    stood-is : unfinished s ++ rawTaken (map rawOf ms)
-        ≡ u .earlier ++ (rawMessage (rawLastSession s (map rawOf (u .before))) (rawOf (u .call)) ++ rawTaken (map rawOf (u .after)))
+    stood-is : unfinished s ++ bytesIn (rawTaken (map rawCalled cs))
+        ≡ u .earlier ++ (rawMessage (rawLastSession s (map rawCalled (u .before))) (rawOf (u .call)) ++ bytesIn (rawTaken (map rawCalled (u .after))))
     unfolding rawOutcome
-    stood-is = rw (same-taken ms, same-session s (u .before), same-taken (u .after)) (u .stood)
+    stood-is = rw (same-taken cs, same-session s (u .before), same-taken (u .after)) (u .stood)
 
-    last-update : RawLastUpdate s t (map rawOf ms) place
+    last-update : RawLastUpdate s t (map rawCalled cs) place
     last-update = record {
-      before = map rawOf (u .before);
+      before = map rawCalled (u .before);
       call = rawOf (u .call);
-      after = map rawOf (u .after);
-      among = ap (map rawOf) (u .among) ∙ map-append rawOf (u .before) (u .call ∷ u .after);
+      after = map rawCalled (u .after);
+      among = ap (map rawCalled) (u .among) ∙ map-append rawCalled (u .before) (reads (u .call) ∷ u .after);
       table = u .table;
       id = u .id;
       how = u .how;
       told = told s t (u .call) (u .table) (u .id) place (u .how) (u .answer);
       last = none-updates (u .call .session) (u .call .store) place (u .after) after-chain (u .last);
+      since = same-since (u .after) (entryAt (u .call) place) (u .since);
       message = message-is;
       earlier = u .earlier;
       stood = stood-is;
@@ -312,5 +375,10 @@ pub raw-bytes-of-every-entry : RawBytesOfEveryEntry
 raw-bytes-of-every-entry s t calls place c =
     let made = madesBy s t calls in
     let chain = mades-chain s t calls c in
-    subst (λ (ms : List RawMade). RawNeverUpdated t ms place ⊎ RawLastUpdate s t ms place) (sym (mades-same s t calls c))
+    subst (λ (cs : List RawCalled). RawNeverUpdated t cs place ⊎ RawLastUpdate s t cs place) (sym (mades-same s t calls c))
     (⊎-elim (λ n. inl (never-updated s t made place chain n)) (λ u. inr (last-update s t made place chain u)) (bytes-of-every-entry s t made place chain))
+
+-- ---- a call that passes time
+
+pub passing-calls : PassingCalls
+passing-calls = record { refused = refused-pass-untouched; records = passed-records-sound; twice = passed-twice }

@@ -1,11 +1,11 @@
--- Demand 3 for lists of the exported call, from that for calls with the answer enum.
+-- Demand 3 for lists of the exported calls, from that for calls with the answer enum.
 use Prim.Native.Nat.{ℕ}
 use native.Mathlib.Omega.{arith}
 use mathlib.Core.Path.{_≡_, refl, sym, ap, _∙_, subst}
 use mathlib.Core.Logic.{_⊎_, inl, inr}
 use mathlib.Core.Option.{some}
 use mathlib.Core.Bool.{true, false, true≢false}
-use mathlib.Core.List.{List, [], _∷_, _++_, map, flatten}
+use mathlib.Core.List.{List, [], _∷_, _++_, map}
 use lib.ListN.{length, take, drop}
 use lib.Dec.{eqb}
 use borrow.Author.Tests.{eqb-true, ne-eqb}
@@ -19,17 +19,17 @@ use Rattle.session.specs.Answers.{refusalOf, answerNumber, answerValues}
 use Rattle.session.specs.Session.{unfinished}
 use Rattle.session.proofs.answers.OneToOne.{RefusedByte}
 use Rattle.session_soundness.specs.Sound.{sound}
-use Rattle.streams.specs.Model.{Ended}
-use Rattle.receiver.specs.Model.{endsRefused, heldBy, ends}
+use Rattle.streams.specs.Model.{Item, event, Ended, bytes}
+use Rattle.streams.specs.Calls.{Part, timeline, without}
+use Rattle.receiver.specs.Model.{Event, endsRefused, heldBy, ends}
 use Rattle.receiver.specs.Promise.{Made}
 use Rattle.receiver.specs.Ledger.{Ledger, startLedger, post, RightReply}
-use Rattle.receiver.specs.Demand3.{Chain, replyIn, takenBy, lastSession, lastStore, responsesOf, repliesOf, cameTo, callMade, CallAsModel, EachCall, OffersTo, WithinCutsOf, RoomsAre, Offering, endedBy, AcknowledgedCalls, NeverUnsound}
+use Rattle.receiver.specs.Demand3.{Called, reads, passes, Chain, replyIn, takenBy, lastSession, lastStore, responsesOf, repliesOf, cameTo, callMade, CallAsModel, EachCall, OffersTo, WithinCutsOf, RoomsAre, Offering, endedBy, AcknowledgedCalls, NeverUnsound}
 use Rattle.receiver.proofs.Demand3.{demand-3}
 use Rattle.receiver.proofs.Sharing.{refused-byte}
 use Rattle.peers.specs.Numbers.{rawOutcome}
-use Rattle.peers.specs.Reading.{RawMade}
-use Rattle.peers.specs.ExportedDemand3.{rawReply, rawTaken, rawLastSession, rawLastStore, endsNumber, rawResponses, rawReplies, rawCameTo, responseInNumbers, inNumbers, RawCallAsModel, RawEachCall, RawOffersTo, RawWithinCuts, RawRooms, RawOffering, rawPost, RawRightReply, RawAcknowledgedCalls, RawNeverUnsound, ExportedDemand3, EveryListOfCalls}
-use Rattle.peers.proofs.AsMade.{rawOf, madesBy, mades-chain, mades-same, raw-chain, values-most, values-told, refused-is}
+use Rattle.peers.specs.ExportedDemand3.{RawCalled, rawReads, rawReply, rawTaken, rawLastSession, rawLastStore, endsNumber, rawResponses, rawReplies, rawCameTo, responseInNumbers, inNumbers, RawCallAsModel, RawEachCall, RawOffersTo, RawWithinCuts, RawRooms, RawOffering, rawPost, RawRightReply, RawAcknowledgedCalls, RawNeverUnsound, ExportedDemand3, EveryListOfCalls}
+use Rattle.peers.proofs.AsMade.{rawOf, rawCalled, madesBy, mades-chain, mades-same, raw-chain, values-most, values-told, refused-is}
 
 -- ---- the test on the number is the test on the answer
 
@@ -74,45 +74,50 @@ pub same-reply : (m : Made) → rawReply (rawOf m) ≡ replyIn m
 unfolding rawReply replyIn rawOutcome
 same-reply m = refl
 
-pub same-taken : (ms : List Made) → rawTaken (map rawOf ms) ≡ takenBy ms
+pub same-taken : (cs : List Called) → rawTaken (map rawCalled cs) ≡ takenBy cs
 unfolding rawTaken takenBy rawOutcome
 same-taken [] = refl
-same-taken (m ∷ ms) = ap (λ (xs : List ℕ). take (m .outcome .taken) (m .piece) ++ xs) (same-taken ms)
+same-taken (reads m ∷ cs) = ap (bytes (take (m .outcome .taken) (m .piece)) ++_) (same-taken cs)
+same-taken (passes p ∷ cs) = ap (event (p .milliseconds) ∷_) (same-taken cs)
 
-pub same-session : (s : Session) (ms : List Made) → rawLastSession s (map rawOf ms) ≡ lastSession s ms
+pub same-session : (s : Session) (cs : List Called) → rawLastSession s (map rawCalled cs) ≡ lastSession s cs
 unfolding rawLastSession lastSession
 same-session s [] = refl
-same-session s (m ∷ ms) = same-session (m .session) ms
+same-session s (reads m ∷ cs) = same-session (m .session) cs
+same-session s (passes p ∷ cs) = same-session s cs
 
-pub same-store : (t : Store) (ms : List Made) → rawLastStore t (map rawOf ms) ≡ lastStore t ms
+pub same-store : (t : Store) (cs : List Called) → rawLastStore t (map rawCalled cs) ≡ lastStore t cs
 unfolding rawLastStore lastStore
 same-store t [] = refl
-same-store t (m ∷ ms) = same-store (m .store) ms
+same-store t (reads m ∷ cs) = same-store (m .store) cs
+same-store t (passes p ∷ cs) = same-store (p .store) cs
 
-pub same-replies : (ms : List Made) → rawReplies (map rawOf ms) ≡ repliesOf ms
+same-replies : (cs : List Called) → rawReplies (map rawCalled cs) ≡ repliesOf cs
 unfolding rawReplies repliesOf
 same-replies [] = refl
-same-replies (m ∷ ms) = λ i. same-reply m i ++ same-replies ms i
+same-replies (reads m ∷ cs) = λ i. same-reply m i ++ same-replies cs i
+same-replies (passes p ∷ cs) = same-replies cs
 
-same-responses : (s : Session) (t : Store) (ms : List Made) → Chain s t ms → rawResponses (map rawOf ms) ≡ map responseInNumbers (responsesOf ms)
+same-responses : (s : Session) (t : Store) (cs : List Called) → Chain s t cs → rawResponses (map rawCalled cs) ≡ map responseInNumbers (responsesOf cs)
 unfolding rawResponses responsesOf Chain rawOutcome
 same-responses s t [] c = refl
-same-responses s t (m ∷ ms) c =
+same-responses s t (reads m ∷ cs) c =
     let a = m .outcome .answer in
     let e = ends-number a (refused-byte s t m (c .0)) in
-    let rest = same-responses (m .session) (m .store) ms (c .1) in
+    let rest = same-responses (m .session) (m .store) cs (c .1) in
     by-test (ends a)
     (λ h.
     rw (e, h)
     (λ i. record { number = answerNumber a; values = values-told m i; reply = same-reply m i } ∷ rest i))
     (λ h. rw (e, h) rest)
+same-responses s t (passes p ∷ cs) c = same-responses s (p .store) cs (c .2)
 
-pub same-came : (s : Session) (t : Store) (ms : List Made) → Chain s t ms → rawCameTo s t (map rawOf ms) ≡ inNumbers (cameTo s t ms)
+same-came : (s : Session) (t : Store) (cs : List Called) → Chain s t cs → rawCameTo s t (map rawCalled cs) ≡ inNumbers (cameTo s t cs)
 unfolding rawCameTo cameTo inNumbers
-same-came s t ms c = λ i. record {
-  responses = same-responses s t ms c i;
-  replies = same-replies ms i;
-  state = heldBy (same-session s ms i) (same-store t ms i);
+same-came s t cs c = λ i. record {
+  responses = same-responses s t cs c i;
+  replies = same-replies cs i;
+  state = heldBy (same-session s cs i) (same-store t cs i);
 }
 
 -- ---- each call
@@ -135,40 +140,45 @@ each-call s t m h = record {
   kept = h .kept;
 }
 
-each-calls : (s : Session) (t : Store) (ms : List Made) → EachCall s t ms → RawEachCall s t (map rawOf ms)
+each-calls : (s : Session) (t : Store) (cs : List Called) → EachCall s t cs → RawEachCall s t (map rawCalled cs)
 unfolding EachCall RawEachCall
 each-calls s t [] h = tt
-each-calls s t (m ∷ ms) h = (each-call s t m (h .0), each-calls (m .session) (m .store) ms (h .1))
+each-calls s t (reads m ∷ cs) h = (each-call s t m (h .0), each-calls (m .session) (m .store) cs (h .1))
+each-calls s t (passes p ∷ cs) h = (h .0, each-calls s (p .store) cs (h .1))
 
 -- ---- offering
 
-pub offered : (s : Session) (rest : List ℕ) (ms : List Made) → RawOffersTo s rest (map rawOf ms) → OffersTo s rest ms
+pub offered : (s : Session) (rest : List (Item Event)) (cs : List Called) → RawOffersTo s rest (map rawCalled cs) → OffersTo s rest cs
 unfolding RawOffersTo OffersTo rawOutcome
 offered s rest [] o = o
-offered s rest (m ∷ ms) o = (o .0, offered (m .session) (drop (m .outcome .taken) rest) ms (o .1))
+offered s rest (reads m ∷ cs) o = (o .0, o .1, o .2, offered (m .session) (o .1) cs (o .3))
+offered s rest (passes p ∷ cs) o = (o .0, o .1, offered s (o .0) cs (o .2))
 
-offers : (s : Session) (rest : List ℕ) (ms : List Made) → OffersTo s rest ms → RawOffersTo s rest (map rawOf ms)
+offers : (s : Session) (rest : List (Item Event)) (cs : List Called) → OffersTo s rest cs → RawOffersTo s rest (map rawCalled cs)
 unfolding RawOffersTo OffersTo rawOutcome
 offers s rest [] o = o
-offers s rest (m ∷ ms) o = (o .0, offers (m .session) (drop (m .outcome .taken) rest) ms (o .1))
+offers s rest (reads m ∷ cs) o = (o .0, o .1, o .2, offers (m .session) (o .1) cs (o .3))
+offers s rest (passes p ∷ cs) o = (o .0, o .1, offers s (o .0) cs (o .2))
 
-within : (cuts : List (List ℕ)) (ms : List Made) → WithinCutsOf cuts ms → RawWithinCuts cuts (map rawOf ms)
+within : (parts : List (Part Event)) (cs : List Called) → WithinCutsOf parts cs → RawWithinCuts parts (map rawCalled cs)
 unfolding RawWithinCuts WithinCutsOf rawOutcome
-within cuts [] o = tt
-within cuts (m ∷ ms) o = (o .0, within _ ms (o .1))
+within parts [] o = tt
+within parts (reads m ∷ cs) o = (o .0, within (without (m .outcome .taken) parts) cs (o .1))
+within parts (passes p ∷ cs) o = (o .0, o .1, within (o .0) cs (o .2))
 
-rooms : (room : List ℕ) (ms : List Made) → RoomsAre room ms → RawRooms room (map rawOf ms)
+rooms : (room : List ℕ) (cs : List Called) → RoomsAre room cs → RawRooms room (map rawCalled cs)
 unfolding RawRooms RoomsAre
 rooms room [] o = tt
-rooms room (m ∷ ms) o = (o .0, rooms room ms (o .1))
+rooms room (reads m ∷ cs) o = (o .0, rooms room cs (o .1))
+rooms room (passes p ∷ cs) o = rooms room cs o
 
-offering : (s : Session) (t : Store) (cuts : List (List ℕ)) (room : List ℕ) → Offering s t cuts room → RawOffering s t cuts room
-offering s t cuts room o = record {
-  calls = map rawOf (o .calls);
+pub offering : (s : Session) (t : Store) (parts : List (Part Event)) (room : List ℕ) → Offering s t parts room → RawOffering s t parts room
+offering s t parts room o = record {
+  calls = map rawCalled (o .calls);
   rooms = rooms room (o .calls) (o .rooms);
   chain = raw-chain s t (o .calls) (o .chain);
-  offers = offers s (flatten cuts) (o .calls) (o .offers);
-  within = within cuts (o .calls) (o .within);
+  offers = offers s (timeline parts) (o .calls) (o .offers);
+  within = within parts (o .calls) (o .within);
 }
 
 -- ---- acknowledgements
@@ -220,54 +230,57 @@ right l message reply (answer.Refused n) h r = let k = h n refl in rw (ne-eqb n 
 right l message reply (answer.RefusedAt n offset) h r = let k = h n refl in rw (ne-eqb n 267 (λ e. omega (arith, k, e)), ne-eqb n 266 (λ e. omega (arith, k, e))) r
 
 -- one call, before others of which it holds
-pub acknowledged-call : (l : Ledger) (u : List ℕ) (m : Made) (ms : List Made) (others : List RawMade) → RefusedByte (m .outcome .answer)
-    → ((l′ : Ledger) (u′ : List ℕ) → AcknowledgedCalls l′ u′ ms → RawAcknowledgedCalls l′ u′ others) → AcknowledgedCalls l u (m ∷ ms)
-    → RawAcknowledgedCalls l u (rawOf m ∷ others)
+pub acknowledged-call : (l : Ledger) (u : List ℕ) (m : Made) (cs : List Called) (others : List RawCalled) → RefusedByte (m .outcome .answer)
+    → ((l′ : Ledger) (u′ : List ℕ) → AcknowledgedCalls l′ u′ cs → RawAcknowledgedCalls l′ u′ others) → AcknowledgedCalls l u (reads m ∷ cs)
+    → RawAcknowledgedCalls l u (rawReads (rawOf m) ∷ others)
 unfolding AcknowledgedCalls RawAcknowledgedCalls rawOutcome
-acknowledged-call l u m ms others b next k =
+acknowledged-call l u m cs others b next k =
     let a = m .outcome .answer in
     let e = endedBy u m in
     let same = posted l (e .message) (e .reply) a b in
     by-test (ends a)
     (λ h.
-    let k′ : RightReply (post l e) (e .message) (e .reply) a × AcknowledgedCalls (post l e) [] ms = rw h at k in
+    let k′ : RightReply (post l e) (e .message) (e .reply) a × AcknowledgedCalls (post l e) [] cs = rw h at k in
     rw (ends-number a b, h, values-told m, same, same-reply m) (right (post l e) (e .message) (e .reply) a b (k′ .0), next (post l e) [] (k′ .1)))
     (λ h.
-    let k′ : (replyIn m ≡ []) × AcknowledgedCalls l (e .message) ms = rw h at k in
+    let k′ : (replyIn m ≡ []) × AcknowledgedCalls l (e .message) cs = rw h at k in
     rw (ends-number a b, h) (same-reply m ∙ k′ .0, next l (e .message) (k′ .1)))
 
-acknowledged-calls : (s : Session) (t : Store) (l : Ledger) (u : List ℕ) (ms : List Made) → Chain s t ms → AcknowledgedCalls l u ms → RawAcknowledgedCalls l u (map rawOf ms)
-unfolding Chain
-acknowledged-calls s t l u [] c k = unfold RawAcknowledgedCalls in tt
-acknowledged-calls s t l u (m ∷ ms) c k =
-    acknowledged-call l u m ms (map rawOf ms) (refused-byte s t m (c .0)) (λ l′ u′ k′. acknowledged-calls (m .session) (m .store) l′ u′ ms (c .1) k′) k
+acknowledged-calls : (s : Session) (t : Store) (l : Ledger) (u : List ℕ) (cs : List Called) → Chain s t cs → AcknowledgedCalls l u cs
+    → RawAcknowledgedCalls l u (map rawCalled cs)
+unfolding Chain AcknowledgedCalls RawAcknowledgedCalls
+acknowledged-calls s t l u [] c k = tt
+acknowledged-calls s t l u (reads m ∷ cs) c k =
+    acknowledged-call l u m cs (map rawCalled cs) (refused-byte s t m (c .0)) (λ l′ u′ k′. acknowledged-calls (m .session) (m .store) l′ u′ cs (c .1) k′) k
+acknowledged-calls s t l u (passes p ∷ cs) c k = acknowledged-calls s (p .store) l u cs (c .2) k
 
 -- ---- never 4
 
-never-4 : (ms : List Made) → NeverUnsound ms → RawNeverUnsound (map rawOf ms)
+never-4 : (cs : List Called) → NeverUnsound cs → RawNeverUnsound (map rawCalled cs)
 unfolding NeverUnsound RawNeverUnsound rawOutcome
 never-4 [] h = tt
-never-4 (m ∷ ms) h = ((λ e. h .0 (refused-is (m .outcome .answer) (omega (arith, e)) ∙ ap some e)), never-4 ms (h .1))
+never-4 (reads m ∷ cs) h = ((λ e. h .0 (refused-is (m .outcome .answer) (omega (arith, e)) ∙ ap some e)), never-4 cs (h .1))
+never-4 (passes p ∷ cs) h = (h .0, never-4 cs (h .1))
 
 -- ---- the claim
 
-carried : (s : Session) (t : Store) (ms : List Made) → sound s t ≡ true → Chain s t ms → ExportedDemand3 s t (map rawOf ms)
-carried s t ms f c =
-    let d = demand-3 s t ms f c in
+carried : (s : Session) (t : Store) (cs : List Called) → sound s t ≡ true → Chain s t cs → ExportedDemand3 s t (map rawCalled cs)
+carried s t cs f c =
+    let d = demand-3 s t cs f c in
     record {
-      each = each-calls s t ms (d .each);
-      taken = rw (same-taken ms) (same-came s t ms c ∙ ap inNumbers (d .taken));
+      each = each-calls s t cs (d .each);
+      taken = rw (same-taken cs) (same-came s t cs c ∙ ap inNumbers (d .taken));
       left-out = four;
-      record-is = rw (same-taken ms) (same-session s ms ∙ d .record-is);
-      whole = λ stream o. same-came s t ms c ∙ ap inNumbers (d .whole stream (offered s stream ms o));
-      whole-record = λ stream o. same-session s ms ∙ d .whole-record stream (offered s stream ms o);
-      exists = λ sh cuts room q l. offering s t cuts room (d .exists sh cuts room q l);
-      acknowledged = rw (same-taken ms) (d .acknowledged);
-      acknowledged-calls = acknowledged-calls s t (startLedger (s .connection)) (unfinished s) ms c (d .acknowledged-calls);
-      sound = rw (same-session s ms, same-store t ms) (d .sound);
-      never-4 = never-4 ms (d .never-4);
+      record-is = rw (same-taken cs) (same-session s cs ∙ d .record-is);
+      whole = λ stream o. same-came s t cs c ∙ ap inNumbers (d .whole stream (offered s stream cs o));
+      whole-record = λ stream o. same-session s cs ∙ d .whole-record stream (offered s stream cs o);
+      exists = λ sh parts room q l r. offering s t parts room (d .exists sh parts room q l r);
+      acknowledged = rw (same-taken cs) (d .acknowledged);
+      acknowledged-calls = acknowledged-calls s t (startLedger (s .connection)) (unfinished s) cs c (d .acknowledged-calls);
+      sound = rw (same-session s cs, same-store t cs) (d .sound);
+      never-4 = never-4 cs (d .never-4);
     }
 
 pub exported-demand-3 : EveryListOfCalls
-exported-demand-3 s t ms f c =
-    subst (ExportedDemand3 s t) (sym (mades-same s t ms c)) (carried s t (madesBy s t ms) f (mades-chain s t ms c))
+exported-demand-3 s t cs f c =
+    subst (ExportedDemand3 s t) (sym (mades-same s t cs c)) (carried s t (madesBy s t cs) f (mades-chain s t cs c))

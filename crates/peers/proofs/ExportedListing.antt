@@ -12,6 +12,7 @@ use Rattle.session.specs.declared.Answer.{Answer}
 use Rattle.session.specs.Answers.{answerNumber, answerValues}
 use Rattle.session.specs.Session.{isClosed, holding}
 use Rattle.opening.specs.Opening.{answerer, opened, openedOf, newConnection}
+use Rattle.streams.specs.Model.{bytes}
 use Rattle.streams.specs.Calls.{Result}
 use Rattle.receiver.specs.Model.{State, heldBy}
 use Rattle.worked_cases.specs.Cases.{hello, east, west}
@@ -20,9 +21,10 @@ use Rattle.worked_cases.proofs.ListingHolds.{listing-holds}
 use Rattle.worked_cases.proofs.ListingByCalls.{opening-accepted, listing-cut}
 use Rattle.peers.specs.declared.numbers.RawOpened.{RawOpened}
 use Rattle.peers.specs.Numbers.{rawOpened}
-use Rattle.peers.specs.Reading.{RawMade}
-use Rattle.peers.specs.ExportedDemand3.{RawChain, RawResult, rawCameTo, inNumbers, RawOffersTo, ExportedDemand3}
+use Rattle.peers.specs.ExportedDemand3.{RawCalled, RawChain, RawResult, rawCameTo, inNumbers, RawOffersTo}
+use Rattle.peers.specs.ExportedCorollaries.{Started}
 use Rattle.peers.specs.ExportedListing.{listedNumbers, OpenedEast, RawListingCame, RawListingByCalls, RawListingOffered}
+use Rattle.peers.proofs.ExportedCorollaries.{raw-bytes-record}
 use Rattle.peers.proofs.FromTheStart.{from-the-start}
 
 abbrev start : Session
@@ -44,9 +46,9 @@ in-numbers : inNumbers listedResult .responses ≡ listedNumbers
 unfolding inNumbers listedResult listed listedNumbers answerNumber answerValues
 in-numbers = refl
 
-module _ (calls : List RawMade) (d : ExportedDemand3 start emptyStore calls) (o : RawOffersTo start listing calls) where
+module _ (calls : List RawCalled) (d : Started start calls) (c : RawChain start emptyStore calls) (o : RawOffersTo start (bytes listing) calls) where
   came : rawCameTo start emptyStore calls ≡ inNumbers listedResult
-  came = d .whole listing o ∙ ap inNumbers listing-holds
+  came = d .demand .whole (bytes listing) o ∙ ap inNumbers listing-holds
 
   listed-by-calls : RawListingCame start calls
   unfolding rawCameTo inNumbers listedResult listedState heldBy
@@ -54,7 +56,7 @@ module _ (calls : List RawMade) (d : ExportedDemand3 start emptyStore calls) (o 
     responses = ap (λ (r : RawResult). r .responses) came ∙ in-numbers;
     replies = ap (λ (r : RawResult). r .replies) came;
     session =
-        d .whole-record listing o
+        raw-bytes-record start emptyStore listing calls (d .sound) c o
         ∙ (cond-false (eqb (length listing) 0 || isClosed (start .connection)) _ _ open-start
         ∙ ap (λ (r : Result State Answer). holding (r .state .connection) (r .state .unfinished)) listing-holds);
     store = ap (λ (r : RawResult). r .state .store) came;
@@ -62,13 +64,11 @@ module _ (calls : List RawMade) (d : ExportedDemand3 start emptyStore calls) (o 
 
 pub raw-listing-by-calls : RawListingByCalls
 raw-listing-by-calls o calls h c q =
-    subst (λ (s : Session). ExportedDemand3 s emptyStore calls → RawOffersTo s listing calls → RawListingCame s calls) (sym (start-opened o h))
-    (listed-by-calls calls)
-    (from-the-start answerer east west (h .0) o calls (h .1 .1) c .demand)
-    q
+    subst (λ (s : Session). Started s calls → RawChain s emptyStore calls → RawOffersTo s (bytes listing) calls → RawListingCame s calls)
+    (sym (start-opened o h)) (listed-by-calls calls) (from-the-start answerer east west (h .0) o calls (h .1 .1) c) c q
 
 -- ---- and they can be offered in every cutting
 
 pub raw-listing-offered : RawListingOffered
 unfolding RawChain
-raw-listing-offered o cuts room h e l = from-the-start answerer east west (h .0) o [] (h .1 .1) tt .exists cuts room (listing-cut cuts e) l
+raw-listing-offered o cuts room h e l = from-the-start answerer east west (h .0) o [] (h .1 .1) tt .offered cuts room (listing-cut cuts e) l

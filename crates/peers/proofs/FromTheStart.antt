@@ -13,19 +13,20 @@ use Rattle.session_soundness.specs.Sound.{sound}
 use Rattle.opening.specs.Opening.{Role, «open», openedOf}
 use Rattle.opening.proofs.SoundOpening.{open-sound}
 use Rattle.opening.proofs.ShapedOpening.{open-shape}
+use Rattle.receiver.specs.Promise.{Shaped}
 use Rattle.peers.specs.Numbers.{rawOpened}
-use Rattle.peers.specs.Reading.{RawMade}
-use Rattle.peers.specs.ExportedDemand3.{RawChain}
+use Rattle.peers.specs.ExportedDemand3.{RawCalled, RawChain}
 use Rattle.peers.specs.ExportedCorollaries.{Started, FromTheStart}
 use Rattle.peers.proofs.ExportedDemand3.{exported-demand-3}
+use Rattle.peers.proofs.ExportedCorollaries.{raw-bytes-offered}
 
-started : (role : Role) (local remote room : List ℕ) (s : Session) (calls : List RawMade) → s ≡ «open» role local remote (length room) .session
+started : (role : Role) (local remote room : List ℕ) (s : Session) (calls : List RawCalled) → s ≡ «open» role local remote (length room) .session
     → RawChain s emptyStore calls → Started s calls
 started role local remote room s calls e c =
     let h = subst (λ (x : Session). sound x emptyStore ≡ true) (sym e) (open-sound role local remote (length room) emptyStore empty-sound) in
-    let shape = subst SessionShape (sym e) (open-shape role local remote (length room)) in
+    let shaped : Shaped s emptyStore = record { session = subst SessionShape (sym e) (open-shape role local remote (length room)); store = empty-shape } in
     let d = exported-demand-3 s emptyStore calls h c in
-    record { sound = h; demand = d; exists = d .exists (record { session = shape; store = empty-shape }) }
+    record { sound = h; demand = d; exists = d .exists shaped; offered = raw-bytes-offered s emptyStore h shaped }
 
 pub from-the-start : FromTheStart
 unfolding rawOpened openedOf

@@ -1,14 +1,17 @@
--- What follows from the exported call's promise and from its demand 3, in the auditor's words and in the numbers that a host has.
+-- What follows from the exported calls' promises and from their demand 3, in the auditor's words and in the numbers that a host has.
 use Prim.Native.Nat.{ℕ, _+_, _-_, _≤_, _<_}
 use mathlib.Core.Path.{_≡_}
 use mathlib.Core.Logic.{_⊎_}
-use mathlib.Core.List.{List, [], _∷_, _++_}
-use mathlib.Core.Bool.{true}
+use mathlib.Core.List.{List, [], _∷_, _++_, map, flatten}
+use mathlib.Core.Bool.{true, cond, _||_}
+use mathlib.Core.Option.{some}
 use lib.ListN.{length, take, drop, getD}
+use lib.Dec.{eqb}
 use Rattle.lists.specs.Lists.{every}
 use Rattle.store.specs.declared.Entry.{Entry}
 use Rattle.store.specs.declared.Store.{Store}
 use Rattle.store.specs.Store.{makeEntry, noEntry, noTable, emptyStore}
+use Rattle.store.specs.Time.{Passed, PassedTwice}
 use Rattle.frame.specs.declared.Frame.the-variants as frame
 use Rattle.frame.specs.Frame.{judgeFrame}
 use Rattle.session.specs.declared.Session.{Session}
@@ -16,42 +19,52 @@ use Rattle.session.specs.declared.Commit.{Commit}
 use Rattle.session.specs.declared.Answer.{Answer}
 use Rattle.session.specs.declared.Answer.the-variants as answer
 use Rattle.session.specs.Answers.{commitNumber, refusalReply}
-use Rattle.session.specs.Session.{unfinished, bindingAt, holding, closedWith}
+use Rattle.session.specs.Session.{unfinished, bindingAt, isClosed, holding, closedWith}
 use Rattle.session_soundness.specs.Sound.{sound}
 use Rattle.opening.specs.Opening.{Role, «open», openedOf, openRoom, refusedOpening}
+use Rattle.body.specs.declared.update.Form.{Form}
 use Rattle.body.specs.Fields.{got, spanIn}
-use Rattle.body.specs.Bodies.{Update}
+use Rattle.body.specs.Bodies.{Update, formOf}
 use Rattle.message.specs.Effects.{acknowledge}
-use Rattle.receiver.specs.Model.{replyRoom, isByte}
-use Rattle.receiver.specs.Promise.{Made}
+use Rattle.streams.specs.Model.{Item, bytes, bytesIn}
+use Rattle.streams.specs.Calls.{Part, pieces, onPart, timeline, reachable}
+use Rattle.receiver.specs.Model.{Event, heldBy, replyRoom, isByte, isTime, peers}
+use Rattle.receiver.specs.Promise.{Made, Shaped}
 use Rattle.receiver.specs.Ledger.{isAcknowledgement}
-use Rattle.receiver.specs.Corollaries.{fieldsOf, closes}
+use Rattle.receiver.specs.Demand3.{modelRan}
+use Rattle.receiver.specs.Corollaries.{fieldsOf, closes, RefusedPassUntouched, PassedRecordsSound}
 use Rattle.message_bytes.specs.MessageBytes.{UpdateMessage, DefinitionMessage}
+use Rattle.message_bytes.specs.LastUpdates.{Since}
 use Rattle.peers.specs.declared.numbers.RawOpened.{RawOpened}
 use Rattle.peers.specs.Numbers.{rawOpened}
 use Rattle.peers.specs.Reading.{RawMade, RawPromise}
-use Rattle.peers.specs.ExportedDemand3.{RawChain, rawValues, rawReply, rawTaken, rawLastSession, rawLastStore, rawReplies, rawCameTo, RawOffersTo, RawOffering, ExportedDemand3}
+use Rattle.peers.specs.ExportedDemand3.{RawCalled, rawReads, rawPasses, RawChain, rawValues, rawReply, rawTaken, rawLastSession, rawLastStore, rawReplies, rawCameTo, RawOffersTo, RawOffering, ExportedDemand3}
 
 -- ---- from where a host starts: a record that `peers_open_answerer` or `peers_open_caller` gave, and the store of `peers_empty_store`
 
--- demand 3 holds of every list of calls from there, and for every cutting of every stream into pieces and every room that is large enough there is
--- such a list
-pub record Started (s : Session) (calls : List RawMade) : Type 0 where
+-- demand 3 holds of every list of calls from there, and for every cutting of every stream into pieces, with times between them at any positions that
+-- calls come to, and every room that is large enough there is such a list
+pub record Started (s : Session) (calls : List RawCalled) : Type 0 where
   pub sound : sound s emptyStore ≡ true
   pub demand : ExportedDemand3 s emptyStore calls
-  pub exists : (cuts : List (List ℕ)) (room : List ℕ) → every (every isByte) cuts ≡ true → replyRoom ≤ length room → RawOffering s emptyStore cuts room
+  pub exists : (parts : List (Part Event)) (room : List ℕ) → every (onPart (every isByte) isTime) parts ≡ true → replyRoom ≤ length room
+      → reachable peers (heldBy s emptyStore) (timeline parts) ≡ true → RawOffering s emptyStore parts room
+  -- without times, for every cutting
+  pub offered : (cuts : List (List ℕ)) (room : List ℕ) → every (every isByte) cuts ≡ true → replyRoom ≤ length room
+      → RawOffering s emptyStore (pieces cuts) room
 
 -- in either role, with any names and any room: a refused opening too, since "1 and 3 in opening return a closed record .. which counts as sound"
 abbrev pub FromTheStart : Type 0
 FromTheStart =
-    (role : Role) (local remote room : List ℕ) (o : RawOpened) (calls : List RawMade)
+    (role : Role) (local remote room : List ℕ) (o : RawOpened) (calls : List RawCalled)
     → o ≡ rawOpened (openedOf («open» role local remote (length room))) → RawChain (o .session) emptyStore calls
     → Started (o .session) calls
 
 -- ---- "would another division of the same traffic by TCP have left another table?"
 
--- two lists of calls that offer one stream from one record and store come to the same answers, replies, record and store
-pub record RawSameByAnyDivision (s : Session) (t : Store) (stream : List ℕ) (calls others : List RawMade) : Type 0 where
+-- two lists of calls that offer one stream, the same bytes and the same times at the same positions, from one record and store come to the same
+-- answers, replies, record and store
+pub record RawSameByAnyDivision (s : Session) (t : Store) (stream : List (Item Event)) (calls others : List RawCalled) : Type 0 where
   pub came : rawCameTo s t calls ≡ rawCameTo s t others
   pub store : rawLastStore t calls ≡ rawLastStore t others
   pub session : rawLastSession s calls ≡ rawLastSession s others
@@ -59,8 +72,40 @@ pub record RawSameByAnyDivision (s : Session) (t : Store) (stream : List ℕ) (c
 
 abbrev pub RawAnyDivision : Type 0
 RawAnyDivision =
-    (s : Session) (t : Store) (stream : List ℕ) (calls others : List RawMade) → sound s t ≡ true → RawChain s t calls → RawChain s t others
+    (s : Session) (t : Store) (stream : List (Item Event)) (calls others : List RawCalled) → sound s t ≡ true → RawChain s t calls → RawChain s t others
     → RawOffersTo s stream calls → RawOffersTo s stream others → RawSameByAnyDivision s t stream calls others
+
+-- a list of calls offers no stream but those for which one exists by demand 3
+abbrev pub RawOfferedReachable : Type 0
+RawOfferedReachable =
+    (s : Session) (t : Store) (stream : List (Item Event)) (calls : List RawCalled) → sound s t ≡ true → RawChain s t calls → RawOffersTo s stream calls
+    → reachable peers (heldBy s t) stream ≡ true
+
+-- ---- a stream of bytes alone, without times
+
+-- for every cutting there is a list of calls, and every list that offers it is of reading calls
+abbrev pub RawBytesOffered : Type 0
+RawBytesOffered =
+    (s : Session) (t : Store) → sound s t ≡ true → Shaped s t → (cuts : List (List ℕ)) (room : List ℕ) → every (every isByte) cuts ≡ true
+    → replyRoom ≤ length room → RawOffering s t (pieces cuts) room
+
+abbrev pub RawBytesByReading : Type 0
+RawBytesByReading =
+    (s : Session) (t : Store) (stream : List ℕ) (calls : List RawCalled) → RawChain s t calls → RawOffersTo s (bytes stream) calls
+    → (ms : List RawMade) × (calls ≡ map rawReads ms)
+
+-- the record at the end
+abbrev pub RawBytesRecord : Type 0
+RawBytesRecord =
+    (s : Session) (t : Store) (stream : List ℕ) (calls : List RawCalled) → sound s t ≡ true → RawChain s t calls → RawOffersTo s (bytes stream) calls
+    → rawLastSession s calls
+    ≡ (let end = modelRan s t (bytes stream) .state in
+    cond (eqb (length stream) 0 || isClosed (s .connection)) s (holding (end .connection) (end .unfinished)))
+
+-- the bytes that reading calls took are their timeline
+abbrev pub RawReadingTakes : Type 0
+RawReadingTakes =
+    (ms : List RawMade) → rawTaken (map rawReads ms) ≡ bytes (flatten (map (λ (m : RawMade). take (m .outcome .taken) (m .piece)) ms))
 
 -- ---- "which entries did you hold when this acknowledgement went out?"
 
@@ -73,8 +118,8 @@ pub record ToldUpdate (m : RawMade) (table id place : ℕ) (how : Commit) : Type
   pub number : m .outcome .number ≡ 267
   pub values : rawValues m ≡ table ∷ id ∷ place ∷ commitNumber how ∷ []
 
--- the store that the call left holds the entry with the message's key and values, and else what it held before; the reply is the
--- acknowledgement of this update with the table's ID
+-- the store that the call left holds the entry with the message's key and values and its remaining time, and else what it held before; the
+-- reply is the acknowledgement of this update with the table's ID
 pub record RawEntryHeld (s : Session) (t : Store) (m : RawMade) : Type 0 where
   pub table : ℕ
   pub id : ℕ
@@ -85,15 +130,17 @@ pub record RawEntryHeld (s : Session) (t : Store) (m : RawMade) : Type 0 where
   pub start : ℕ
   pub end : ℕ
   pub framed : judgeFrame (rawMessage s m) ≡ frame.Body kind start end
-  pub type : (kind ≡ 128) ⊎ (kind ≡ 129)
+  pub form : Form
+  pub type : formOf kind ≡ some form
   pub current : s .connection .current ≡ table + 1
   pub body : List ℕ
   pub body-is : body ≡ take (end - start) (drop start (rawMessage s m))
   pub fields : Update
   pub after : ℕ
-  pub read : fieldsOf (s .connection) t table kind body ≡ got fields after
+  pub read : fieldsOf (s .connection) t table form body ≡ got fields after
   pub own-id : fields .id ≡ id
-  pub holds : getD (m .store .entries) place noEntry ≡ makeEntry table (spanIn body (fields .key)) (fields .server) (fields .values)
+  pub holds : getD (m .store .entries) place noEntry
+      ≡ makeEntry table (spanIn body (fields .key)) (fields .server) (fields .time .timed) (fields .time .remaining) (fields .values)
   pub others : (i : ℕ) → (i ≡ place → ⊥) → getD (m .store .entries) i noEntry ≡ getD (t .entries) i noEntry
   pub tables : m .store .tables ≡ t .tables
   pub reply : rawReply m ≡ acknowledge (bindingAt (s .connection) table .id) id
@@ -115,41 +162,50 @@ answering a m = record {
 }
 
 -- the entry at a place of the store that the calls left
-abbrev pub rawLastEntry : Store → List RawMade → ℕ → Entry
+abbrev pub rawLastEntry : Store → List RawCalled → ℕ → Entry
 rawLastEntry t calls place = getD (rawLastStore t calls .entries) place noEntry
 
 -- no call answered an update at the place: 267 with this place for its third value
-unfoldable pub RawNoneUpdates : ℕ → List RawMade → Type 0
+unfoldable pub RawNoneUpdates : ℕ → List RawCalled → Type 0
 RawNoneUpdates place [] = Unit {0}
-RawNoneUpdates place (m ∷ calls) = (m .outcome .number ≡ 267 → getD (rawValues m) 2 0 ≡ place → ⊥) × RawNoneUpdates place calls
+RawNoneUpdates place (rawReads m ∷ calls) = (m .outcome .number ≡ 267 → getD (rawValues m) 2 0 ≡ place → ⊥) × RawNoneUpdates place calls
+RawNoneUpdates place (rawPasses p ∷ calls) = RawNoneUpdates place calls
 
--- no call updated the place, and it holds what it held before the first one
-pub record RawNeverUpdated (t : Store) (calls : List RawMade) (place : ℕ) : Type 0 where
+-- the passing calls, in order
+unfoldable pub rawPassing : List RawCalled → List Passed
+rawPassing [] = []
+rawPassing (rawReads m ∷ calls) = rawPassing calls
+rawPassing (rawPasses p ∷ calls) = p ∷ rawPassing calls
+
+-- no call updated the place, and it holds what it held before the first one, less the time that passed
+pub record RawNeverUpdated (t : Store) (calls : List RawCalled) (place : ℕ) : Type 0 where
   pub none : RawNoneUpdates place calls
-  pub same : rawLastEntry t calls place ≡ getD (t .entries) place noEntry
+  pub since : Since (rawPassing calls) (getD (t .entries) place noEntry) (rawLastEntry t calls place)
 
--- this call was the last one to update the place, and the message that it ended is the update with the entry that stands there
-pub record RawLastUpdate (s : Session) (t : Store) (calls : List RawMade) (place : ℕ) : Type 0 where
-  pub before : List RawMade
+-- this call was the last one to update the place, and the message that it ended is the update with the entry that stands there, less the time
+-- that passed since
+pub record RawLastUpdate (s : Session) (t : Store) (calls : List RawCalled) (place : ℕ) : Type 0 where
+  pub before : List RawCalled
   pub call : RawMade
-  pub after : List RawMade
-  pub among : calls ≡ before ++ (call ∷ after)
+  pub after : List RawCalled
+  pub among : calls ≡ before ++ (rawReads call ∷ after)
   pub table : ℕ
   pub id : ℕ
   pub how : Commit
   pub told : ToldUpdate call table id place how
   pub last : RawNoneUpdates place after
+  pub since : Since (rawPassing after) (getD (call .store .entries) place noEntry) (rawLastEntry t calls place)
   -- with the record that this call got, and the table that it left
   pub message : UpdateMessage (rawLastSession s before) (answering (answer.Update table id place how) call) table id
-      (getD (call .store .tables) table noTable) (rawLastEntry t calls place)
+      (getD (call .store .tables) table noTable) (getD (call .store .entries) place noEntry)
   -- where it stood: among the bytes unfinished at the start and then all bytes that the calls took, behind these
   pub earlier : List ℕ
-  pub stood : unfinished s ++ rawTaken calls ≡ earlier ++ (rawMessage (rawLastSession s before) call ++ rawTaken after)
+  pub stood : unfinished s ++ bytesIn (rawTaken calls) ≡ earlier ++ (rawMessage (rawLastSession s before) call ++ bytesIn (rawTaken after))
 
 -- every place of the store that a list of calls left, whatever record and store they started with, with no other writer between the calls
 abbrev pub RawBytesOfEveryEntry : Type 0
 RawBytesOfEveryEntry =
-    (s : Session) (t : Store) (calls : List RawMade) (place : ℕ) → RawChain s t calls → RawNeverUpdated t calls place ⊎ RawLastUpdate s t calls place
+    (s : Session) (t : Store) (calls : List RawCalled) (place : ℕ) → RawChain s t calls → RawNeverUpdated t calls place ⊎ RawLastUpdate s t calls place
 
 -- the answer of a definition: its number is 265, its value the table's place
 pub record ToldTable (m : RawMade) (place : ℕ) : Type 0 where
@@ -226,3 +282,13 @@ RawRefusedOpeningUntouched =
 abbrev pub RawOtherRecordsSound : Type 0
 RawOtherRecordsSound =
     (s : Session) (t : Store) (m : RawMade) (other : Session) → RawPromise s t m → sound other t ≡ true → sound other (m .store) ≡ true
+
+-- ---- a call that passes time, on any store, sound or not: `peers_pass_time` promises `PassPromise`, of which these are said
+
+pub record PassingCalls : Type 0 where
+  -- "passing time gives 4 on an unsound store, unchanged, else 0"
+  pub refused : RefusedPassUntouched
+  -- every record that was sound with the store is sound with it afterwards
+  pub records : PassedRecordsSound
+  -- "Passing a and then b leaves what passing a + b leaves, where the sum fits 32 bits."
+  pub twice : PassedTwice

@@ -21,7 +21,7 @@ pub record RawMade : Type 0 where
   pub store : Store
   pub final : List ℕ
 
--- the promise of the exported call, on a record and a store
+-- the promise of `peers_read`, on a record and a store
 pub record RawPromise (s : Session) (t : Store) (m : RawMade) : Type 0 where
   pub outcome : m .outcome ≡ rawOutcome (outcomeOf (callOf s t (m .piece) (length (m .room))))
   pub session : m .session ≡ sessionOf s (callOf s t (m .piece) (length (m .room)))

@@ -1,4 +1,4 @@
-// The library for hosts in C and Rust: opening, reading and an empty store, each defined on every input.
+// The library for hosts in C and Rust: opening, reading, passing time and an empty store, each defined on every input.
 // An enum can't cross the border to C, so an answer goes as its number and values.
 pub mod numbers;
 
@@ -6,21 +6,23 @@ use crate::numbers::RawOpened;
 use crate::numbers::RawOutcome;
 use crate::numbers::raw_opened;
 use crate::numbers::raw_outcome;
+use passing::pass_lent;
 use reading::read_lent;
 use session::Session;
 use store::Store;
 ghost use mathlib.Core.Path.{_≡_};
 ghost use lib.ListN.{length};
 ghost use Rattle.store.specs.Store.{emptyStore};
+ghost use Rattle.store.specs.Time.{PassPromise};
 ghost use Rattle.opening.specs.Opening.{answerer, caller, «open», openRoom, openedOf};
 ghost use Rattle.peers.specs.Numbers.{rawOpened};
 ghost use Rattle.peers.specs.Reading.{RawPromise};
 ghost use Rattle.peers.specs.Version.{archiveVersion};
 
 // The version of the calls, and that of the structs' layout.
-const VERSION: u32 = 4;
+const VERSION: u32 = 5;
 
-const LAYOUT: u32 = 2;
+const LAYOUT: u32 = 3;
 
 // What this archive was built as, so that a header or a wrapper of another version is noticed.
 #[no_mangle]
@@ -73,4 +75,12 @@ pub extern "C" fn peers_read(
     ensures { λ r. ⌜ RawPromise (now (session .entry)) (now (store .entry)) (record { piece = now (piece .entry); room = now (reply .entry); outcome = r; session = now (session .exit); store = now (store .exit); final = now (reply .exit) }) ⌝ }
 {
     raw_outcome(read_lent(session, store, piece, reply))
+}
+
+// Passes milliseconds on a lent store: 0; or 4, and nothing is changed, where the store isn't sound.
+#[no_mangle]
+pub extern "C" fn peers_pass_time(store: &mut Store, milliseconds: u32) -> u32
+    ensures { λ r. ⌜ PassPromise (now (store .entry)) (record { milliseconds = milliseconds; number = r; store = now (store .exit) }) ⌝ }
+{
+    pass_lent(store, milliseconds)
 }

@@ -200,6 +200,7 @@ module _ (s : Session) (t : Store) (m : Made) (p : ReadPromise s t m) (e : Effec
         start = x .start;
         end = x .end;
         framed = x .framed;
+        form = x .form;
         type = x .type;
         current = x .current;
         body = take (x .end - x .start) (drop (x .start) (messageOf s m));

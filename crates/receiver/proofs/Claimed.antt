@@ -18,7 +18,7 @@ use Rattle.session.specs.declared.Answer.{Answer}
 use Rattle.session.specs.declared.Answer.the-variants as answer
 use Rattle.session.specs.Session.{holding, isClosed, unfinished}
 use Rattle.session_soundness.specs.Sound.{sound}
-use Rattle.streams.specs.Model.{answered, Item, bytes, bytesIn, feedAll}
+use Rattle.streams.specs.Model.{answered, Item, bytesIn, feedAll}
 use Rattle.streams.specs.Calls.{Result, resultOf, readCall}
 use Rattle.streams.specs.Claim.{Lawful, AsModel, Division}
 use Rattle.streams.specs.Fold.{AllAlong, Folds}
@@ -29,8 +29,9 @@ use Rattle.receiver.specs.Model.{endsRefused, State, Event, heldBy, ends
 use Rattle.receiver.specs.Good.{Good}
 use Rattle.receiver.specs.Promise.{Made, ReadPromise}
 use Rattle.receiver.specs.Ledger.{Ledger, startLedger, post, Acknowledged}
-use Rattle.receiver.specs.Demand3.{Chain, takenBy, lastSession, lastStore, responsesOf, repliesOf, cameTo, modelRan, CallAsModel, EachCall, OffersTo, AcknowledgedCalls, NeverUnsound, Demand3}
+use Rattle.receiver.specs.Demand3.{Called, reads, passes, Chain, takenBy, lastSession, lastStore, responsesOf, repliesOf, cameTo, modelRan, CallAsModel, EachCall, OffersTo, AcknowledgedCalls, NeverUnsound, Demand3}
 use Rattle.receiver.proofs.OneRead.{made-answer, made-sound, made-good, made-is, made-count, kept, room-kept, final-length}
+use Rattle.receiver.proofs.OnePass.{passed-model, passed-keeps-sound, passed-good}
 use Rattle.receiver.proofs.NoneTaken.{none-test}
 use Rattle.receiver.proofs.Offered.{every-cutting}
 use Rattle.receiver.proofs.Chained.{stepsOf, good-held, steps-bytes, runs, takes, offers, call-has, not-4, ends-sound, ends-at, closed-held}
@@ -77,8 +78,8 @@ module _ (law : Lawful peers Good)
     {I : State → List ℕ → Ledger → Type 0}
     (folds : Folds post peers Good Acknowledged I)
     (starts : (s : Session) (t : Store) → I (heldBy s t) (unfinished s) (startLedger (s .connection)))
-    (along : (s : Session) (t : Store) (ms : List Made) → Chain s t ms → sound s t ≡ true → Good (heldBy s t)
-    → AcknowledgedCalls (startLedger (s .connection)) (unfinished s) ms) where
+    (along : (s : Session) (t : Store) (cs : List Called) → Chain s t cs → sound s t ≡ true → Good (heldBy s t)
+    → AcknowledgedCalls (startLedger (s .connection)) (unfinished s) cs) where
   -- ---- 1
 
   Short : Answer → List ℕ → Type 0
@@ -103,85 +104,108 @@ module _ (law : Lawful peers Good)
     kept = kept s t m p f;
   }
 
-  each : (s : Session) (t : Store) (ms : List Made) → Chain s t ms → sound s t ≡ true → Good (heldBy s t) → EachCall s t ms
+  each : (s : Session) (t : Store) (cs : List Called) → Chain s t cs → sound s t ≡ true → Good (heldBy s t) → EachCall s t cs
   unfolding Chain EachCall
   each s t [] h f g = tt
-  each s t (m ∷ ms) h f g = (
+  each s t (reads m ∷ cs) h f g = (
     as-model-call s t m (h .0) f g,
-    each (m .session) (m .store) ms (h .1) (made-sound s t m (h .0) f law g) (made-good s t m (h .0) f law g),
+    each (m .session) (m .store) cs (h .1) (made-sound s t m (h .0) f law g) (made-good s t m (h .0) f law g),
+  )
+  each s t (passes p ∷ cs) h f g = (
+    passed-model t p (h .1) s f,
+    each s (p .store) cs (h .2) (passed-keeps-sound t p (h .1) s f) (passed-good t p (h .1) s f g),
   )
 
   -- ---- 5
 
-  never : (s : Session) (t : Store) (ms : List Made) → Chain s t ms → sound s t ≡ true → Good (heldBy s t) → NeverUnsound ms
+  never : (s : Session) (t : Store) (cs : List Called) → Chain s t cs → sound s t ≡ true → Good (heldBy s t) → NeverUnsound cs
   unfolding Chain NeverUnsound
   never s t [] h f g = tt
-  never s t (m ∷ ms) h f g = (
+  never s t (reads m ∷ cs) h f g = (
     (λ e. not-4 law (heldBy s t) (m .piece) (length (m .room)) g (h .0 .bytes) (sym (ap refusalOf (made-answer s t m (h .0) f)) ∙ e)),
-    never (m .session) (m .store) ms (h .1) (made-sound s t m (h .0) f law g) (made-good s t m (h .0) f law g),
+    never (m .session) (m .store) cs (h .1) (made-sound s t m (h .0) f law g) (made-good s t m (h .0) f law g),
+  )
+  never s t (passes p ∷ cs) h f g = (
+    passed-model t p (h .1) s f .number,
+    never s (p .store) cs (h .2) (passed-keeps-sound t p (h .1) s f) (passed-good t p (h .1) s f g),
   )
 
   -- ---- the claim, where the first record and store have their shape
 
-  module _ (s : Session) (t : Store) (ms : List Made) (h : Chain s t ms) (f : sound s t ≡ true) (g : Good (heldBy s t)) where
-    division : Division peers Good (heldBy s t) (unfinished s) (stepsOf ms)
-    division = every-division peers law (heldBy s t) (unfinished s) (stepsOf ms) g (steps-bytes s t ms h)
+  module _ (s : Session) (t : Store) (cs : List Called) (h : Chain s t cs) (f : sound s t ≡ true) (g : Good (heldBy s t)) where
+    division : Division peers Good (heldBy s t) (unfinished s) (stepsOf cs)
+    division = every-division peers law (heldBy s t) (unfinished s) (stepsOf cs) g (steps-bytes s t cs h)
 
-    taken : cameTo s t ms ≡ resultOf (modelRan s t (takenBy ms))
+    taken : cameTo s t cs ≡ resultOf (modelRan s t (takenBy cs))
     unfolding modelRan
     taken =
-        runs law s t ms h f g
-        ∙ (division .taken ∙ ap (λ (l : List (Item Event)). resultOf (feedAll peers (heldBy s t) (unfinished s) l)) (takes law s t ms h f g))
+        runs law s t cs h f g
+        ∙ (division .taken ∙ ap (λ (l : List (Item Event)). resultOf (feedAll peers (heldBy s t) (unfinished s) l)) (takes law s t cs h f g))
 
-    whole : (stream : List ℕ) → OffersTo s stream ms → cameTo s t ms ≡ resultOf (modelRan s t stream)
+    whole : (stream : List (Item Event)) → OffersTo s stream cs → cameTo s t cs ≡ resultOf (modelRan s t stream)
     unfolding modelRan
-    whole stream o = runs law s t ms h f g ∙ division .whole (bytes stream) (offers law s t ms stream h f g o)
+    whole stream o = runs law s t cs h f g ∙ division .whole stream (offers law s t cs stream h f g o)
 
-    end-state : heldBy (lastSession s ms) (lastStore t ms) ≡ modelRan s t (takenBy ms) .state
+    end-state : heldBy (lastSession s cs) (lastStore t cs) ≡ modelRan s t (takenBy cs) .state
     unfolding cameTo
     end-state = ap (λ (r : Result State Answer). r .state) taken
 
-    record-is : lastSession s ms
-        ≡ (let end = modelRan s t (takenBy ms) .state in cond (eqb (length (takenBy ms)) 0) s (holding (end .connection) (end .unfinished)))
+    record-is : lastSession s cs
+        ≡ (let end = modelRan s t (takenBy cs) .state in cond (eqb (length (bytesIn (takenBy cs))) 0) s (holding (end .connection) (end .unfinished)))
     record-is =
-        ends-at law s t ms h f g
+        ends-at law s t cs h f g
         ∙ (unfold heldBy in
-        ap (λ (k : State). cond (eqb (length (takenBy ms)) 0) s (holding (k .connection) (k .unfinished))) end-state)
+        ap (λ (k : State). cond (eqb (length (bytesIn (takenBy cs))) 0) s (holding (k .connection) (k .unfinished))) end-state)
 
-    whole-record : (stream : List ℕ) → OffersTo s stream ms
-        → lastSession s ms
+    whole-record : (stream : List (Item Event)) → OffersTo s stream cs
+        → lastSession s cs
         ≡ (let end = modelRan s t stream .state in
-        cond (eqb (length stream) 0 || isClosed (s .connection)) s (holding (end .connection) (end .unfinished)))
+        cond (eqb (length (bytesIn stream)) 0 || isClosed (s .connection)) s (holding (end .connection) (end .unfinished)))
     whole-record stream o =
         record-is
-        ∙ (ap (λ (k : State). cond (eqb (length (takenBy ms)) 0) s (holding (k .connection) (k .unfinished)))
+        ∙ (ap (λ (k : State). cond (eqb (length (bytesIn (takenBy cs))) 0) s (holding (k .connection) (k .unfinished)))
         (ap (λ (r : Result State Answer). r .state) (sym taken ∙ whole stream o))
-        ∙ ap (λ (b : Bool). cond b s (holding (modelRan s t stream .state .connection) (modelRan s t stream .state .unfinished))) (none-test s t stream ms h o))
+        ∙ ap (λ (b : Bool). cond b s (holding (modelRan s t stream .state .connection) (modelRan s t stream .state .unfinished))) (none-test s t stream cs h o))
 
-    bytes-taken : every isByte (bytesIn (bytes {E = Event} (takenBy ms))) ≡ true
-    bytes-taken = rw (← takes law s t ms h f g) (taken-bytes peers law (heldBy s t) (stepsOf ms) (steps-bytes s t ms h))
+    bytes-taken : every isByte (bytesIn (takenBy cs)) ≡ true
+    bytes-taken = rw (← takes law s t cs h f g) (taken-bytes peers law (heldBy s t) (stepsOf cs) (steps-bytes s t cs h))
 
-    acknowledged : AllAlong post Acknowledged (startLedger (s .connection)) (modelRan s t (takenBy ms) .ended)
+    acknowledged : AllAlong post Acknowledged (startLedger (s .connection)) (modelRan s t (takenBy cs) .ended)
     unfolding modelRan
     acknowledged =
-        folded peers law post folds (heldBy s t) (unfinished s) (startLedger (s .connection)) (bytes (takenBy ms)) g bytes-taken (starts s t)
+        folded peers law post folds (heldBy s t) (unfinished s) (startLedger (s .connection)) (takenBy cs) g bytes-taken (starts s t)
+
+    all-claimed : Demand3 s t cs
+    all-claimed = record {
+      each = each s t cs h f g;
+      taken = taken;
+      left-out = left-out;
+      record-is = record-is;
+      whole = whole;
+      whole-record = whole-record;
+      exists = every-cutting law s t f;
+      acknowledged = acknowledged;
+      acknowledged-calls = along s t cs h f g;
+      sound = ends-sound law s t cs h f g;
+      never-4 = never s t cs h f g;
+    }
 
   -- no call at all
-  none-record : (s : Session) (t : Store) (stream : List ℕ) → OffersTo s stream []
+  none-record : (s : Session) (t : Store) (stream : List (Item Event)) → OffersTo s stream []
       → s
       ≡ (let end = modelRan s t stream .state in
-      cond (eqb (length stream) 0 || isClosed (s .connection)) s (holding (end .connection) (end .unfinished)))
+      cond (eqb (length (bytesIn stream)) 0 || isClosed (s .connection)) s (holding (end .connection) (end .unfinished)))
   none-record s t stream o =
-      sym (cond-true (eqb (length stream) 0 || isClosed (s .connection)) _ _ (sym (none-test s t stream [] (unfold Chain in tt) o) ∙ unfold takenBy in refl))
+      sym (cond-true (eqb (length (bytesIn stream)) 0 || isClosed (s .connection)) _ _ (sym (none-test s t stream [] (unfold Chain in tt) o) ∙ unfold takenBy bytesIn in refl))
 
   none : (s : Session) (t : Store) → sound s t ≡ true → Demand3 s t []
-  unfolding EachCall NeverUnsound cameTo modelRan takenBy lastSession lastStore responsesOf repliesOf feedAll AllAlong OffersTo flatten
+  unfolding EachCall NeverUnsound cameTo modelRan takenBy lastSession lastStore responsesOf repliesOf bytesIn feedAll AllAlong OffersTo flatten
   none s t f = record {
     each = tt;
     taken = refl;
     left-out = left-out;
     record-is = refl;
-    whole = λ stream o. ⊎-elim (λ e. rw e) (λ c. rw (feedAll-closed peers law (heldBy s t) (unfinished s) stream (closed-held s t ∙ c))) o;
+    whole = λ stream o. ⊎-elim (λ e. rw e) (λ c. rw (c .1 .1, feedAll-closed peers law (heldBy s t) (unfinished s) (c .1 .0) (closed-held s t ∙ c .0))) o;
     whole-record = λ stream o. none-record s t stream o;
     exists = every-cutting law s t f;
     acknowledged = tt;
@@ -190,21 +214,9 @@ module _ (law : Lawful peers Good)
     never-4 = tt;
   }
 
-  pub claimed : (s : Session) (t : Store) (ms : List Made) → sound s t ≡ true → Chain s t ms → Demand3 s t ms
+  pub claimed : (s : Session) (t : Store) (cs : List Called) → sound s t ≡ true → Chain s t cs → Demand3 s t cs
   unfolding Chain
   claimed s t [] f h = none s t f
-  claimed s t (m ∷ ms) f h =
-      let g = good-held s t (h .0 .shaped) f in
-      record {
-        each = each s t (m ∷ ms) h f g;
-        taken = taken s t (m ∷ ms) h f g;
-        left-out = left-out;
-        record-is = record-is s t (m ∷ ms) h f g;
-        whole = whole s t (m ∷ ms) h f g;
-        whole-record = whole-record s t (m ∷ ms) h f g;
-        exists = every-cutting law s t f;
-        acknowledged = acknowledged s t (m ∷ ms) h f g;
-        acknowledged-calls = along s t (m ∷ ms) h f g;
-        sound = ends-sound law s t (m ∷ ms) h f g;
-        never-4 = never s t (m ∷ ms) h f g;
-      }
+  claimed s t (reads m ∷ cs) f h = all-claimed s t (reads m ∷ cs) h f (good-held s t (h .0 .shaped) f)
+  claimed s t (passes p ∷ cs) f h =
+      all-claimed s t (passes p ∷ cs) h f (good-held s t (record { session = h .0; store = h .1 .shaped }) f)

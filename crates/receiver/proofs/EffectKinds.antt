@@ -2,10 +2,10 @@
 -- Each law over everything that bytes come to goes by these kinds.
 use Prim.Native.Nat.{ℕ, _-_, _≤_, _<_}
 use native.Mathlib.Omega.{arith}
-use mathlib.Core.Path.{_≡_, refl, ap, _∙_, subst}
+use mathlib.Core.Path.{_≡_, refl, sym, ap, _∙_, subst}
 use mathlib.Core.Logic.{_⊎_, inl, inr}
-use mathlib.Core.Option.{some}
-use mathlib.Core.Bool.{true, false}
+use mathlib.Core.Option.{Option, some, none}
+use mathlib.Core.Bool.{true, false, _||_}
 use mathlib.Core.List.{List, []}
 use lib.ListN.{length, take, drop, getD}
 use lib.Dec.{eqb}
@@ -14,7 +14,7 @@ use Rattle.lists.specs.declared.Found.{Found}
 use Rattle.lists.specs.declared.Found.the-variants as found
 use Rattle.lists.specs.Lists.{firstPlace}
 use Rattle.lists.proofs.Places.{first-at}
-use Rattle.lists.proofs.Cases.{by-test, cond-true, cond-false}
+use Rattle.lists.proofs.Cases.{by-test, or-false, cond-true, cond-false}
 use Rattle.store.specs.declared.Table.{Table}
 use Rattle.store.specs.declared.Store.{Store}
 use Rattle.store.specs.Store.{tableFree, tableNamed, entryFree, noTable}
@@ -37,11 +37,12 @@ use Rattle.session.specs.declared.Answer.the-variants as answer
 use Rattle.session.specs.Session.{localName, remoteName, bindingAt, isUpdated}
 use Rattle.body.specs.declared.Fault.{Fault}
 use Rattle.body.specs.Fields.{Read, got, failed, spanIn}
-use Rattle.body.specs.Bodies.{Definition, Update, definitionFields, updateFields, incrementalFields}
+use Rattle.body.specs.Bodies.{Definition, Update, definitionFields, updateFields, formOf}
 use Rattle.message.specs.Targets.{keyedAs, goesTo}
 use Rattle.message.proofs.Kept.{failure-least, failure-most}
 use Rattle.session.specs.Answers.{refusalOf}
-use Rattle.message.specs.Effects.{Effect, refuseWith, refuse, refusal, failureNumber, refuseBody, note, fieldsThen, control, controlAnswer, peerError, definedTable, defineAt, defineNew, defineNamed, agrees, definition, switchTo, switch, acknowledgement, skipped, updatedEntry, commitAt, commitEntry, withFields, followingId, incrementalOf, update, incremental, stickTable, done}
+use Rattle.message.specs.Effects.{Effect, refuseWith, refuse, refusal, failureNumber, refuseBody, note, fieldsThen, control, controlAnswer, peerError, definedTable, defineAt, defineNew, defineNamed, agrees, definition, switchTo, switch, acknowledgement, skipped, updatedEntry, commitAt, commitEntry, withFields, followingId, updateOf, update, otherMessage, byForm, stickTable, done}
+use Rattle.body.specs.declared.update.Form.{Form}
 use Rattle.reassembly.specs.Judge.{Judged, waiting, settled, helloJudged, statusJudged, frameJudged, asksNone, judgeBytes, doneOf, judge}
 use Rattle.receiver.specs.Corollaries.{closes, fieldsOf}
 
@@ -74,11 +75,12 @@ pub record Committing (c : Connection) (t : Store) (u : List ℕ) (fields : Upda
   pub end : ℕ
   pub framed : judgeFrame u ≡ frame.Body kind start end
   pub body-is : body ≡ bodyIn u start end
-  pub type : (kind ≡ 128) ⊎ (kind ≡ 129)
+  pub form : Form
+  pub type : formOf kind ≡ some form
   pub current : eqb (c .current) 0 ≡ false
-  pub previous : kind ≡ 129 → isUpdated (bindingAt c (c .current - 1)) ≡ true
+  pub previous : form .explicit ≡ false → isUpdated (bindingAt c (c .current - 1)) ≡ true
   pub after : ℕ
-  pub read : fieldsOf c t (c .current - 1) kind body ≡ got fields after
+  pub read : fieldsOf c t (c .current - 1) form body ≡ got fields after
   pub inside : place < length (t .entries)
 
 -- a definition whose fields were read, and the place of its table
@@ -170,15 +172,16 @@ module _ (c : Connection) (t : Store) (u : List ℕ) where
     abbrev now : ℕ
     now = c .current - 1
 
-    module _ (type : (kind ≡ 128) ⊎ (kind ≡ 129)) (z : eqb (c .current) 0 ≡ false) (previous : kind ≡ 129 → isUpdated (bindingAt c now) ≡ true) where
-      commit-kind : (f : Update) (after p : ℕ) (how : Commit) → fieldsOf c t now kind body ≡ got f after → p < length (t .entries)
+    module _ (form : Form) (type : formOf kind ≡ some form) (z : eqb (c .current) 0 ≡ false)
+        (previous : form .explicit ≡ false → isUpdated (bindingAt c now) ≡ true) where
+      commit-kind : (f : Update) (after p : ℕ) (how : Commit) → fieldsOf c t now form body ≡ got f after → p < length (t .entries)
           → Kind c t u (commitAt c (f .id) (updatedEntry body now f) p how)
       commit-kind f after p how r l =
           committed f body p how
-          (record { kind = kind; start = start; end = end; framed = e; body-is = refl; type = type; current = z; previous = previous; after = after; read = r; inside = l })
+          (record { kind = kind; start = start; end = end; framed = e; body-is = refl; form = form; type = type; current = z; previous = previous; after = after; read = r; inside = l })
 
       -- where the entry goes, by what the lookups found
-      commit-entry-kind : (f : Update) (after : ℕ) (x y : Found) → fieldsOf c t now kind body ≡ got f after
+      commit-entry-kind : (f : Update) (after : ℕ) (x y : Found) → fieldsOf c t now form body ≡ got f after
           → firstPlace (keyedAs (updatedEntry body now f)) (t .entries) ≡ x → firstPlace entryFree (t .entries) ≡ y
           → Kind c t u (commitEntry c (f .id) (updatedEntry body now f) (placeOf x y))
       unfolding commitEntry placeOf freeOf
@@ -186,44 +189,28 @@ module _ (c : Connection) (t : Store) (u : List ℕ) where
       commit-entry-kind f after found.Nothing (found.At p) r q w = commit-kind f after p commit.New r (first-at entryFree (t .entries) p w .inside)
       commit-entry-kind f after found.Nothing found.Nothing r q w = refused-with 29 (omega arith) (omega arith)
 
-      with-kind : (r : Read Update) → fieldsOf c t now kind body ≡ r → Kind c t u (done c (t .entries) (withFields c body now r))
+      with-kind : (r : Read Update) → fieldsOf c t now form body ≡ r → Kind c t u (done c (t .entries) (withFields c body now r))
       unfolding withFields fieldsThen refusal done goesTo
       with-kind (got f after) q = commit-entry-kind f after _ _ q refl refl
       with-kind (failed f) q = body-kind f
 
-    update-kind : eqb kind 128 ≡ true → Kind c t u (done c (t .entries) (update c (t .tables) body))
-    unfolding update refusal done
-    update-kind a =
-        by-test (eqb (c .current) 0)
-        (λ z. rw z (refused-with 27 (omega arith) (omega arith)))
-        (λ z. rw z (with-kind (inl (eqb-true kind 128 a)) z (λ y. absurd (omega (arith, eqb-true kind 128 a))) (updateFields (getD (t .tables) now noTable) body) (cond-true (eqb kind 128) _ _ a)))
-
-    incremental-kind : eqb kind 128 ≡ false → eqb kind 129 ≡ true → Kind c t u (done c (t .entries) (incremental c (t .tables) body))
-    unfolding incremental incrementalOf refusal done
-    incremental-kind a b =
+    update-kind : (form : Form) → formOf kind ≡ some form → Kind c t u (done c (t .entries) (update form c (t .tables) body))
+    unfolding update updateOf refusal done
+    update-kind form type =
         by-test (eqb (c .current) 0)
         (λ z. rw z (refused-with 27 (omega arith) (omega arith)))
         (λ z.
         rw z
-        (by-test (isUpdated (bindingAt c now))
+        (by-test (form .explicit || isUpdated (bindingAt c now))
         (λ y.
         rw y
-        (with-kind (inr (eqb-true kind 129 b)) z (λ x. y) (incrementalFields (getD (t .tables) now noTable) (followingId (bindingAt c now .previous)) body)
-        (cond-false (eqb kind 128) _ _ a)))
+        (with-kind form type z (λ x. sym (or-false (form .explicit) (isUpdated (bindingAt c now)) x) ∙ y) (fieldsOf c t now form body) refl))
         (λ y. rw y (refused-with 28 (omega arith) (omega arith)))))
 
-    stick-kind : Kind c t u (done c (t .entries) (stickTable c (t .tables) kind body))
-    unfolding stickTable done
-    stick-kind =
-        by-test (eqb kind 128)
-        (λ a. rw a (update-kind a))
-        (λ a.
-        rw a
-        (by-test (eqb kind 129)
-        (λ b. rw b (incremental-kind a b))
-        (λ b.
-        rw b
-        (by-test (eqb kind 130)
+    other-kind : Kind c t u (otherMessage c (t .tables) kind body)
+    unfolding otherMessage
+    other-kind =
+        by-test (eqb kind 130)
         (λ d. rw d (unfold definition in definition-kind (eqb-true kind 130 d) (definitionFields body) refl))
         (λ d.
         rw d
@@ -231,9 +218,18 @@ module _ (c : Connection) (t : Store) (u : List ℕ) where
         (λ f. rw f (unfold switch in fields-kind _ _ (λ x. switch-kind _)))
         (λ f.
         rw f
-        (by-test (eqb kind 133)
+        (by-test (eqb kind 132)
         (λ g. rw g (unfold acknowledgement in fields-kind _ _ (λ x. noted c _ [] tt)))
-        (λ g. rw g (unfold skipped in noted c _ [] tt))))))))))
+        (λ g. rw g (unfold skipped in noted c _ [] tt))))))
+
+    form-kind : (form : Option Form) → formOf kind ≡ form → Kind c t u (done c (t .entries) (byForm c (t .tables) kind body form))
+    unfolding byForm done
+    form-kind (some form) q = update-kind form q
+    form-kind none q = other-kind
+
+    stick-kind : Kind c t u (done c (t .entries) (stickTable c (t .tables) kind body))
+    unfolding stickTable
+    stick-kind = form-kind (formOf kind) refl
 
 -- ---- all that bytes come to
 

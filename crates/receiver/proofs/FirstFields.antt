@@ -3,7 +3,7 @@ use Prim.Native.Nat.{ℕ, _+_, _-_, _≤_}
 use native.Mathlib.Omega.{arith}
 use mathlib.Core.Path.{_≡_, refl, sym, ap, subst, _∙_}
 use mathlib.Core.List.{List, _++_}
-use mathlib.Core.Bool.{Bool}
+use mathlib.Core.Bool.{Bool, true}
 use lib.ListN.{length, take, drop, getD, take-append-drop}
 use lib.Seq.{length-take-le}
 use lib.Dec.{ltb}
@@ -22,7 +22,8 @@ use Rattle.frame.specs.declared.Frame.{Frame}
 use Rattle.frame.specs.declared.Frame.the-variants as frame
 use Rattle.frame.specs.Frame.{headerOf, withLength, withHeader, judgeFrame}
 use Rattle.body.specs.Fields.{Read, got, failed, andThen, integerOf, numberRead, number4}
-use Rattle.body.specs.Bodies.{Named, namedFields, shapeFields, timesFields, Definition, restFields, definitionFields, switchFields, Update, updateFields}
+use Rattle.body.specs.Bodies.{Named, namedFields, shapeFields, timesFields, Definition, restFields, definitionFields, switchFields, Time, Update, numberOr, timeMark, timedFields, updateFields}
+use Rattle.body.specs.declared.update.Form.{Form}
 use Rattle.body.proofs.Holds.{held}
 use Rattle.body.proofs.Taken.{Taken, integer-value}
 use Rattle.body.proofs.Within.{EntryWithin, entry-holds}
@@ -150,14 +151,18 @@ unfolding numberRead
 number-got at (number.Value w k) v n e = cc
 number-got at number.Short v n e = absurd (let z : _≡_ {A = ℕ} 0 1 = cc in omega arith)
 
--- the ID of an update is the number that its body begins with
-pub update-explicit : (u : List ℕ) (kind start end : ℕ) (t : Table) (x : Update) (next : ℕ) → judgeFrame u ≡ frame.Body kind start end → start ≤ length u
-    → updateFields t (take (end - start) (drop start u)) ≡ got x next → explicitId u ≡ x .id
-unfolding explicitId numberValue updateFields number4
-update-explicit u kind start end t x next e h g =
+-- the ID of an update that has one is the number that its body begins with
+pub update-explicit : (u : List ℕ) (kind start end : ℕ) (form : Form) (t : Table) (following : ℕ) (x : Update) (next : ℕ)
+    → judgeFrame u ≡ frame.Body kind start end → start ≤ length u → form .explicit ≡ true
+    → updateFields form t following (take (end - start) (drop start u)) ≡ got x next → explicitId u ≡ x .id
+unfolding explicitId numberValue updateFields timedFields numberOr number4
+update-explicit u kind start end form t following x next e h own g =
     let body = take (end - start) (drop start u) in
-    let a = then-got (number4 body 0) _ x next g in
-    let r = number-got 0 (readNumber body 0) (a .0) (a .1) (a .2) in
-    let w = held (Taken (EntryWithin t (a .0) body) body (a .1)) _ (entry-holds t (a .0) body (a .1)) x next (a .3) in
+    let a = then-got (numberOr (form .explicit) following body 0) _ x next g in
+    let f : number4 body 0 ≡ got (a .0) (a .1) = sym (cond-true (form .explicit) (number4 body 0) (got following 0) own) ∙ a .2 in
+    let r = number-got 0 (readNumber body 0) (a .0) (a .1) f in
+    let b = then-got (numberOr (form .timed) (t .expiry) body (a .1)) _ x next (a .3) in
+    let time : Time = record { timed = timeMark form t; remaining = b .0 } in
+    let w = held (Taken (EntryWithin t (a .0) time body) body (b .1)) _ (entry-holds t (a .0) time body (b .1)) x next (b .3) in
     let i = number-there u start (end - start) h (a .0) (a .1) r in
     ap numberValue (ap (readNumber u) (body-starts u kind start end e) ∙ i) ∙ sym (w .fact .same)

@@ -26,11 +26,12 @@ use Rattle.streams.specs.Model.{Fed, quiet, answered, stateOf, endedBy}
 use Rattle.streams.specs.Claim.{Lawful}
 use Rattle.streams.specs.Fold.{Folds}
 use Rattle.reassembly.specs.Judge.{Judged, waiting, settled, judge}
-use Rattle.receiver.specs.Model.{endsRefused, State, joined, feed, ends, soundState, heldBy, isByte, peers}
+use Rattle.receiver.specs.Model.{endsRefused, State, joined, feed, pass, ends, soundState, heldBy, isByte, peers}
 use Rattle.receiver.specs.Good.{Good}
 use Rattle.receiver.specs.Ledger.{Ledger, startLedger, post, Acknowledged}
 use Rattle.receiver.proofs.Piece.{judged-as, judged-settled, feed-open, feed-waits}
 use Rattle.receiver.proofs.Following.{Follows, starts-following}
+use Rattle.receiver.proofs.OnePass.{pass-closed, pass-good}
 use Rattle.receiver.proofs.SettledLaws.{settled-ends}
 use Rattle.receiver.proofs.Laws.{Right, JudgedRight, judge-right}
 
@@ -154,16 +155,34 @@ feed-ends s b =
     rw (feed-open (s .connection) (s .unfinished) (s .store) b k)
     (joined-ends (s .connection) (s .store) u (judge (s .connection) (s .store) u) refl))
 
+-- ---- without an answer an open session stays open
+
+abbrev QuietOpen : Fed State Answer → Type 0
+QuietOpen (quiet t) = isClosed (t .connection) ≡ false
+QuietOpen (answered a r t) = Unit {0}
+
+joined-open : (c : Connection) (t : Store) (u : List ℕ) (j : Judged Effect) → isClosed c ≡ false → QuietOpen (joined c t u j)
+unfolding joined
+joined-open c t u waiting o = o
+joined-open c t u (settled x) o = tt
+
+feed-open-stays : (s : State) (b : ℕ) (t : State) → isClosed (s .connection) ≡ false → feed s b ≡ quiet t → isClosed (t .connection) ≡ false
+feed-open-stays s b t o e =
+    let u = s .unfinished ++ (b ∷ []) in
+    subst QuietOpen (sym (feed-open (s .connection) (s .unfinished) (s .store) b o) ∙ e)
+    (joined-open (s .connection) (s .store) u (judge (s .connection) (s .store) u) o)
+
 pub lawful : Lawful peers Good
 lawful = record {
   more-not-end = unfold ends endsRefused in refl;
   refusals-not-end = refusals;
   answers-end = λ s b a r t e. subst AnswerEnds e (feed-ends s b);
   closed-ignores = feed-closed;
-  act-closed = λ e s. refl;
+  quiet-open = feed-open-stays;
+  act-closed = pass-closed;
   good-sound = λ s g. g .sound;
   good-feed = good-feed;
-  good-act = λ e s g. g;
+  good-act = pass-good;
 }
   where
     refusals : (ends (answer.Refused 1) ≡ false) × (ends (answer.Refused 2) ≡ false) × (ends (answer.Refused 4) ≡ false)
@@ -211,7 +230,7 @@ pub folds : Folds post peers Good Acknowledged Along
 folds = record {
   at-quiet = λ s t u l b g k y e i. quiet-along s b (feed s b) (came s b g k y) t u l k e i;
   at-answer = λ s t u l b a r g k y e i. answer-along s b (feed s b) (came s b g k y) t u l a r k e i;
-  at-event = λ s u l e g k i. i;
+  at-event = λ s u l e g k i. unfold pass in record { follows = i .follows; bytes = i .bytes };
 }
 
 pub along-start : (s : Session) (t : Store) → Along (heldBy s t) (unfinished s) (startLedger (s .connection))

@@ -4,7 +4,7 @@ use Prim.Native.Nat.{ℕ, zero, suc, _+_, _-_, _^_, _≤_, _<_}
 use native.Mathlib.Omega.{arith}
 use mathlib.Core.Path.{_≡_, refl, sym, ap, subst, _∙_}
 use mathlib.Core.List.{List, [], _∷_}
-use mathlib.Core.Bool.{true, false, _&&_}
+use mathlib.Core.Bool.{true, false, cond, _&&_, _||_}
 use mathlib.Core.Option.{Option, some, none}
 use lib.ListN.{length, take, drop, getD}
 use lib.Dec.{eqb, leb, lit<}
@@ -20,7 +20,7 @@ use Rattle.store.specs.declared.Entry.{Entry}
 use Rattle.store.specs.declared.entries.Place.{Place}
 use Rattle.store.specs.declared.entries.Place.the-variants as place
 use Rattle.store.specs.Store.{tableFree, tableNamed, makeEntry, noTable}
-use Rattle.lists.proofs.Cases.{by-test, and-intro, cond-true, cond-false}
+use Rattle.lists.proofs.Cases.{by-test, and-intro, or-false, cond-true, cond-false}
 use Rattle.store.specs.declared.Store.{Store}
 use Rattle.handshake.specs.declared.Hello.{Hello}
 use Rattle.handshake.specs.declared.Hello.the-variants as hello
@@ -45,14 +45,15 @@ use Rattle.session_soundness.proofs.Keeping.{establish-keeps}
 use Rattle.session.proofs.Shapes.{establish-shape}
 use Rattle.body.specs.declared.Fault.{Fault}
 use Rattle.body.specs.Fields.{Read, got, failed, spanIn}
-use Rattle.body.specs.Bodies.{definitionFields, switchFields, acknowledgementFields, Update, updateFields, incrementalFields}
-use Rattle.body.proofs.Within.{UpdateWithin, update-within, update-id, incremental-within}
+use Rattle.body.specs.Bodies.{definitionFields, switchFields, acknowledgementFields, Update, updateFields, formOf}
+use Rattle.body.specs.declared.update.Form.{Form}
+use Rattle.body.proofs.Within.{UpdateRead, update-within}
 use Rattle.message.specs.Targets.{goesTo}
 use Rattle.session.specs.Answers.{refusalOf}
-use Rattle.message.specs.Effects.{Effect, refuseWith, refuse, refusal, failureNumber, refuseBody, note, fieldsThen, control, controlAnswer, controlReply, peerError, defineAt, defineNew, defineNamed, agrees, definition, switchTo, switch, acknowledgement, skipped, commitAt, commitEntry, withFields, followingId, incrementalOf, update, incremental, definedTable, updatedEntry, stickTable, done}
+use Rattle.message.specs.Effects.{Effect, refuseWith, refuse, refusal, failureNumber, refuseBody, note, fieldsThen, control, controlAnswer, controlReply, peerError, defineAt, defineNew, defineNamed, agrees, definition, switchTo, switch, acknowledgement, skipped, commitAt, commitEntry, withFields, followingId, updateOf, update, otherMessage, byForm, definedTable, updatedEntry, stickTable, done}
 use Rattle.message.proofs.Acknowledging.{acknowledge-short}
 use Rattle.message.proofs.Kept.{Held, Kept, failure-least, failure-most, stays-kept, refuse-with-kept, error-kept, note-kept, switch-kept, definition-kept, update-kept}
-use Rattle.receiver.specs.Ledger.{Ledger, tableId, updateId, at, kindOf, nextId, explicitId}
+use Rattle.receiver.specs.Ledger.{Ledger, tableId, idBy, updateId, at, kindOf, nextId, explicitId}
 use Rattle.reassembly.specs.Judge.{Judged, waiting, settled, helloJudged, statusJudged, frameJudged, asksNone, judgeBytes, doneOf, judge}
 use Rattle.receiver.proofs.Following.{Follows, Follow, refusal-none, current-some, last-some, refuse-follow, hello-follow, status-follow, error-follow, control-follow, skipped-follow, acknowledgement-follow, switch-follow, define-follow, commit-follow}
 use Rattle.receiver.proofs.FirstFields.{definition-id, switch-id, update-explicit}
@@ -298,17 +299,21 @@ module _ (c : Connection) (s : Store) (h : Held c s) (m : List ℕ) (mb : Bytes 
   unfolding updatedEntry makeEntry
   made-now table u now = now
 
+  following-small : (x : ℕ) → followingId x < 2 ^ 32
+  unfolding followingId
+  following-small x = omega arith
+
   -- the fields of an update of the current table, and its ID
-  with-right : (table : ℕ) (r : Read Update) → c .current ≡ table + 1
-      → ((u : Update) (n : ℕ) → r ≡ got u n → (u .id < 2 ^ 32) × UpdateWithin (getD (s .tables) table noTable) body u
+  with-right : (form : Form) (following table : ℕ) (r : Read Update) → following < 2 ^ 32 → c .current ≡ table + 1
+      → ((u : Update) (n : ℕ) → r ≡ got u n → UpdateRead form (getD (s .tables) table noTable) following body u
       × ((l : Ledger) → Follows c l → updateId m (at (l .last) (l .current)) ≡ some (u .id)))
       → Right c s m (done c (s .entries) (withFields c body table r))
   unfolding withFields fieldsThen refusal done
-  with-right table (got u n) now facts =
+  with-right form following table (got u n) small now facts =
       let w = facts u n refl in
-      commit-right c s h m (u .id) (w .2) (updatedEntry body table u) (made-now table u now) (goesTo (s .entries) (updatedEntry body table u))
-      (update-kept c s h body table u body-bytes now (w .0) (w .1))
-  with-right table (failed e) now facts = body-refused c s h m e
+      commit-right c s h m (u .id) (w .1) (updatedEntry body table u) (made-now table u now) (goesTo (s .entries) (updatedEntry body table u))
+      (update-kept c s h form following body table u body-bytes small now (w .0))
+  with-right form following table (failed e) small now facts = body-refused c s h m e
 
   current-is : eqb (c .current) 0 ≡ false → c .current ≡ c .current - 1 + 1
   current-is z = let q = eqb-false (c .current) 0 z in current-positive (c .current) q
@@ -317,72 +322,61 @@ module _ (c : Connection) (s : Store) (h : Held c s) (m : List ℕ) (mb : Bytes 
       current-positive zero q = absurd (q refl)
       current-positive (suc n) q = omega arith
 
-  explicit-is : kind ≡ 128 → (x : Option ℕ) → updateId m x ≡ some (explicitId m)
-  unfolding updateId
-  explicit-is k x =
-      cond-false (eqb (kindOf m) 129) (nextId x) _ (ne-eqb (kindOf m) 129 (λ w. let z : ⊥ = omega (arith, kind-is) in z))
-      ∙ cond-true (eqb (kindOf m) 128) (some (explicitId m)) none (eq-eqb (kindOf m) 128 (kind-is ∙ k))
+  -- the ledger's ID of an update of this form
+  module _ (form : Form) (type : formOf kind ≡ some form) where
+    id-is : (x : Option ℕ) → updateId m x ≡ cond (form .explicit) (some (explicitId m)) (nextId x)
+    unfolding updateId idBy
+    id-is x = rw (kind-is, type)
 
-  update-right : kind ≡ 128 → Right c s m (done c (s .entries) (update c (s .tables) body))
-  unfolding update refusal done
-  update-right k =
-      by-test (eqb (c .current) 0)
-      (λ z. rw z (message-refused c s h m 27 (omega arith) (omega arith)))
-      (λ z.
-      let table = c .current - 1 in
-      let t = getD (s .tables) table noTable in
-      rw z
-      (with-right table (updateFields t body) (current-is z)
-      (λ u n q. (
-        update-id t body u n body-bytes q,
-        update-within t body u n q .0,
-        (λ l f. explicit-is k (at (l .last) (l .current)) ∙ ap some (update-explicit m kind start end t u n e start-inside q)),
-      ))))
+    explicit-is : form .explicit ≡ true → (x : Option ℕ) → updateId m x ≡ some (explicitId m)
+    explicit-is k x = id-is x ∙ cond-true (form .explicit) (some (explicitId m)) (nextId x) k
 
-  -- the ledger's next ID
-  next-is : kind ≡ 129 → (table : ℕ) → c .current ≡ table + 1 → isUpdated (bindingAt c table) ≡ true → (l : Ledger) → Follows c l
-      → updateId m (at (l .last) (l .current)) ≡ some (followingId (bindingAt c table .previous))
-  unfolding updateId at nextId followingId
-  next-is k table now y l f =
-      let a : l .current ≡ some table = f .current ∙ current-some c table now in
-      let b : at (l .last) (l .current) ≡ some (bindingAt c table .previous) = ap (at (l .last)) a ∙ (f .last table ∙ last-some c table y) in
-      cond-true (eqb (kindOf m) 129) (nextId (at (l .last) (l .current))) _ (eq-eqb (kindOf m) 129 (kind-is ∙ k)) ∙ ap nextId b
+    next-is : form .explicit ≡ false → (table : ℕ) → c .current ≡ table + 1 → isUpdated (bindingAt c table) ≡ true → (l : Ledger) → Follows c l
+        → updateId m (at (l .last) (l .current)) ≡ some (followingId (bindingAt c table .previous))
+    unfolding at nextId followingId
+    next-is k table now y l f =
+        let a : l .current ≡ some table = f .current ∙ current-some c table now in
+        let b : at (l .last) (l .current) ≡ some (bindingAt c table .previous) = ap (at (l .last)) a ∙ (f .last table ∙ last-some c table y) in
+        id-is (at (l .last) (l .current))
+        ∙ (cond-false (form .explicit) (some (explicitId m)) (nextId (at (l .last) (l .current))) k ∙ ap nextId b)
 
-  following-small : (x : ℕ) → followingId x < 2 ^ 32
-  unfolding followingId
-  following-small x = omega arith
+    module _ (table : ℕ) (now : c .current ≡ table + 1) (known : (form .explicit || isUpdated (bindingAt c table)) ≡ true) where
+      abbrev following : ℕ
+      following = followingId (bindingAt c table .previous)
 
-  incremental-right : kind ≡ 129 → Right c s m (done c (s .entries) (incremental c (s .tables) body))
-  unfolding incremental incrementalOf refusal done
-  incremental-right k =
-      by-test (eqb (c .current) 0)
-      (λ z. rw z (message-refused c s h m 27 (omega arith) (omega arith)))
-      (λ z.
-      let table = c .current - 1 in
-      let t = getD (s .tables) table noTable in
-      let now = current-is z in
-      rw z
-      (by-test (isUpdated (bindingAt c table))
-      (λ y.
-      rw y
-      (with-right table (incrementalFields t (followingId (bindingAt c table .previous)) body) now
-      (λ u n q.
-      let w = incremental-within t (followingId (bindingAt c table .previous)) body u n q in
-      (rw (w .0) (following-small (bindingAt c table .previous)), w .1, (λ l f. next-is k table now y l f ∙ ap some (sym (w .0)))))))
-      (λ y. rw y (message-refused c s h m 28 (omega arith) (omega arith)))))
+      abbrev current : Table
+      current = getD (s .tables) table noTable
 
-  stick-right : Right c s m (done c (s .entries) (stickTable c (s .tables) kind body))
-  unfolding stickTable done
-  stick-right =
-      by-test (eqb kind 128)
-      (λ a. rw a (update-right (eqb-true kind 128 a)))
-      (λ a.
-      rw a
-      (by-test (eqb kind 129)
-      (λ b. rw b (incremental-right (eqb-true kind 129 b)))
-      (λ b.
-      rw b
-      (by-test (eqb kind 130)
+      posted : (u : Update) (n : ℕ) → updateFields form current following body ≡ got u n → (l : Ledger) → Follows c l
+          → updateId m (at (l .last) (l .current)) ≡ some (u .id)
+      posted u n q l f =
+          by-test (form .explicit)
+          (λ k. explicit-is k (at (l .last) (l .current)) ∙ ap some (update-explicit m kind start end form current following u n e start-inside k q))
+          (λ k.
+          next-is k table now (sym (or-false (form .explicit) (isUpdated (bindingAt c table)) k) ∙ known) l f
+          ∙ ap some (sym (update-within form current following body u n q .0 .id-known k)))
+
+      fields-known : Right c s m (done c (s .entries) (withFields c body table (updateFields form current following body)))
+      fields-known =
+          with-right form following table (updateFields form current following body) (following-small (bindingAt c table .previous)) now
+          (λ u n q. (update-within form current following body u n q .0, posted u n q))
+
+    update-right : Right c s m (done c (s .entries) (update form c (s .tables) body))
+    unfolding update updateOf refusal done
+    update-right =
+        by-test (eqb (c .current) 0)
+        (λ z. rw z (message-refused c s h m 27 (omega arith) (omega arith)))
+        (λ z.
+        let table = c .current - 1 in
+        rw z
+        (by-test (form .explicit || isUpdated (bindingAt c table))
+        (λ y. rw y (fields-known table (current-is z) y))
+        (λ y. rw y (message-refused c s h m 28 (omega arith) (omega arith)))))
+
+  other-right : Right c s m (otherMessage c (s .tables) kind body)
+  unfolding otherMessage
+  other-right =
+      by-test (eqb kind 130)
       (λ d. rw d definition-right)
       (λ d.
       rw d
@@ -390,7 +384,16 @@ module _ (c : Connection) (s : Store) (h : Held c s) (m : List ℕ) (mb : Bytes 
       (λ f. rw f switch-right)
       (λ f.
       rw f
-      (by-test (eqb kind 133) (λ g. rw g (acknowledgement-right c s h m body)) (λ g. rw g (skipped-right c s h m kind))))))))))
+      (by-test (eqb kind 132) (λ g. rw g (acknowledgement-right c s h m body)) (λ g. rw g (skipped-right c s h m kind))))))
+
+  form-right : (form : Option Form) → formOf kind ≡ form → Right c s m (done c (s .entries) (byForm c (s .tables) kind body form))
+  unfolding byForm done
+  form-right (some form) q = update-right form q
+  form-right none q = other-right
+
+  stick-right : Right c s m (done c (s .entries) (stickTable c (s .tables) kind body))
+  unfolding stickTable
+  stick-right = form-right (formOf kind) refl
 
 module _ (c : Connection) (s : Store) (h : Held c s) (m : List ℕ) (mb : Bytes m) where
   frame-right : (f : Frame) → judgeFrame m ≡ f → JudgedRight c s m (doneOf c (s .entries) (frameJudged c (s .tables) m f))

@@ -7,6 +7,7 @@ use mathlib.Core.Bool.{Bool, true, false, cond}
 use mathlib.Core.List.{List, [], _∷_, _++_, append-nil}
 use lib.ListN.{length, take}
 use Rattle.store.specs.declared.Store.{Store}
+use Rattle.store.specs.Time.{Passed}
 use Rattle.session.specs.declared.Connection.{Connection}
 use Rattle.session.specs.declared.Session.{Session}
 use Rattle.session.specs.declared.Answer.{Answer}
@@ -20,10 +21,11 @@ use Rattle.receiver.specs.Model.{endsRefused, State, heldBy, ends}
 use Rattle.receiver.specs.Good.{Good}
 use Rattle.receiver.specs.Promise.{Made, ReadPromise, callOf}
 use Rattle.receiver.specs.Ledger.{Ledger, startLedger, post, RightReply}
-use Rattle.receiver.specs.Demand3.{Chain, replyIn, endedBy, AcknowledgedCalls}
+use Rattle.receiver.specs.Demand3.{Called, reads, passes, Chain, replyIn, endedBy, AcknowledgedCalls}
 use Rattle.receiver.specs.Corollaries.{messageOf}
 use Rattle.receiver.proofs.Held.{sound-held}
 use Rattle.receiver.proofs.OneRead.{call-is, made-state, made-sound, made-good}
+use Rattle.receiver.proofs.OnePass.{passed-keeps-sound, passed-good}
 use Rattle.receiver.proofs.SettledLaws.{settled-ends}
 use Rattle.receiver.proofs.Following.{Follows, Follow, endedAs}
 use Rattle.receiver.proofs.Laws.{Right}
@@ -55,20 +57,20 @@ module _ (s : Session) (t : Store) (m : Made) (p : ReadPromise s t m) (f : sound
   unfolding heldBy
   unfinished-is = ap (λ (k : State). k .unfinished) state-is
 
-  module _ (l : Ledger) (k : Follows (s .connection) l) (u : List ℕ) (o : isClosed (s .connection) ≡ false → u ≡ unfinished s) (ms : List Made)
+  module _ (l : Ledger) (k : Follows (s .connection) l) (u : List ℕ) (o : isClosed (s .connection) ≡ false → u ≡ unfinished s) (cs : List Called)
       (next : (l′ : Ledger) → Follows (m .session .connection) l′ → (u′ : List ℕ)
-      → (isClosed (m .session .connection) ≡ false → u′ ≡ unfinished (m .session)) → AcknowledgedCalls l′ u′ ms) where
-    quiet-on : ends (m .outcome .answer) ≡ false → replyIn m ≡ [] → AcknowledgedCalls l (u ++ take (m .outcome .taken) (m .piece)) ms → AcknowledgedCalls l u (m ∷ ms)
+      → (isClosed (m .session .connection) ≡ false → u′ ≡ unfinished (m .session)) → AcknowledgedCalls l′ u′ cs) where
+    quiet-on : ends (m .outcome .answer) ≡ false → replyIn m ≡ [] → AcknowledgedCalls l (u ++ take (m .outcome .taken) (m .piece)) cs → AcknowledgedCalls l u (reads m ∷ cs)
     unfolding AcknowledgedCalls
     quiet-on e r h = rw e (r, h)
 
-    stays-on : m .session ≡ s → m .outcome .taken ≡ 0 → AcknowledgedCalls l (u ++ take (m .outcome .taken) (m .piece)) ms
+    stays-on : m .session ≡ s → m .outcome .taken ≡ 0 → AcknowledgedCalls l (u ++ take (m .outcome .taken) (m .piece)) cs
     stays-on e z =
-        subst (λ (v : List ℕ). AcknowledgedCalls l v ms) (sym (ap (λ (n : ℕ). u ++ take n (m .piece)) z ∙ append-nil u))
+        subst (λ (v : List ℕ). AcknowledgedCalls l v cs) (sym (ap (λ (n : ℕ). u ++ take n (m .piece)) z ∙ append-nil u))
         (next l (subst (λ (x : Session). Follows (x .connection) l) (sym e) k) u
         (λ c. o (ap (λ (x : Session). isClosed (x .connection)) (sym e) ∙ c) ∙ ap unfinished (sym e)))
 
-    waits-on : Waiting s t (m .piece) call → AcknowledgedCalls l (u ++ take (m .outcome .taken) (m .piece)) ms
+    waits-on : Waiting s t (m .piece) call → AcknowledgedCalls l (u ++ take (m .outcome .taken) (m .piece)) cs
     waits-on w =
         let e = connection-is ∙ ap (λ (x : State). x .connection) (w .state) in
         next l (subst (λ (x : Connection). Follows x l) (sym e) k) (u ++ take (m .outcome .taken) (m .piece))
@@ -98,14 +100,14 @@ module _ (s : Session) (t : Store) (m : Made) (p : ReadPromise s t m) (f : sound
           subst (λ (x : Connection). Follows x (post l (endedBy u m))) (sym (connection-is ∙ ap (λ (x : State). x .connection) (j .state)))
           (subst (λ (x : Ended Answer). Follows (e .connection) (post l x)) (sym ended-is) (fact .follow .follows l k))
 
-      answers-on : AcknowledgedCalls l u (m ∷ ms)
+      answers-on : AcknowledgedCalls l u (reads m ∷ cs)
       unfolding AcknowledgedCalls
       answers-on =
           rw ends-now
           (right-now, next (post l (endedBy u m)) follows-now [] (λ c. sym (unfinished-is ∙ ap (λ (x : State). x .unfinished) (j .state))))
 
     -- one call, before others of which it holds
-    pub acknowledged-next : Way s t (m .piece) call → AcknowledgedCalls l u (m ∷ ms)
+    pub acknowledged-next : Way s t (m .piece) call → AcknowledgedCalls l u (reads m ∷ cs)
     acknowledged-next (staying n h q) =
         let z = ap (λ (x : Call State Answer). x .taken) q in
         quiet-on (ap ends (answer-is s t m p ∙ ap (λ (x : Call State Answer). x .answer) q) ∙ early-ends n h)
@@ -114,12 +116,20 @@ module _ (s : Session) (t : Store) (m : Made) (p : ReadPromise s t m) (f : sound
     acknowledged-next (waiting-on w) = quiet-on (ap ends (answer-is s t m p ∙ w .answer) ∙ more-ends) (reply-is s t m p ∙ w .reply) (waits-on w)
     acknowledged-next (judging e j) = answers-on e j
 
-pub ledger-along : (s : Session) (t : Store) (ms : List Made) → Chain s t ms → sound s t ≡ true → Good (heldBy s t) → (l : Ledger) → Follows (s .connection) l
-    → (u : List ℕ) → (isClosed (s .connection) ≡ false → u ≡ unfinished s) → AcknowledgedCalls l u ms
+-- a time is none of the ledger's
+passed-next : (l : Ledger) (u : List ℕ) (p : Passed) (cs : List Called) → AcknowledgedCalls l u cs → AcknowledgedCalls l u (passes p ∷ cs)
+unfolding AcknowledgedCalls
+passed-next l u p cs h = h
+
+pub ledger-along : (s : Session) (t : Store) (cs : List Called) → Chain s t cs → sound s t ≡ true → Good (heldBy s t) → (l : Ledger) → Follows (s .connection) l
+    → (u : List ℕ) → (isClosed (s .connection) ≡ false → u ≡ unfinished s) → AcknowledgedCalls l u cs
 unfolding Chain
 ledger-along s t [] c f g l k u o = unfold AcknowledgedCalls in tt
-ledger-along s t (m ∷ ms) c f g l k u o =
-    acknowledged-next s t m (c .0) f g l k u o ms
+ledger-along s t (reads m ∷ cs) c f g l k u o =
+    acknowledged-next s t m (c .0) f g l k u o cs
     (λ l′ k′ u′ o′.
-    ledger-along (m .session) (m .store) ms (c .1) (made-sound s t m (c .0) f lawful g) (made-good s t m (c .0) f lawful g) l′ k′ u′ o′)
+    ledger-along (m .session) (m .store) cs (c .1) (made-sound s t m (c .0) f lawful g) (made-good s t m (c .0) f lawful g) l′ k′ u′ o′)
     (ways s t m (c .0))
+ledger-along s t (passes p ∷ cs) c f g l k u o =
+    passed-next l u p cs
+    (ledger-along s (p .store) cs (c .2) (passed-keeps-sound t p (c .1) s f) (passed-good t p (c .1) s f g) l k u o)

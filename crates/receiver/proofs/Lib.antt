@@ -1,5 +1,6 @@
 pub mod Held
 pub mod OneRead
+pub mod OnePass
 pub mod Chained
 pub mod Claimed
 pub mod Offered

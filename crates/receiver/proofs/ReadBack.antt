@@ -2,6 +2,7 @@
 use Prim.Native.Nat.{ℕ, _+_, _-_, _<_, _^_}
 use native.Mathlib.Omega.{arith}
 use mathlib.Core.Path.{_≡_, refl, sym, ap, _∙_}
+use mathlib.Core.Bool.{true}
 use mathlib.Core.List.{List, [], _∷_, _++_, append-nil}
 use lib.ListN.{length, take, drop, length-append}
 use lib.Seq.{take-all}
@@ -19,6 +20,7 @@ use Rattle.frame.specs.Frame.{judgeFrame, withHeader, withLength, headerOf}
 use Rattle.body.specs.Fields.{got, andThen, tested, integer, integerOf, numberRead, number4}
 use Rattle.body.specs.Bodies.{acknowledgementFields}
 use Rattle.message.specs.Effects.{acknowledge}
+use Rattle.receiver.specs.Ledger.{isAcknowledgement}
 use Rattle.receiver.specs.Corollaries.{AcknowledgementReadBack, ReadBack}
 
 module _ (id update : ℕ) (l : id < 2 ^ 32) (m : update < 2 ^ 32) where
@@ -31,21 +33,21 @@ module _ (id update : ℕ) (l : id < 2 ^ 32) (m : update < 2 ^ 32) where
   body-small : length body < 240
   body-small = omega (arith, body-length, int-length id)
 
-  written : acknowledge id update ≡ 0x0A ∷ 0x85 ∷ length body ∷ body
+  written : acknowledge id update ≡ 0x0A ∷ 0x84 ∷ length body ∷ body
   unfolding acknowledge
   written = rw (int-alone (length body) body-small)
 
-  length-read : readInt (0x0A ∷ 0x85 ∷ length body ∷ body) 2 ≡ int.Value (length body) 3
+  length-read : readInt (0x0A ∷ 0x84 ∷ length body ∷ body) 2 ≡ int.Value (length body) 3
   length-read =
       let e : 2 + 1 ≡ 3 = refl in
-      let r = round-trip (0x0A ∷ 0x85 ∷ []) body (length body) (omega (arith, body-small)) in
+      let r = round-trip (0x0A ∷ 0x84 ∷ []) body (length body) (omega (arith, body-small)) in
       let k = int-alone (length body) body-small in
-      sym (ap (λ (x : List ℕ). readInt (0x0A ∷ 0x85 ∷ (x ++ body)) 2) k) ∙ (r ∙ ap (λ (x : List ℕ). int.Value (length body) (2 + length x)) k)
+      sym (ap (λ (x : List ℕ). readInt (0x0A ∷ 0x84 ∷ (x ++ body)) 2) k) ∙ (r ∙ ap (λ (x : List ℕ). int.Value (length body) (2 + length x)) k)
 
-  framed : judgeFrame (0x0A ∷ 0x85 ∷ length body ∷ body) ≡ frame.Body 133 3 (3 + length body)
+  framed : judgeFrame (0x0A ∷ 0x84 ∷ length body ∷ body) ≡ frame.Body 132 3 (3 + length body)
   unfolding judgeFrame withHeader withLength headerOf
   framed =
-      let h : length (0x0A ∷ 0x85 ∷ length body ∷ body) ≡ 3 + length body = omega arith in
+      let h : length (0x0A ∷ 0x84 ∷ length body ∷ body) ≡ 3 + length body = omega arith in
       rw
       (length-read, le-ltb 1024 (length body) (omega (arith, body-small)), h, le-ltb (3 + length body) 2 (omega arith), le-ltb (3 + length body) (3 + length body) (omega arith))
 
@@ -60,12 +62,17 @@ module _ (id update : ℕ) (l : id < 2 ^ 32) (m : update < 2 ^ 32) where
   unfolding acknowledgementFields integerOf integer tested andThen number4 numberRead
   fields = rw (id-read, lt-ltb id (2 ^ 32) l, update-read, body-length)
 
+  told : isAcknowledgement (acknowledge id update) ≡ true
+  unfolding isAcknowledgement
+  told = rw written refl
+
   back : ReadBack id update
   back =
       let e : 3 + length body - 3 ≡ length body = omega arith in
       record {
+        told = told;
         end = 3 + length body;
-        whole = sym (ap length written ∙ (let w : length (0x0A ∷ 0x85 ∷ length body ∷ body) ≡ 3 + length body = omega arith in w));
+        whole = sym (ap length written ∙ (let w : length (0x0A ∷ 0x84 ∷ length body ∷ body) ≡ 3 + length body = omega arith in w));
         framed = ap judgeFrame written ∙ framed;
         fields =
             ap (λ (x : List ℕ). acknowledgementFields (take (3 + length body - 3) (drop 3 x))) written

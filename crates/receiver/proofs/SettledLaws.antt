@@ -23,7 +23,8 @@ use Rattle.session.specs.Session.{bind, bindingAt, isUpdated}
 use Rattle.session_soundness.proofs.Facts.{heldAt}
 use Rattle.session_soundness.proofs.Keeping.{put-held}
 use Rattle.body.specs.Fields.{got}
-use Rattle.body.specs.Bodies.{Definition, Update, definitionFields}
+use Rattle.body.specs.Bodies.{Definition, Update, definitionFields, formOf}
+use Rattle.body.specs.declared.update.Form.{Form}
 use Rattle.message.specs.Changes.{noChange, tableChange, entryChange, changed}
 use Rattle.session.specs.Answers.{refusalOf}
 use Rattle.session.proofs.answers.Refusals.{of-refusal, no-number, same-number}
@@ -139,12 +140,13 @@ pub record Updated (c : Connection) (t : Store) (u : List ℕ) (table id place :
   pub start : ℕ
   pub end : ℕ
   pub framed : judgeFrame u ≡ frame.Body kind start end
-  pub type : (kind ≡ 128) ⊎ (kind ≡ 129)
+  pub form : Form
+  pub type : formOf kind ≡ some form
   pub current : c .current ≡ table + 1
-  pub previous : kind ≡ 129 → isUpdated (bindingAt c table) ≡ true
+  pub previous : form .explicit ≡ false → isUpdated (bindingAt c table) ≡ true
   pub fields : Update
   pub after : ℕ
-  pub read : fieldsOf c t table kind (bodyIn u start end) ≡ got fields after
+  pub read : fieldsOf c t table form (bodyIn u start end) ≡ got fields after
   pub own-id : fields .id ≡ id
   pub inside : place < length (t .entries)
   pub store : changed t (e .change) ≡ putEntry t place (updatedEntry (bodyIn u start end) table fields)
@@ -172,13 +174,14 @@ module _ (c : Connection) (t : Store) (u : List ℕ) (table id place : ℕ) (how
         start = k .start;
         end = k .end;
         framed = k .framed;
+        form = k .form;
         type = k .type;
         current = w ∙ ap (λ (n : ℕ). n + 1) a;
         previous = λ y. subst (λ (n : ℕ). isUpdated (bindingAt c n) ≡ true) a (k .previous y);
         fields = fields;
         after = k .after;
-        read = subst (λ (x : List ℕ). fieldsOf c t table (k .kind) x ≡ got fields (k .after)) (k .body-is)
-            (subst (λ (n : ℕ). fieldsOf c t n (k .kind) body ≡ got fields (k .after)) a (k .read));
+        read = subst (λ (x : List ℕ). fieldsOf c t table (k .form) x ≡ got fields (k .after)) (k .body-is)
+            (subst (λ (n : ℕ). fieldsOf c t n (k .form) body ≡ got fields (k .after)) a (k .read));
         own-id = b;
         inside = subst (λ (n : ℕ). n < length (t .entries)) d (k .inside);
         store =

@@ -1,35 +1,42 @@
 -- What follows from the promise and from demand 3, in the auditor's words.
-use Prim.Native.Nat.{ℕ, _+_, _-_, _<_, _^_}
+use Prim.Native.Nat.{ℕ, _+_, _-_, _≤_, _<_, _^_}
 use mathlib.Core.Path.{_≡_}
 use mathlib.Core.Logic.{_⊎_}
-use mathlib.Core.List.{List, [], _++_}
+use mathlib.Core.List.{List, [], _++_, map, flatten}
 use mathlib.Core.Option.{some}
 use mathlib.Core.Bool.{Bool, true, cond, _&&_, _||_}
 use lib.ListN.{length, take, drop, getD}
 use lib.Dec.{eqb, leb}
+use Rattle.lists.specs.Lists.{every}
 use Rattle.store.specs.declared.Store.{Store}
 use Rattle.store.specs.Store.{makeEntry, noEntry, noTable}
+use Rattle.store.specs.Time.{passTime, Passed, PassPromise}
 use Rattle.frame.specs.declared.Frame.the-variants as frame
-use Rattle.frame.specs.Frame.{judgeFrame}
+use Rattle.frame.specs.Frame.{acknowledgementType, judgeFrame}
 use Rattle.session.specs.declared.Session.{Session}
 use Rattle.session.specs.declared.Connection.{Connection}
 use Rattle.session.specs.declared.Commit.{Commit}
 use Rattle.session.specs.declared.Answer.the-variants as answer
 use Rattle.session.specs.Answers.{refusalOf, refusalReply, answerNumber, answerValues}
-use Rattle.session.specs.Session.{unfinished, bindingAt, holding, closedWith}
+use Rattle.session.specs.Session.{unfinished, bindingAt, isClosed, holding, closedWith}
 use Rattle.session_soundness.specs.Sound.{sound}
 use Rattle.opening.specs.Opening.{Role, refusedOpening, «open», openRoom}
+use Rattle.body.specs.declared.update.Form.{Form}
 use Rattle.body.specs.Fields.{Read, got, spanIn}
-use Rattle.body.specs.Bodies.{Update, updateFields, incrementalFields, acknowledgementFields}
+use Rattle.body.specs.Bodies.{Update, updateFields, formOf, acknowledgementFields}
 use Rattle.message.specs.Effects.{acknowledge, followingId}
-use Rattle.receiver.specs.Promise.{Made, ReadPromise}
+use Rattle.streams.specs.Model.{Item, bytes}
+use Rattle.streams.specs.Calls.{pieces, reachable}
+use Rattle.receiver.specs.Model.{Event, heldBy, replyRoom, isByte, peers}
+use Rattle.receiver.specs.Promise.{Made, Shaped, ReadPromise}
 use Rattle.receiver.specs.Ledger.{isAcknowledgement}
-use Rattle.receiver.specs.Demand3.{Chain, OffersTo, cameTo, lastSession, lastStore, repliesOf, replyIn}
+use Rattle.receiver.specs.Demand3.{Called, reads, Chain, OffersTo, Offering, takenBy, modelRan, cameTo, lastSession, lastStore, repliesOf, replyIn}
 
 -- ---- "would another division of the same traffic by TCP have left another table?"
 
--- two lists of calls that offer one stream from one record and store come to the same answers, replies, record and store
-pub record SameByAnyDivision (s : Session) (t : Store) (stream : List ℕ) (calls others : List Made) : Type 0 where
+-- two lists of calls that offer one stream, the same bytes and the same times at the same positions, from one record and store come to the same
+-- answers, replies, record and store
+pub record SameByAnyDivision (s : Session) (t : Store) (stream : List (Item Event)) (calls others : List Called) : Type 0 where
   pub came : cameTo s t calls ≡ cameTo s t others
   pub store : lastStore t calls ≡ lastStore t others
   pub session : lastSession s calls ≡ lastSession s others
@@ -37,8 +44,37 @@ pub record SameByAnyDivision (s : Session) (t : Store) (stream : List ℕ) (call
 
 abbrev pub AnyDivision : Type 0
 AnyDivision =
-    (s : Session) (t : Store) (stream : List ℕ) (calls others : List Made) → sound s t ≡ true → Chain s t calls → Chain s t others
+    (s : Session) (t : Store) (stream : List (Item Event)) (calls others : List Called) → sound s t ≡ true → Chain s t calls → Chain s t others
     → OffersTo s stream calls → OffersTo s stream others → SameByAnyDivision s t stream calls others
+
+-- a list of calls offers no stream but those for which one exists by demand 3
+abbrev pub OfferedReachable : Type 0
+OfferedReachable =
+    (s : Session) (t : Store) (stream : List (Item Event)) (calls : List Called) → sound s t ≡ true → Chain s t calls → OffersTo s stream calls
+    → reachable peers (heldBy s t) stream ≡ true
+
+-- ---- a stream of bytes alone, without times
+
+-- for every cutting there is a list of calls, and every list that offers it is of reading calls
+abbrev pub BytesOffered : Type 0
+BytesOffered =
+    (s : Session) (t : Store) → sound s t ≡ true → Shaped s t → (cuts : List (List ℕ)) (room : List ℕ) → every (every isByte) cuts ≡ true
+    → replyRoom ≤ length room → Offering s t (pieces cuts) room
+
+abbrev pub BytesByReading : Type 0
+BytesByReading = (s : Session) (stream : List ℕ) (calls : List Called) → OffersTo s (bytes stream) calls → (ms : List Made) × (calls ≡ map reads ms)
+
+-- the record at the end
+abbrev pub BytesRecord : Type 0
+BytesRecord =
+    (s : Session) (t : Store) (stream : List ℕ) (calls : List Called) → sound s t ≡ true → Chain s t calls → OffersTo s (bytes stream) calls
+    → lastSession s calls
+    ≡ (let end = modelRan s t (bytes stream) .state in
+    cond (eqb (length stream) 0 || isClosed (s .connection)) s (holding (end .connection) (end .unfinished)))
+
+-- the bytes that reading calls took are their timeline
+abbrev pub ReadingTakes : Type 0
+ReadingTakes = (ms : List Made) → takenBy (map reads ms) ≡ bytes (flatten (map (λ (m : Made). take (m .outcome .taken) (m .piece)) ms))
 
 -- ---- "which entries did you hold when this acknowledgement went out?"
 
@@ -46,14 +82,12 @@ AnyDivision =
 abbrev pub messageOf : Session → Made → List ℕ
 messageOf s m = unfinished s ++ take (m .outcome .taken) (m .piece)
 
--- the fields of an update of this type for the table at a place
-abbrev pub fieldsOf : Connection → Store → ℕ → ℕ → List ℕ → Read Update
-fieldsOf c t table kind body =
-    cond (eqb kind 128) (updateFields (getD (t .tables) table noTable) body)
-    (incrementalFields (getD (t .tables) table noTable) (followingId (bindingAt c table .previous)) body)
+-- the fields of an update of this form for the table at a place
+abbrev pub fieldsOf : Connection → Store → ℕ → Form → List ℕ → Read Update
+fieldsOf c t table form body = updateFields form (getD (t .tables) table noTable) (followingId (bindingAt c table .previous)) body
 
--- the store that the call left holds the entry with the message's key and values, and else what it held before; the reply is the
--- acknowledgement of this update with the table's ID
+-- the store that the call left holds the entry with the message's key and values and its remaining time, and else what it held before; the
+-- reply is the acknowledgement of this update with the table's ID
 pub record EntryHeld (s : Session) (t : Store) (m : Made) : Type 0 where
   pub table : ℕ
   pub id : ℕ
@@ -64,15 +98,17 @@ pub record EntryHeld (s : Session) (t : Store) (m : Made) : Type 0 where
   pub start : ℕ
   pub end : ℕ
   pub framed : judgeFrame (messageOf s m) ≡ frame.Body kind start end
-  pub type : (kind ≡ 128) ⊎ (kind ≡ 129)
+  pub form : Form
+  pub type : formOf kind ≡ some form
   pub current : s .connection .current ≡ table + 1
   pub body : List ℕ
   pub body-is : body ≡ take (end - start) (drop start (messageOf s m))
   pub fields : Update
   pub after : ℕ
-  pub read : fieldsOf (s .connection) t table kind body ≡ got fields after
+  pub read : fieldsOf (s .connection) t table form body ≡ got fields after
   pub own-id : fields .id ≡ id
-  pub holds : getD (m .store .entries) place noEntry ≡ makeEntry table (spanIn body (fields .key)) (fields .server) (fields .values)
+  pub holds : getD (m .store .entries) place noEntry
+      ≡ makeEntry table (spanIn body (fields .key)) (fields .server) (fields .time .timed) (fields .time .remaining) (fields .values)
   pub others : (i : ℕ) → (i ≡ place → ⊥) → getD (m .store .entries) i noEntry ≡ getD (t .entries) i noEntry
   pub tables : m .store .tables ≡ t .tables
   pub reply : replyIn m ≡ acknowledge (bindingAt (s .connection) table .id) id
@@ -80,11 +116,12 @@ pub record EntryHeld (s : Session) (t : Store) (m : Made) : Type 0 where
 abbrev pub HeldWhenAcknowledged : Type 0
 HeldWhenAcknowledged = (s : Session) (t : Store) (m : Made) → ReadPromise s t m → isAcknowledgement (replyIn m) ≡ true → EntryHeld s t m
 
--- an acknowledgement, read as a message of class 10, type 133, says its ID and its update ID
+-- an acknowledgement is told as one and, read as a message, says its ID and its update ID
 pub record ReadBack (id update : ℕ) : Type 0 where
+  pub told : isAcknowledgement (acknowledge id update) ≡ true
   pub end : ℕ
   pub whole : end ≡ length (acknowledge id update)
-  pub framed : judgeFrame (acknowledge id update) ≡ frame.Body 133 3 end
+  pub framed : judgeFrame (acknowledge id update) ≡ frame.Body acknowledgementType 3 end
   pub fields : acknowledgementFields (take (end - 3) (drop 3 (acknowledge id update))) ≡ got (record { id = id; update = update }) (end - 3)
 
 abbrev pub AcknowledgementReadBack : Type 0
@@ -156,3 +193,18 @@ AnswersByNumber =
 abbrev pub OtherRecordsSound : Type 0
 OtherRecordsSound =
     (s : Session) (t : Store) (m : Made) (other : Session) → ReadPromise s t m → sound other t ≡ true → sound other (m .store) ≡ true
+
+-- a call that passes time leaves every record sound with the store
+abbrev pub PassedRecordsSound : Type 0
+PassedRecordsSound = (t : Store) (p : Passed) (other : Session) → PassPromise t p → sound other t ≡ true → sound other (p .store) ≡ true
+
+-- ---- a call that passes time, on any store, sound or not
+
+-- "passing time gives 4 on an unsound store, unchanged, else 0"
+pub record PassedOrRefused (t : Store) (p : Passed) : Type 0 where
+  pub number : (p .number ≡ 0) ⊎ (p .number ≡ 4)
+  pub passed : p .number ≡ 0 → p .store ≡ passTime (p .milliseconds) t
+  pub refused : p .number ≡ 4 → p .store ≡ t
+
+abbrev pub RefusedPassUntouched : Type 0
+RefusedPassUntouched = (t : Store) (p : Passed) → PassPromise t p → PassedOrRefused t p

@@ -8,6 +8,7 @@ use mathlib.Core.Bool.{Bool, false, cond, _&&_}
 use mathlib.Core.Option.{Option, some, none}
 use lib.ListN.{length, getD}
 use lib.Dec.{eqb}
+use Rattle.frame.specs.Frame.{stickTableClass, acknowledgementType}
 use Rattle.wire.specs.declared.Int.{Int}
 use Rattle.wire.specs.declared.Int.the-variants as int
 use Rattle.wire.specs.declared.fixed.FourBytes.{FourBytes}
@@ -18,6 +19,8 @@ use Rattle.session.specs.declared.Connection.{Connection}
 use Rattle.session.specs.declared.Answer.{Answer}
 use Rattle.session.specs.declared.Answer.the-variants as answer
 use Rattle.session.specs.Session.{bindingAt, isBound, isUpdated}
+use Rattle.body.specs.declared.update.Form.{Form}
+use Rattle.body.specs.Bodies.{formOf}
 use Rattle.message.specs.Effects.{acknowledge}
 use Rattle.streams.specs.Model.{Ended}
 
@@ -71,10 +74,13 @@ unfoldable pub nextId : Option ℕ → Option ℕ
 nextId (some id) = some ((id + 1) % 2 ^ 32)
 nextId none = none
 
--- of type 128 the ID it says, of 129 the one after the previous; no other type has one
+-- of an update that has an ID, timed or not, that one; of an incremental one the one after the previous
+unfoldable pub idBy : Option Form → List ℕ → Option ℕ → Option ℕ
+idBy (some form) message previous = cond (form .explicit) (some (explicitId message)) (nextId previous)
+idBy none message previous = none
+
 unfoldable pub updateId : List ℕ → Option ℕ → Option ℕ
-updateId message previous =
-    cond (eqb (kindOf message) 129) (nextId previous) (cond (eqb (kindOf message) 128) (some (explicitId message)) none)
+updateId message previous = idBy (formOf (kindOf message)) message previous
 
 -- ---- a message
 
@@ -130,9 +136,9 @@ post l e =
 
 -- ---- acknowledgements
 
--- class 10, type 133
+-- class 10, and request 2's type 132
 unfoldable pub isAcknowledgement : List ℕ → Bool
-isAcknowledgement reply = eqb (getD reply 0 0) 0x0A && eqb (getD reply 1 0) 0x85
+isAcknowledgement reply = eqb (getD reply 0 0) stickTableClass && eqb (getD reply 1 0) acknowledgementType
 
 -- an acknowledgement with its table's bound ID and last committed update ID: the reply to an update of this table with this ID, after which
 -- the ledger is l

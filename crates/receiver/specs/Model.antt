@@ -1,9 +1,10 @@
 -- "The byte model" of document 01.
-use Prim.Native.Nat.{ℕ}
+use Prim.Native.Nat.{ℕ, _^_}
 use mathlib.Core.List.{List, [], _∷_, _++_}
 use mathlib.Core.Bool.{Bool, true, false, cond, not, _||_}
 use lib.Dec.{ltb, eqb}
 use Rattle.store.specs.declared.Store.{Store}
+use Rattle.store.specs.Time.{passTime}
 use Rattle.session.specs.declared.Connection.{Connection}
 use Rattle.session.specs.declared.Session.{Session}
 use Rattle.session.specs.declared.Answer.{Answer}
@@ -38,6 +39,21 @@ unfoldable pub feed : State → ℕ → Fed State Answer
 feed s b =
     let u = s .unfinished ++ (b ∷ []) in
     cond (isClosed (s .connection)) (quiet s) (joined (s .connection) (s .store) u (judge (s .connection) (s .store) u))
+
+-- ---- passing time
+
+-- a step of a list of calls that reads nothing: milliseconds that pass
+abbrev pub Event : Type 0
+Event = ℕ
+
+-- a call is given them as a 32-bit number
+abbrev pub isTime : ℕ → Bool
+isTime e = ltb e (2 ^ 32)
+
+-- "In the byte model a time is a step on the store alone, session closed or not, and stands at its position in the stream, counted in bytes
+-- taken, several at one position in call order."
+unfoldable pub pass : ℕ → State → State
+pass e s = record { connection = s .connection; unfinished = s .unfinished; store = passTime e (s .store) }
 
 -- ---- the receiver
 
@@ -75,10 +91,6 @@ soundState s = sound (holding (s .connection) (s .unfinished)) (s .store)
 abbrev pub isByte : ℕ → Bool
 isByte b = ltb b 256
 
--- no step but reading calls
-abbrev pub Event : Type 0
-Event = ⊥
-
 abbrev pub peers : Receiver State Answer Event
 peers = record {
   feed = feed;
@@ -89,5 +101,5 @@ peers = record {
   ends = ends;
   least = replyRoom;
   isByte = isByte;
-  act = λ e s. s;
+  act = pass;
 }

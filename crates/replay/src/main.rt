@@ -3,8 +3,9 @@
 //   N ROLE                 a new session on the store as it stands: the same
 //   C ROOM LENGTH PIECE    a reading call on a piece of LENGTH bytes (two, big-endian), with so much room for the reply, filled with AA:
 //                          `took N`, the answer's line (`more` for more wanted), the reply, `spoiled` if a byte past the reply changed
+//   T MILLISECONDS         so many milliseconds (four bytes, big-endian) pass on the store: `passed 0`, or `passed 4` where it isn't sound
 //   D                      a dump of record and store
-// Anything else ends the script, and so do N, C and D before the first O and the end of the input: `end`. That line is left out where a
+// Anything else ends the script, and so do N, C, T and D before the first O and the end of the input: `end`. That line is left out where a
 // read or a write failed.
 use dump::lines::put_entry;
 use dump::lines::put_table;
@@ -15,6 +16,7 @@ use opening::OPENING_ROOM;
 use opening::Opened;
 use opening::open_answerer;
 use opening::open_caller;
+use passing::pass;
 use reading::Step;
 use reading::read;
 use session::Outcome;
@@ -31,6 +33,8 @@ use text::output::flush;
 use text::output::room_at;
 use text::put;
 use text::spaced::put_decimal_word;
+use wire::fixed::FourBytes;
+use wire::fixed::read_number;
 
 // More than the lines of one command, or of one entry, need.
 const MARGIN: usize = 4096;
@@ -209,6 +213,34 @@ fn call_on_piece(run: Run, out: &mut [u8]) -> Run {
     call_on(run, head[0], n, &mut buffer, out)
 }
 
+// ---- passing time
+
+// A run after so many milliseconds, with the line of the call.
+fn passed(run: Run, milliseconds: u32, out: &mut [u8]) -> Run {
+    let p = pass(run.store, milliseconds);
+    let store = p.store;
+    let page = room_at(out, run.page, MARGIN);
+    let a = put(out, page.next, b"passed");
+    let b = put_decimal_word(out, a, p.number as u64);
+    let next = put(out, b, b"\n");
+    let mut r = run;
+    r.store = store;
+    r.page = turned(page, next);
+    r
+}
+
+fn pass_time(run: Run, out: &mut [u8]) -> Run {
+    let mut bytes = [0u8; 4];
+    let read = text::input::fill(&mut bytes);
+    let Filled::Whole = read else {
+        return stopped(run, read);
+    };
+    match read_number(&bytes, 0) {
+        FourBytes::Value { value, next } => passed(run, value, out),
+        FourBytes::Short => ended(run),
+    }
+}
+
 // ---- a dump
 
 fn dump_table(page: Page, place: usize, t: Table, out: &mut [u8]) -> Page {
@@ -274,6 +306,7 @@ fn later_command(run: Run, command: u8, out: &mut [u8]) -> Run {
     match command {
         b'N' => open_session(run, run.store, out),
         b'C' => call_on_piece(run, out),
+        b'T' => pass_time(run, out),
         b'D' => show(run, out),
         _ => ended(run),
     }

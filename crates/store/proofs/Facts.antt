@@ -19,7 +19,7 @@ use Rattle.store.specs.declared.Store.{Store}
 use Rattle.store.specs.Limits.{plainName, keyKind, isKnown, isString, keyLengthOk, dataTypesOk}
 use Rattle.store.specs.Store.{tableHeld, entryHeld, nameOf, keyOf, tableNamed, entryOf, entryKeyed, noTable, noEntry}
 use Rattle.store.specs.Shape.{TableShape, EntryShape}
-use Rattle.store.specs.Sound.{nameLengthOk, namePlain, keyTypeOk, tableKeyLengthOk, tableTypesOk, timedOk, tableTests, soundTable, sameName, entryTableOk, entryKeyLengthOk, keyRestZero, valuesOk, entryTests, soundEntry, sameKey, soundStore}
+use Rattle.store.specs.Sound.{nameLengthOk, namePlain, keyTypeOk, tableKeyLengthOk, tableTypesOk, timedOk, tableTests, soundTable, sameName, entryTableOk, entryTimedOk, entryKeyLengthOk, keyRestZero, valuesOk, entryTests, soundEntry, sameKey, soundStore}
 use Rattle.store.proofs.Rules.{key-length-most}
 
 -- ---- facts
@@ -38,6 +38,7 @@ pub record TableFacts (t : Table) : Type 0 where
 pub record EntryFacts (tables : List Table) (e : Entry) : Type 0 where
   pub place : e .table < 8
   pub tableHeld : tableHeld (getD tables (e .table) noTable) ≡ true
+  pub timed : e .timed ≤ 1
   pub keyLength : entryKeyLengthOk (getD tables (e .table) noTable) e ≡ true
   pub keyRest : keyRestZero e ≡ true
   pub values : valuesOk (getD tables (e .table) noTable) e ≡ true
@@ -95,32 +96,35 @@ module _ (tables : List Table) (e : Entry) where
   owner = getD tables (e .table) noTable
 
   pub entry-facts : soundEntry tables e ≡ true → entryHeld e ≡ true → EntryFacts tables e
-  unfolding soundEntry entryTableOk
+  unfolding soundEntry entryTableOk entryTimedOk
   entry-facts h q =
       let r0 = unless-elim (entryHeld e) (allOf (entryTests tables e)) (and-second (leb (e .held) 1) (not (entryHeld e) || allOf (entryTests tables e)) h) q in
-      let r1 = all-rest (entryTableOk tables e) (entryKeyLengthOk owner e ∷ keyRestZero e ∷ valuesOk owner e ∷ []) r0 in
-      let r2 = all-rest (entryKeyLengthOk owner e) (keyRestZero e ∷ valuesOk owner e ∷ []) r1 in
-      let r3 = all-rest (keyRestZero e) (valuesOk owner e ∷ []) r2 in
-      let p = all-first (entryTableOk tables e) (entryKeyLengthOk owner e ∷ keyRestZero e ∷ valuesOk owner e ∷ []) r0 in
+      let r1 = all-rest (entryTableOk tables e) (entryTimedOk e ∷ entryKeyLengthOk owner e ∷ keyRestZero e ∷ valuesOk owner e ∷ []) r0 in
+      let r2 = all-rest (entryTimedOk e) (entryKeyLengthOk owner e ∷ keyRestZero e ∷ valuesOk owner e ∷ []) r1 in
+      let r3 = all-rest (entryKeyLengthOk owner e) (keyRestZero e ∷ valuesOk owner e ∷ []) r2 in
+      let r4 = all-rest (keyRestZero e) (valuesOk owner e ∷ []) r3 in
+      let p = all-first (entryTableOk tables e) (entryTimedOk e ∷ entryKeyLengthOk owner e ∷ keyRestZero e ∷ valuesOk owner e ∷ []) r0 in
       record {
         place = ltb-true (e .table) 8 (and-first (ltb (e .table) 8) (tableHeld owner) p);
         tableHeld = and-second (ltb (e .table) 8) (tableHeld owner) p;
-        keyLength = all-first (entryKeyLengthOk owner e) (keyRestZero e ∷ valuesOk owner e ∷ []) r1;
-        keyRest = all-first (keyRestZero e) (valuesOk owner e ∷ []) r2;
-        values = all-first (valuesOk owner e) [] r3;
+        timed = leb-true (e .timed) 1 (all-first (entryTimedOk e) (entryKeyLengthOk owner e ∷ keyRestZero e ∷ valuesOk owner e ∷ []) r1);
+        keyLength = all-first (entryKeyLengthOk owner e) (keyRestZero e ∷ valuesOk owner e ∷ []) r2;
+        keyRest = all-first (keyRestZero e) (valuesOk owner e ∷ []) r3;
+        values = all-first (valuesOk owner e) [] r4;
       }
 
   pub facts-entry : e .held ≤ 1 → (entryHeld e ≡ true → EntryFacts tables e) → soundEntry tables e ≡ true
-  unfolding soundEntry entryTableOk
+  unfolding soundEntry entryTableOk entryTimedOk
   facts-entry m f =
       and-intro (leb (e .held) 1) (not (entryHeld e) || allOf (entryTests tables e)) (le-leb (e .held) 1 m)
       (unless-intro (entryHeld e) (allOf (entryTests tables e))
       (λ q.
       let r = f q in
-      all-intro (entryTableOk tables e) (entryKeyLengthOk owner e ∷ keyRestZero e ∷ valuesOk owner e ∷ [])
+      all-intro (entryTableOk tables e) (entryTimedOk e ∷ entryKeyLengthOk owner e ∷ keyRestZero e ∷ valuesOk owner e ∷ [])
       (and-intro (ltb (e .table) 8) (tableHeld owner) (lt-ltb (e .table) 8 (r .place)) (r .tableHeld))
+      (all-intro (entryTimedOk e) (entryKeyLengthOk owner e ∷ keyRestZero e ∷ valuesOk owner e ∷ []) (le-leb (e .timed) 1 (r .timed))
       (all-intro (entryKeyLengthOk owner e) (keyRestZero e ∷ valuesOk owner e ∷ []) (r .keyLength)
-      (all-intro (keyRestZero e) (valuesOk owner e ∷ []) (r .keyRest) (all-intro (valuesOk owner e) [] (r .values) all-none)))))
+      (all-intro (keyRestZero e) (valuesOk owner e ∷ []) (r .keyRest) (all-intro (valuesOk owner e) [] (r .values) all-none))))))
 
 -- ---- a store
 

@@ -7,13 +7,13 @@ use mathlib.Core.Logic.{_⊎_, ⊎-elim}
 use mathlib.Core.List.{List}
 use lib.ListN.{length, getD, replicate, length-set, getD-replicate, length-replicate, List·getD-eq-default}
 use lib.IntN.{ℤ}
-use lib.Dec.{lit<}
+use lib.Dec.{eqb, lit<}
 use lib.Signed.{mag}
 use native.Mathlib.Nat.{pow-le-pow-right}
 use borrow.Author.Tests.{eqb-true}
 use Rattle.lists.specs.declared.Found.the-variants.{At, Nothing}
 use Rattle.lists.specs.Lists.{padTo}
-use Rattle.lists.proofs.Cases.{and-intro, lt-or-le}
+use Rattle.lists.proofs.Cases.{by-test, and-intro, cond-true, cond-false, lt-or-le}
 use Rattle.lists.proofs.Places.{First, first-at, first-nothing, first-only}
 use Rattle.lists.proofs.Stores.{stored-each}
 use Rattle.lists.proofs.Bytes.{pad-length, pad-at}
@@ -22,7 +22,7 @@ use Rattle.store.specs.declared.Entry.{Entry}
 use Rattle.store.specs.declared.Store.{Store}
 use Rattle.store.specs.declared.Definition.{Definition}
 use Rattle.store.specs.Limits.{keyMax, nameMax}
-use Rattle.store.specs.Store.{tableHeld, entryHeld, tableFree, entryFree, nameOf, keyOf, tableNamed, entryKeyed, findTable, findEntry, freeTable, freeEntry, makeEntry, makeTable, putTable, putEntry, noTable, noEntry, emptyStore}
+use Rattle.store.specs.Store.{tableHeld, entryHeld, tableFree, entryFree, nameOf, keyOf, tableNamed, entryKeyed, findTable, findEntry, freeTable, freeEntry, timeLeft, makeEntry, makeTable, putTable, putEntry, noTable, noEntry, emptyStore}
 use Rattle.store.specs.Shape.{Cells, TableShape, EntryShape, StoreShape}
 use Rattle.store.specs.Sound.{sameName, sameKey}
 use Rattle.store.proofs.Facts.{SoundStore, named-facts, keyed-facts}
@@ -132,11 +132,28 @@ pad-cells n xs f =
           (lt-or-le i n);
     }
 
-pub made-entry-shape : (table : ℕ) (key : List ℕ) (server : ℤ) (values : List ℕ) → table < 2 ^ 64 → length key < 2 ^ 64 → ((i : ℕ) → getD key i 0 < 2 ^ 8)
-    → mag server < 2 ^ 31 → Cells 34 64 values → EntryShape (makeEntry table key server values)
+time-fits : (timed remaining : ℕ) → remaining < 2 ^ 32 → timeLeft timed remaining < 2 ^ 32
+unfolding timeLeft
+time-fits timed remaining l =
+    by-test (eqb timed 0)
+    (λ h. subst (λ (n : ℕ). n < 2 ^ 32) (sym (cond-true (eqb timed 0) 0 remaining h)) (omega arith))
+    (λ h. subst (λ (n : ℕ). n < 2 ^ 32) (sym (cond-false (eqb timed 0) 0 remaining h)) l)
+
+pub made-entry-shape : (table : ℕ) (key : List ℕ) (server : ℤ) (timed remaining : ℕ) (values : List ℕ) → table < 2 ^ 64 → length key < 2 ^ 64
+    → ((i : ℕ) → getD key i 0 < 2 ^ 8) → mag server < 2 ^ 31 → timed < 2 ^ 32 → remaining < 2 ^ 32 → Cells 34 64 values
+    → EntryShape (makeEntry table key server timed remaining values)
 unfolding makeEntry
-made-entry-shape table key server values a b f m v =
-    record { held = omega arith; server = m; table = a; keyLength = b; key = pad-cells keyMax key f; values = v }
+made-entry-shape table key server timed remaining values a b f m t l v =
+    record {
+      held = omega arith;
+      server = m;
+      timed = t;
+      remaining = time-fits timed remaining l;
+      table = a;
+      keyLength = b;
+      key = pad-cells keyMax key f;
+      values = v;
+    }
 
 pub record DefinitionShape (d : Definition) : Type 0 where
   pub keyType : d .«key_type» < 2 ^ 32
@@ -177,12 +194,14 @@ table-zero =
       name = zero-cells nameMax 8;
     }
 
-entry-zero : EntryShape noEntry
+pub entry-zero : EntryShape noEntry
 unfolding noEntry
 entry-zero =
     record {
       held = omega arith;
       server = lit< tt;
+      timed = omega arith;
+      remaining = omega arith;
       table = omega arith;
       keyLength = omega arith;
       key = zero-cells keyMax 8;

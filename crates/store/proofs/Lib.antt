@@ -5,4 +5,5 @@ pub mod Putting
 pub mod Facts
 pub mod Kept
 pub mod Ruled
+pub mod Passing
 mod PlainNames

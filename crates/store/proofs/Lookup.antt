@@ -38,7 +38,7 @@ blankTable = record {
 }
 
 abbrev pub blankEntry : Entry
-blankEntry = record { held = 0; «server_id» = pos 0; table = 0; «key_len» = 0; key = []; values = [] }
+blankEntry = record { held = 0; «server_id» = pos 0; timed = 0; remaining = 0; table = 0; «key_len» = 0; key = []; values = [] }
 
 -- ---- arrays
 

@@ -4,19 +4,42 @@ use mathlib.Core.Path.{_≡_}
 use mathlib.Core.List.{List}
 use lib.ListN.{length, replicate}
 use lib.IntN.{ℤ}
+use borrow.Author.Needs.{needs}
+use borrow.Author.Tests.{ne-eqb}
 use Rattle.lists.specs.Lists.{padTo}
 use Rattle.store.specs.declared.Table.{Table}
 use Rattle.store.specs.declared.Entry.{Entry}
 use Rattle.store.specs.declared.Store.{Store}
 use Rattle.store.specs.declared.Definition.{Definition}
 use Rattle.store.specs.Limits.{keyMax, nameMax}
-use Rattle.store.specs.Store.{makeEntry, makeTable, noTable, noEntry, emptyStore}
+use Rattle.store.specs.Store.{timeLeft, makeEntry, makeTable, noTable, noEntry, emptyStore}
 
-pub entry-made : (table : ℕ) (key : List ℕ) (server : ℤ) (values bytes : List ℕ) → bytes ≡ padTo keyMax key
-    → _≡_ {A = Entry} (record { held = 1; «server_id» = server; table = table; «key_len» = length key; key = bytes; values = values })
-    (makeEntry table key server values)
+pub time-none : (timed remaining : ℕ) → timed ≡ 0 → 0 ≡ timeLeft timed remaining
+unfolding timeLeft
+time-none timed remaining h = rw h
+
+pub time-some : (timed remaining : ℕ) → (timed ≡ 0 → ⊥) → remaining ≡ timeLeft timed remaining
+unfolding timeLeft
+time-some timed remaining f = rw (ne-eqb timed 0 f)
+
+pub ruleset times = (needs, time-none, time-some)
+
+pub entry-made : (table : ℕ) (key : List ℕ) (server : ℤ) (timed remaining left : ℕ) (values bytes : List ℕ) → left ≡ timeLeft timed remaining
+    → bytes ≡ padTo keyMax key
+    → _≡_ {A = Entry}
+    (record {
+      held = 1;
+      «server_id» = server;
+      timed = timed;
+      remaining = left;
+      table = table;
+      «key_len» = length key;
+      key = bytes;
+      values = values;
+    })
+    (makeEntry table key server timed remaining values)
 unfolding makeEntry
-entry-made table key server values bytes e = rw e
+entry-made table key server timed remaining left values bytes q e = rw (q, e)
 
 pub table-made : (name : List ℕ) (d : Definition) (bytes : List ℕ) → bytes ≡ padTo nameMax name
     → _≡_ {A = Table}

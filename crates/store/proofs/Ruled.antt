@@ -144,6 +144,7 @@ module _ (tables : List Table) (place : ℕ) (t : Table) (held : t .held ≡ 1) 
         keyLength =
             subst (λ (u : Table). entryKeyLengthOk u e ≡ true) (sym here)
             (sym (agreeing-length (getD tables place noTable) t e a) ∙ subst (λ (u : Table). entryKeyLengthOk u e ≡ true) old (f .keyLength));
+        timed = f .timed;
         keyRest = f .keyRest;
         values =
             subst (λ (u : Table). valuesOk u e ≡ true) (sym here)
@@ -156,6 +157,7 @@ module _ (tables : List Table) (place : ℕ) (t : Table) (held : t .held ≡ 1) 
         place = f .place;
         tableHeld = subst (λ (u : Table). tableHeld u ≡ true) (sym there) (f .tableHeld);
         keyLength = subst (λ (u : Table). entryKeyLengthOk u e ≡ true) (sym there) (f .keyLength);
+        timed = f .timed;
         keyRest = f .keyRest;
         values = subst (λ (u : Table). valuesOk u e ≡ true) (sym there) (f .values);
       })
@@ -186,13 +188,15 @@ module _ (s : Store) (h : StoreShape s) (r : SoundStore s) where
 
 -- ---- a made entry and a made table
 
-pub made-key : (table : ℕ) (key : List ℕ) (server : ℤ) (values : List ℕ) → length key ≤ 64 → keyOf (makeEntry table key server values) ≡ key
+pub made-key : (table : ℕ) (key : List ℕ) (server : ℤ) (timed remaining : ℕ) (values : List ℕ) → length key ≤ 64
+    → keyOf (makeEntry table key server timed remaining values) ≡ key
 unfolding keyOf makeEntry
-made-key table key server values l = pad-take keyMax key l
+made-key table key server timed remaining values l = pad-take keyMax key l
 
-pub made-rest : (table : ℕ) (key : List ℕ) (server : ℤ) (values : List ℕ) → length key ≤ 64 → keyRestZero (makeEntry table key server values) ≡ true
+pub made-rest : (table : ℕ) (key : List ℕ) (server : ℤ) (timed remaining : ℕ) (values : List ℕ) → length key ≤ 64
+    → keyRestZero (makeEntry table key server timed remaining values) ≡ true
 unfolding keyRestZero makeEntry
-made-rest table key server values l = ap (every isZero) (pad-drop keyMax key l) ∙ zeros-zero (keyMax - length key)
+made-rest table key server timed remaining values l = ap (every isZero) (pad-drop keyMax key l) ∙ zeros-zero (keyMax - length key)
 
 pub made-name : (name : List ℕ) (d : Definition) → length name ≤ 32 → nameOf (makeTable name d) ≡ name
 unfolding nameOf makeTable

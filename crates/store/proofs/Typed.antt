@@ -39,6 +39,8 @@ entry-shape e vs p =
     record {
       held = search needs;
       server = let f : SFits w32 (e .«server_id») = search needs in f .sfits;
+      timed = search needs;
+      remaining = search needs;
       table = search needs;
       keyLength = search needs;
       key = record { size = search needs; small = λ i. let f : Fits w8 (getD (e .key) i 0) = search needs in f .fits };

@@ -4,12 +4,14 @@ use mathlib.Core.Path.{_≡_, refl}
 use mathlib.Core.List.{List, [], _∷_, map}
 use mathlib.Core.Bool.{true, false}
 use lib.ListN.{getD, replicate}
+use lib.IntN.{pos}
 use Rattle.lists.specs.Lists.{allOf, every, among}
 use Rattle.store.specs.declared.Table.{Table}
+use Rattle.store.specs.declared.Entry.{Entry}
 use Rattle.store.specs.declared.types.KeyKind.the-variants.{Integer, Ipv4, Ipv6, Str, Binary, Unknown}
 use Rattle.store.specs.Limits.{isPlain, plainName, slotTypes, slotsFor, integersOf, isRate, rateTypes, keyLengthOk, keyKind, dataTypesOk}
-use Rattle.store.specs.Store.{tableHeld, nameOf}
-use Rattle.store.specs.Sound.{nameLengthOk, namePlain, keyTypeOk, tableKeyLengthOk, tableTypesOk, timedOk, soundTable}
+use Rattle.store.specs.Store.{tableHeld, entryHeld, nameOf}
+use Rattle.store.specs.Sound.{nameLengthOk, namePlain, keyTypeOk, tableKeyLengthOk, tableTypesOk, timedOk, soundTable, entryTableOk, entryTimedOk, entryKeyLengthOk, keyRestZero, slotsOk, valuesOk, soundEntry}
 
 -- bytes out, type 15, stands at slot 26, after the rate of bytes in, type 14
 bytes-out : getD slotTypes 25 0 ∷ getD slotTypes 26 0 ∷ [] ≡ 14 ∷ 15 ∷ []
@@ -55,3 +57,21 @@ names : soundTable (named 2 (116 ∷ 49 ∷ [])) ∷ soundTable (named 2 (116 �
     ≡ true ∷ false ∷ true ∷ []
 unfolding soundTable allOf tableHeld nameLengthOk namePlain plainName every isPlain among nameOf keyTypeOk tableKeyLengthOk keyLengthOk keyKind tableTypesOk dataTypesOk timedOk
 names = refl
+
+-- a held entry of such a table, with this mark of a time and this number
+abbrev marked : ℕ → ℕ → Entry
+marked mark n = record {
+  held = 1;
+  «server_id» = pos 0;
+  timed = mark;
+  remaining = n;
+  table = 0;
+  «key_len» = 4;
+  key = replicate 64 0;
+  values = [];
+}
+
+-- a time; a time of 0; none, with a number that isn't looked at; a mark of 2
+marks : map (soundEntry (named 2 (116 ∷ 49 ∷ []) ∷ [])) (marked 1 60000 ∷ marked 1 0 ∷ marked 0 5 ∷ marked 2 0 ∷ []) ≡ true ∷ true ∷ true ∷ false ∷ []
+unfolding soundEntry allOf entryHeld entryTableOk tableHeld entryTimedOk entryKeyLengthOk keyKind keyRestZero every valuesOk slotsOk slotTypes slotsFor integersOf isRate rateTypes among
+marks = refl

@@ -4,3 +4,4 @@ pub mod Shape
 pub mod Sound
 pub mod Examples
 pub mod Places
+pub mod Time

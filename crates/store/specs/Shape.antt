@@ -29,6 +29,8 @@ pub record TableShape (t : Table) : Type 0 where
 pub record EntryShape (e : Entry) : Type 0 where
   pub held : e .held < 2 ^ 32
   pub server : mag (e .«server_id») < 2 ^ 31
+  pub timed : e .timed < 2 ^ 32
+  pub remaining : e .remaining < 2 ^ 32
   pub table : e .table < 2 ^ 64
   pub keyLength : e .«key_len» < 2 ^ 64
   pub key : Cells keyMax 8 (e .key)

@@ -1,5 +1,5 @@
--- Soundness of a store: document 01's "Not sound means", as far as it concerns tables and entries, and request 8's rule of names. Each kind
--- of fault is a test of its own; free places aren't looked at, nor values that a table doesn't have.
+-- Soundness of a store: document 01's "Not sound means", as far as it concerns tables and entries, request 2's mark of a remaining time and
+-- request 8's rule of names. Each kind of fault is a test of its own; free places aren't looked at, nor values that a table doesn't have.
 use Prim.Native.Nat.{ℕ, _^_}
 use mathlib.Core.List.{List, [], _∷_}
 use mathlib.Core.Bool.{Bool, true, cond, not, _&&_, _||_}
@@ -50,6 +50,10 @@ sameName t u = tableHeld t && tableNamed (nameOf t) u
 unfoldable pub entryTableOk : List Table → Entry → Bool
 entryTableOk tables e = ltb (e .table) tablePlaces && tableHeld (getD tables (e .table) noTable)
 
+-- request 2: an entry has a remaining time or none, a mark of 1 or 0; where there is none, the number isn't looked at
+unfoldable pub entryTimedOk : Entry → Bool
+entryTimedOk e = leb (e .timed) 1
+
 -- "Key: string: encoded length (0 up to the key length), bytes; else exactly key-length bytes"
 unfoldable pub entryKeyLengthOk : Table → Entry → Bool
 entryKeyLengthOk t e = cond (isString (keyKind (t .«key_type»))) (leb (e .«key_len») (t .«key_len»)) (eqb (e .«key_len») (t .«key_len»))
@@ -74,7 +78,7 @@ valuesOk t e = slotsOk (t .«data_types») slotTypes (e .values)
 abbrev pub entryTests : List Table → Entry → List Bool
 entryTests tables e =
     let t = getD tables (e .table) noTable in
-    entryTableOk tables e ∷ entryKeyLengthOk t e ∷ keyRestZero e ∷ valuesOk t e ∷ []
+    entryTableOk tables e ∷ entryTimedOk e ∷ entryKeyLengthOk t e ∷ keyRestZero e ∷ valuesOk t e ∷ []
 
 unfoldable pub soundEntry : List Table → Entry → Bool
 soundEntry tables e = leb (e .held) 1 && (not (entryHeld e) || allOf (entryTests tables e))

@@ -1,7 +1,7 @@
 -- Tables and entries: what is held, lookup, the lowest free place, and what putting one makes.
 use Prim.Native.Nat.{ℕ}
 use mathlib.Core.List.{List}
-use mathlib.Core.Bool.{Bool, _&&_}
+use mathlib.Core.Bool.{Bool, cond, _&&_}
 use lib.ListN.{length, take, set, replicate}
 use lib.IntN.{ℤ, pos}
 use lib.Dec.{eqb}
@@ -65,11 +65,17 @@ freeEntry s = firstPlace entryFree (s .entries)
 
 -- ---- putting a table or an entry at a place
 
+-- request 2: an entry has a remaining time in milliseconds, marked by 1, or none, marked by 0; where there is none, 0 is written
+unfoldable pub timeLeft : ℕ → ℕ → ℕ
+timeLeft timed remaining = cond (eqb timed 0) 0 remaining
+
 -- "Key bytes past the length are zero"
-unfoldable pub makeEntry : ℕ → List ℕ → ℤ → List ℕ → Entry
-makeEntry table key server values = record {
+unfoldable pub makeEntry : ℕ → List ℕ → ℤ → ℕ → ℕ → List ℕ → Entry
+makeEntry table key server timed remaining values = record {
   held = 1;
   «server_id» = server;
+  timed = timed;
+  remaining = timeLeft timed remaining;
   table = table;
   «key_len» = length key;
   key = padTo keyMax key;
@@ -112,7 +118,16 @@ noTable = record {
 }
 
 unfoldable pub noEntry : Entry
-noEntry = record { held = 0; «server_id» = pos 0; table = 0; «key_len» = 0; key = replicate keyMax 0; values = replicate valueCount 0 }
+noEntry = record {
+  held = 0;
+  «server_id» = pos 0;
+  timed = 0;
+  remaining = 0;
+  table = 0;
+  «key_len» = 0;
+  key = replicate keyMax 0;
+  values = replicate valueCount 0;
+}
 
 unfoldable pub emptyStore : Store
 emptyStore = record { tables = replicate tablePlaces noTable; entries = replicate entryPlaces noEntry }

@@ -3,10 +3,11 @@
 pub mod entries;
 pub mod names;
 pub mod tables;
+pub mod time;
 pub mod types;
 
 ghost use mathlib.Core.Path.{_≡_};
-ghost use Rattle.store.specs.Store.{makeEntry, makeTable, noTable, noEntry, emptyStore};
+ghost use Rattle.store.specs.Store.{timeLeft, makeEntry, makeTable, noTable, noEntry, emptyStore};
 
 // ---- limits
 
@@ -40,11 +41,14 @@ pub struct Table {
     pub name: [u8; NAME_MAX],
 }
 
-// An entry of the table at place `table`. The integers of data type t other than 0 stand in `values` from the slot of t on.
+// An entry of the table at place `table`. `timed` is 1 for an entry with `remaining` milliseconds left, and 0 for one without a time, whose
+// `remaining` is written as zero. The integers of data type t other than 0 stand in `values` from the slot of t on.
 #[repr(C)]
 pub struct Entry {
     pub held: u32,
     pub server_id: i32,
+    pub timed: u32,
+    pub remaining: u32,
     pub table: usize,
     pub key_len: usize,
     pub key: [u8; KEY_MAX],
@@ -60,15 +64,35 @@ pub struct Store {
 
 // ---- putting a table or an entry
 
-// A held entry. Key bytes past the longest key are left out.
-pub fn make_entry(table: usize, key: &[u8], server_id: i32, values: [u64; VALUES]) -> Entry
-    ensures { λ r. ⌜ r ≡ makeEntry table (now (key .entry)) «server_id» values ⌝ }
+// The remaining time that is written: 0 where there is none.
+fn time_left(timed: u32, remaining: u32) -> u32
+    ensures { λ r. ⌜ r ≡ timeLeft timed remaining ⌝ }
 {
+    if timed == 0 {
+        return 0;
+    }
+    remaining
+}
+
+// A held entry, with a remaining time where `timed` isn't 0. Key bytes past the longest key are left out.
+pub fn make_entry(
+    table: usize,
+    key: &[u8],
+    server_id: i32,
+    timed: u32,
+    remaining: u32,
+    values: [u64; VALUES],
+) -> Entry
+    ensures { λ r. ⌜ r ≡ makeEntry table (now (key .entry)) «server_id» timed remaining values ⌝ }
+{
+    let remaining = time_left(timed, remaining);
     let mut bytes = [0u8; KEY_MAX];
     lists::pad(&mut bytes, key);
     Entry {
         held: 1,
         server_id,
+        timed,
+        remaining,
         table,
         key_len: key.len(),
         key: bytes,
@@ -130,6 +154,8 @@ pub fn no_entry() -> Entry
     Entry {
         held: 0,
         server_id: 0,
+        timed: 0,
+        remaining: 0,
         table: 0,
         key_len: 0,
         key: [0u8; KEY_MAX],

@@ -6,7 +6,7 @@ ghost use Rattle.lists.specs.Lists.{allOf, every};
 ghost use Rattle.store.specs.Limits.{slotTypes};
 ghost use Rattle.store.specs.Store.{tableHeld};
 ghost use Rattle.store_soundness.specs.Narrow.{isNarrow};
-ghost use Rattle.store.specs.Sound.{slotOk, slotsOk, entryKeyLengthOk, keyRestZero, valuesOk};
+ghost use Rattle.store.specs.Sound.{slotOk, slotsOk, entryTimedOk, entryKeyLengthOk, keyRestZero, valuesOk};
 use store::Entry;
 use store::KEY_MAX;
 use store::Table;
@@ -91,9 +91,12 @@ fn slots_ok(types: u32, values: [u64; VALUES]) -> bool
 
 // The tests of a held entry of the table.
 pub fn held_entry_ok(owner: Table, e: Entry) -> bool
-    ensures { λ r. ⌜ r ≡ (tableHeld owner && allOf (entryKeyLengthOk owner e ∷ keyRestZero e ∷ valuesOk owner e ∷ [])) ⌝ }
+    ensures { λ r. ⌜ r ≡ (tableHeld owner && allOf (entryTimedOk e ∷ entryKeyLengthOk owner e ∷ keyRestZero e ∷ valuesOk owner e ∷ [])) ⌝ }
 {
     if owner.held != 1 {
+        return false;
+    }
+    if 1 < e.timed {
         return false;
     }
     if !entry_key_length_ok(owner, e) {

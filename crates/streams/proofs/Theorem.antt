@@ -21,13 +21,6 @@ bytes-take zero xs = refl
 bytes-take (suc n) [] = refl
 bytes-take (suc n) (x ∷ xs) = ap (byte x ∷_) (bytes-take n xs)
 
--- What was taken of a piece, and then what is left of the timeline, is the timeline
-rest-split : {E : Type 0} (n : ℕ) (piece : List ℕ) (later rest : List (Item E)) → n ≤ length piece → bytes piece ++ later ≡ rest
-    → bytes (take n piece) ++ drop n rest ≡ rest
-rest-split {E} n piece later rest l e =
-    let m : n ≤ length (bytes {E = E} piece) = rw length-map l in
-    rw (bytes-take n piece, ← take-append-le n (bytes piece) later m, e) (take-append-drop n rest)
-
 module _ {S A E : Type 0} (R : Receiver S A E) where
   -- The result does not depend on the bytes unfinished at the start
   pub any-start : (s : S) (u v : List ℕ) (items : List (Item E)) → resultOf (feedAll R s u items) ≡ resultOf (feedAll R s v items)
@@ -59,12 +52,12 @@ module _ {S A E : Type 0} (R : Receiver S A E) where
         rw (scan-answered R s t b bs a r h, fed-answered R s t u b rest a r h)
         (ap (preceded (record { taken = 1; answer = a; reply = r; state = t })) (any-start t u [] rest) ∙ rw (law .answers-end s b a r t h)))
 
-    -- What a call is: it keeps the state, with a refusal that is no answer of the model, or it reads
-    data Called (s : S) (p : List ℕ) : Call S A → Type 0 where
+    -- What a call is: it keeps the state, with a refusal that is no answer of the model, or it reads on an open session
+    pub data Called (s : S) (p : List ℕ) : Call S A → Type 0 where
       stays : (n : ℕ) → R .ends (R .refused n) ≡ false → Called s p (stay s (R .refused n))
-      reads : Called s p (scan R s p)
+      reads : R .closed s ≡ false → Called s p (scan R s p)
 
-    called : (s : S) (p : List ℕ) (room : ℕ) → Called s p (readCall R s p room)
+    pub called : (s : S) (p : List ℕ) (room : ℕ) → Called s p (readCall R s p room)
     called s p room =
         by-test (ltb room (R .least))
         (λ h. rw (call-short R s p room (ltb-true _ _ h)) (stays 1 (law .refusals-not-end .0)))
@@ -74,17 +67,17 @@ module _ {S A E : Type 0} (R : Receiver S A E) where
         (λ f.
         by-test (R .closed s)
         (λ t. rw (call-closed R s p room l f t) (stays 2 (law .refusals-not-end .1)))
-        (λ t. rw (call-reads R s p room l f t) reads))
+        (λ t. rw (call-reads R s p room l f t) (reads t)))
         (λ f. rw (call-unsound R s p room l f) (stays 4 (law .refusals-not-end .2))))
 
     called-fed : (s : S) (u p : List ℕ) (rest : List (Item E)) (c : Call S A) → Called s p c
         → preceded c (resultOf (feedAll R (c .state) u rest)) ≡ resultOf (feedAll R s u (bytes (take (c .taken) p) ++ rest))
     called-fed s u p rest c (stays n e) = rw e
-    called-fed s u p rest c reads = scan-fed s u p rest
+    called-fed s u p rest c (reads t) = scan-fed s u p rest
 
     called-inside : (s : S) (p : List ℕ) (c : Call S A) → Called s p c → c .taken ≤ length p
     called-inside s p c (stays n e) = omega arith
-    called-inside s p c reads = scan-inside R s p
+    called-inside s p c (reads t) = scan-inside R s p
 
     -- A call on a closed session takes nothing
     closed-takes : (s : S) (p : List ℕ) (room : ℕ) → R .closed s ≡ true → readCall R s p room .taken ≡ 0
@@ -109,7 +102,7 @@ module _ {S A E : Type 0} (R : Receiver S A E) where
 
     called-good : (s : S) (p : List ℕ) (c : Call S A) → Called s p c → Good s → every (R .isByte) p ≡ true → Good (c .state)
     called-good s p c (stays n e) g q = g
-    called-good s p c reads g q = scan-good s p g q
+    called-good s p c (reads t) g q = scan-good s p g q
 
     pub call-good : (s : S) (p : List ℕ) (room : ℕ) → Good s → every (R .isByte) p ≡ true → Good (readCall R s p room .state)
     call-good s p room = called-good s p (readCall R s p room) (called s p room)
@@ -128,13 +121,8 @@ module _ {S A E : Type 0} (R : Receiver S A E) where
     runs-whole s u [] stream o = ⊎-elim (λ e. rw e) (λ t. rw (t .1 .1, feedAll-closed s u (t .1 .0) (t .0))) o
     runs-whole s u (reading p room ∷ steps) stream o =
         let c = readCall R s p room in
-        ap (preceded c) (runs-whole (c .state) u steps (drop (c .taken) stream) (o .1))
-        ∙ (called-fed s u p (drop (c .taken) stream) c (called s p room)
-        ∙ ap (λ (l : List (Item E)). resultOf (feedAll R s u l))
-        (⊎-elim
-        (λ t. ap (λ (n : ℕ). bytes (take n p) ++ drop n stream) (closed-takes s p room t))
-        (λ r. rest-split (c .taken) p (r .0) stream (call-inside s p room) (r .1))
-        (o .0)))
+        ap (preceded c) (runs-whole (c .state) u steps (o .1) (o .3))
+        ∙ (called-fed s u p (o .1) c (called s p room) ∙ ap (λ (l : List (Item E)). resultOf (feedAll R s u l)) (o .2))
     runs-whole s u (happening e ∷ steps) stream o = rw (← o .1) (runs-whole (R .act e s) u steps (o .0) (o .2))
 
     each-call : (s : S) (steps : List (Step E)) → Good s → every (ofBytes R) steps ≡ true

@@ -19,6 +19,11 @@ unfolding bytesIn
 bytesIn-bytes [] rest = refl
 bytesIn-bytes (x ∷ xs) rest = ap (x ∷_) (bytesIn-bytes xs rest)
 
+pub only-bytes : (E : Type 0) (xs : List ℕ) → bytesIn (bytes {E = E} xs) ≡ xs
+unfolding bytesIn
+only-bytes E [] = refl
+only-bytes E (x ∷ xs) = ap (x ∷_) (only-bytes E xs)
+
 module _ {S A E : Type 0} (R : Receiver S A E) where
   left-quiet : (s t : S) (u : List ℕ) (b : ℕ) (rest : List (Item E)) → R .feed s b ≡ quiet t
       → unfinished R s u (byte b ∷ rest) ≡ unfinished R t (u ++ (b ∷ [])) rest

@@ -7,7 +7,7 @@ use mathlib.Core.Bool.{Bool, true, false, cond}
 use lib.ListN.{take, drop}
 use lib.Dec.{ltb, eqb}
 use Rattle.lists.specs.Lists.{every}
-use Rattle.streams.specs.Model.{quiet, answered, Receiver, Item, event, bytes, Ended, Ran}
+use Rattle.streams.specs.Model.{quiet, answered, stateOf, Receiver, Item, byte, event, bytes, bytesIn, Ended, Ran}
 
 -- "It returns the bytes taken, the reply's length and the answer", and "leaves the new state there"
 pub record Call (S A : Type 0) : Type 0 where
@@ -20,15 +20,15 @@ pub data Step (E : Type 0) : Type 0 where
   reading : (piece : List ℕ) (room : ℕ) → Step E
   happening : E → Step E
 
--- A test of a reading call's piece
-abbrev pub onPiece : {E : Type 0} → (List ℕ → Bool) → Step E → Bool
-onPiece p (reading piece room) = p piece
-onPiece p (happening e) = true
+-- A test of a reading call's piece, and one of an event
+abbrev pub onStep : {E : Type 0} → (List ℕ → Bool) → (E → Bool) → Step E → Bool
+onStep p q (reading piece room) = p piece
+onStep p q (happening e) = q e
 
--- A reading call with this room
+-- Every reading call has this room
 abbrev pub readsIn : {E : Type 0} → ℕ → Step E → Bool
 readsIn n (reading piece room) = eqb room n
-readsIn n (happening e) = false
+readsIn n (happening e) = true
 
 -- An answer with its reply
 pub record Response (A : Type 0) : Type 0 where
@@ -97,34 +97,79 @@ module _ {S A E : Type 0} (R : Receiver S A E) where
       bytes (take (c .taken) piece) ++ takenOf (c .state) steps
   takenOf s (happening e ∷ steps) = event e ∷ takenOf (R .act e s) steps
 
-  -- The steps offer the timeline `rest`. "Until the session closes, the host offers untaken bytes again.": after that a call may have any piece
+  -- The steps offer the timeline `rest`. "Until the session closes, the host offers untaken bytes again.": until then each piece is a first part of
+  -- the bytes that are left, and after that any piece. What a call takes stands before the next event; what it leaves may stand behind it
   unfoldable pub Offers : S → List (Item E) → List (Step E) → Type 0
   Offers s rest [] = (rest ≡ []) ⊎ ((R .closed s ≡ true) × ((last : List ℕ) × (rest ≡ bytes last)))
   Offers s rest (reading piece room ∷ steps) =
       let c = readCall s piece room in
-      ((R .closed s ≡ true) ⊎ ((later : List (Item E)) × (bytes piece ++ later ≡ rest))) × Offers (c .state) (drop (c .taken) rest) steps
+      ((R .closed s ≡ true) ⊎ ((more : List ℕ) × (piece ++ more ≡ bytesIn rest)))
+      × (later : List (Item E)) × (bytes (take (c .taken) piece) ++ later ≡ rest) × Offers (c .state) later steps
   Offers s rest (happening e ∷ steps) =
       (later : List (Item E)) × (event e ∷ later ≡ rest) × Offers (R .act e s) later steps
 
   abbrev pub ofBytes : Step E → Bool
-  ofBytes = onPiece (every (R .isByte))
+  ofBytes = onStep (every (R .isByte)) (λ e. true)
 
--- A stream cut into pieces: the first piece that has bytes left, and the pieces without n bytes of that one
-unfoldable pub current : List (List ℕ) → List ℕ
-current [] = []
-current ([] ∷ cuts) = current cuts
-current ((b ∷ bs) ∷ cuts) = b ∷ bs
+-- ---- a stream cut into pieces, with events between them
 
-unfoldable pub without : ℕ → List (List ℕ) → List (List ℕ)
-without n [] = []
-without n ([] ∷ cuts) = without n cuts
-without n ((b ∷ bs) ∷ cuts) = drop n (b ∷ bs) ∷ cuts
+pub data Part (E : Type 0) : Type 0 where
+  piece : List ℕ → Part E
+  moment : E → Part E
+
+-- A test of the pieces, and one of the events
+abbrev pub onPart : {E : Type 0} → (List ℕ → Bool) → (E → Bool) → Part E → Bool
+onPart p q (piece bs) = p bs
+onPart p q (moment e) = q e
+
+-- A stream of bytes alone
+abbrev pub pieces : {E : Type 0} → List (List ℕ) → List (Part E)
+pieces cuts = map piece cuts
+
+module _ {E : Type 0} where
+  unfoldable pub timeline : List (Part E) → List (Item E)
+  timeline [] = []
+  timeline (piece bs ∷ parts) = bytes bs ++ timeline parts
+  timeline (moment e ∷ parts) = event e ∷ timeline parts
+
+  -- What is left once empty pieces are passed over
+  unfoldable pub begun : List (Part E) → List (Part E)
+  begun [] = []
+  begun (piece [] ∷ parts) = begun parts
+  begun (piece (b ∷ bs) ∷ parts) = piece (b ∷ bs) ∷ parts
+  begun (moment e ∷ parts) = moment e ∷ parts
+
+  -- The bytes up to the next cut or event, and the parts without n of these
+  unfoldable pub current : List (Part E) → List ℕ
+  current [] = []
+  current (piece [] ∷ parts) = current parts
+  current (piece (b ∷ bs) ∷ parts) = b ∷ bs
+  current (moment e ∷ parts) = []
+
+  unfoldable pub without : ℕ → List (Part E) → List (Part E)
+  without n [] = []
+  without n (piece [] ∷ parts) = without n parts
+  without n (piece (b ∷ bs) ∷ parts) = piece (drop n (b ∷ bs)) ∷ parts
+  without n (moment e ∷ parts) = moment e ∷ parts
+
+  unfoldable pub eventless : List (Item E) → Bool
+  eventless [] = true
+  eventless (byte b ∷ rest) = eventless rest
+  eventless (event e ∷ rest) = false
 
 module _ {S A E : Type 0} (R : Receiver S A E) where
-  -- Each call's piece is all that is left between two cuts: no piece crosses a cut, and none is cut further
-  unfoldable pub WithinCuts : S → List (List ℕ) → List (Step E) → Type 0
-  WithinCuts s cuts [] = Unit {0}
-  WithinCuts s cuts (reading piece room ∷ steps) =
-      let c = readCall R s piece room in
-      (piece ≡ current cuts) × WithinCuts (c .state) (without (c .taken) cuts) steps
-  WithinCuts s cuts (happening e ∷ steps) = WithinCuts (R .act e s) cuts steps
+  -- Each reading call's piece is all that is left between two cuts or events: no piece crosses one, and none is cut further. An event happens
+  -- where it is next
+  unfoldable pub WithinCuts : S → List (Part E) → List (Step E) → Type 0
+  WithinCuts s parts [] = Unit {0}
+  WithinCuts s parts (reading bs room ∷ steps) =
+      let c = readCall R s bs room in
+      (bs ≡ current parts) × WithinCuts (c .state) (without (c .taken) parts) steps
+  WithinCuts s parts (happening e ∷ steps) =
+      (later : List (Part E)) × (begun parts ≡ moment e ∷ later) × WithinCuts (R .act e s) later steps
+
+  -- Each event stands at a position that a list of calls comes to: a closed session takes no byte, so none stands behind a byte there
+  unfoldable pub reachable : S → List (Item E) → Bool
+  reachable s [] = true
+  reachable s (byte b ∷ rest) = cond (R .closed s) (eventless rest) (reachable (stateOf (R .feed s b)) rest)
+  reachable s (event e ∷ rest) = reachable (R .act e s) rest

@@ -2,12 +2,12 @@
 use Prim.Native.Nat.{ℕ, suc, _≤_, _<_}
 use mathlib.Core.Path.{_≡_}
 use mathlib.Core.Logic.{_⊎_}
-use mathlib.Core.List.{List, [], _∷_, _++_, flatten}
+use mathlib.Core.List.{List, [], _∷_, _++_}
 use mathlib.Core.Bool.{true, false}
 use lib.ListN.{length}
 use Rattle.lists.specs.Lists.{every}
 use Rattle.streams.specs.Model.{quiet, answered, stateOf, Receiver, Item, bytes, feedAll}
-use Rattle.streams.specs.Calls.{Call, Step, reading, happening, stay, resultOf, readCall, runCalls, takenOf, Offers, WithinCuts, ofBytes, readsIn}
+use Rattle.streams.specs.Calls.{Call, Step, reading, happening, stay, resultOf, readCall, runCalls, takenOf, Offers, ofBytes, readsIn, Part, onPart, timeline, WithinCuts, reachable}
 
 module _ {S A E : Type 0} (R : Receiver S A E) where
   -- The laws asked of a receiver, with an invariant of its states
@@ -18,6 +18,8 @@ module _ {S A E : Type 0} (R : Receiver S A E) where
     pub answers-end : (s : S) (b : ℕ) (a : A) (r : List ℕ) (t : S) → R .feed s b ≡ answered a r t → R .ends a ≡ true
     -- "On a closed session a byte changes nothing."
     pub closed-ignores : (s : S) (b : ℕ) → R .closed s ≡ true → R .feed s b ≡ quiet s
+    -- Only an answer closes a session
+    pub quiet-open : (s : S) (b : ℕ) (t : S) → R .closed s ≡ false → R .feed s b ≡ quiet t → R .closed t ≡ false
     pub act-closed : (e : E) (s : S) → R .closed (R .act e s) ≡ R .closed s
     pub good-sound : (s : S) → Good s → R .sound s ≡ true
     pub good-feed : (s : S) (b : ℕ) → Good s → R .isByte b ≡ true → Good (stateOf (R .feed s b))
@@ -73,14 +75,22 @@ module _ {S A E : Type 0} (R : Receiver S A E) where
   abbrev pub EveryDivision : (S → Type 0) → Type 0
   EveryDivision Good = (s : S) (u : List ℕ) (steps : List (Step E)) → Good s → every (ofBytes R) steps ≡ true → Division Good s u steps
 
-  -- A list of reading calls that offers the stream of the cuts, with no piece across a cut
-  pub record Offering (s : S) (cuts : List (List ℕ)) (room : ℕ) : Type 0 where
+  -- Calls and events that offer the timeline of the parts, with no piece across a cut or an event
+  pub record Offering (s : S) (parts : List (Part E)) (room : ℕ) : Type 0 where
     pub steps : List (Step E)
-    pub offers : Offers R s (bytes (flatten cuts)) steps
-    pub within : WithinCuts R s cuts steps
+    pub offers : Offers R s (timeline parts) steps
+    pub within : WithinCuts R s parts steps
     pub calls : every (readsIn room) steps ≡ true
     pub on-bytes : every (ofBytes R) steps ≡ true
 
   abbrev pub EveryOffering : (S → Type 0) → Type 0
   EveryOffering Good =
-      (s : S) (cuts : List (List ℕ)) (room : ℕ) → Good s → every (every (R .isByte)) cuts ≡ true → R .least ≤ room → Offering s cuts room
+      (s : S) (parts : List (Part E)) (room : ℕ) → Good s → every (onPart (every (R .isByte)) (λ e. true)) parts ≡ true → R .least ≤ room
+      → reachable R s (timeline parts) ≡ true → Offering s parts room
+
+  -- No other timeline is offered by any list, and every timeline of bytes alone is
+  abbrev pub OfferedReachable : Type 0
+  OfferedReachable = (s : S) (stream : List (Item E)) (steps : List (Step E)) → Offers R s stream steps → reachable R s stream ≡ true
+
+  abbrev pub BytesReachable : Type 0
+  BytesReachable = (s : S) (xs : List ℕ) → reachable R s (bytes xs) ≡ true

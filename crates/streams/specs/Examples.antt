@@ -1,8 +1,10 @@
 -- The byte model and lists of calls of the small receiver, computed.
 use mathlib.Core.Path.{_≡_, refl}
+use mathlib.Core.Logic.{inl, inr}
+use mathlib.Core.Bool.{true, false}
 use mathlib.Core.List.{List, [], _∷_, flatten}
-use Rattle.streams.specs.Model.{Item, byte, event, bytes, feedAll, unfinished}
-use Rattle.streams.specs.Calls.{Step, reading, happening, stay, resultOf, scan, readCall, runCalls, takenOf}
+use Rattle.streams.specs.Model.{Item, byte, event, bytes, feedAll, unfinished, bytesIn}
+use Rattle.streams.specs.Calls.{Step, reading, happening, stay, resultOf, scan, readCall, runCalls, takenOf, piece, moment, current, eventless, reachable, Offers}
 use Rattle.streams.specs.Toy.{More, Message, Refused, Event, shorter, toy}
 
 -- Two messages, then a length over 8, and a byte after that
@@ -78,6 +80,24 @@ ended-before : feedAll toy 1 [] (event shorter ∷ byte 3 ∷ byte 7 ∷ byte 8 
 unfolding feedAll
 ended-before = refl
 
+-- An event right behind the byte that closes the session is reached, one behind a further byte isn't
+closing-reached : reachable toy 1 (byte 9 ∷ event shorter ∷ event shorter ∷ byte 5 ∷ []) ≡ true
+unfolding reachable eventless
+closing-reached = refl
+
+behind-unreached : reachable toy 1 (byte 9 ∷ byte 5 ∷ event shorter ∷ []) ≡ false
+unfolding reachable eventless
+behind-unreached = refl
+
+-- A piece ends at a cut and at an event, and an empty piece is none
+cut : current (piece [] ∷ piece (3 ∷ 7 ∷ []) ∷ piece (8 ∷ []) ∷ moment shorter ∷ []) ≡ 3 ∷ 7 ∷ []
+unfolding current
+cut = refl
+
+cut-at-event : current (piece [] ∷ moment shorter ∷ piece (3 ∷ []) ∷ []) ≡ []
+unfolding current
+cut-at-event = refl
+
 -- The tests in order: state 25 is closed and not sound, 12 is open and not sound, 0 is closed and sound
 tests : readCall toy 25 (1 ∷ []) 11 ∷ readCall toy 25 (1 ∷ []) 12 ∷ readCall toy 12 (1 ∷ []) 12 ∷ readCall toy 0 (1 ∷ []) 12 ∷ []
     ≡ stay 25 (Refused 1) ∷ stay 25 (Refused 4) ∷ stay 12 (Refused 4) ∷ stay 0 (Refused 2) ∷ []
@@ -88,3 +108,9 @@ tests = refl
 empty-piece : readCall toy 5 [] 12 ≡ stay 5 More
 unfolding readCall scan
 empty-piece = refl
+
+-- An event between two calls on one buffer: the first call takes one message of two, and the byte that it leaves is offered again
+offered-over-event : Offers toy 1 (byte 2 ∷ byte 7 ∷ byte 8 ∷ event shorter ∷ byte 0 ∷ [])
+    (reading (2 ∷ 7 ∷ 8 ∷ 0 ∷ []) 12 ∷ happening shorter ∷ reading (0 ∷ []) 12 ∷ [])
+unfolding Offers readCall scan bytesIn
+offered-over-event = (inr ([], refl), event shorter ∷ byte 0 ∷ [], refl, (byte 0 ∷ [], refl, (inr ([], refl), [], refl, inl refl)))

@@ -24,13 +24,15 @@ use Rattle.opening.proofs.SoundOpening.{opened-sound}
 use Rattle.opening.proofs.ShapedOpening.{opened-shape}
 use Rattle.streams.specs.Calls.{Result}
 use Rattle.receiver.specs.Model.{State, heldBy, isByte}
-use Rattle.receiver.specs.Promise.{Made, Shaped}
-use Rattle.receiver.specs.Demand3.{Chain, OffersTo, cameTo}
+use Rattle.receiver.specs.Promise.{Shaped}
+use Rattle.receiver.specs.Demand3.{Called, Chain, OffersTo, cameTo}
 use Rattle.worked_cases.specs.Cases.{hello, east, west}
 use Rattle.worked_cases.specs.Listing.{listing, listedResult, listedState}
 use Rattle.worked_cases.specs.ListingCalls.{ListingCame, ListingByCalls, ListingOffered}
 use Rattle.receiver.proofs.Acknowledging.{opens-accepted}
 use Rattle.receiver.proofs.Demand3.{demand-3}
+use Rattle.receiver.proofs.Corollaries.{bytes-offered, bytes-record}
+use Rattle.streams.specs.Model.{bytes}
 use Rattle.worked_cases.proofs.ListingHolds.{listing-holds}
 
 abbrev start : Session
@@ -52,16 +54,16 @@ open-start : (eqb (length listing) 0 || isClosed (start .connection)) ≡ false
 unfolding listing hello flatten opened newConnection holding isClosed
 open-start = refl
 
-module _ (calls : List Made) (c : Chain start emptyStore calls) (o : OffersTo start listing calls) where
+module _ (calls : List Called) (c : Chain start emptyStore calls) (o : OffersTo start (bytes listing) calls) where
   came : cameTo start emptyStore calls ≡ listedResult
-  came = demand-3 start emptyStore calls start-sound c .whole listing o ∙ listing-holds
+  came = demand-3 start emptyStore calls start-sound c .whole (bytes listing) o ∙ listing-holds
 
   listed-by-calls : ListingCame calls
   unfolding cameTo listedResult listedState heldBy
   listed-by-calls = record {
     came = came;
     session =
-        demand-3 start emptyStore calls start-sound c .whole-record listing o
+        bytes-record start emptyStore listing calls start-sound c o
         ∙ (cond-false (eqb (length listing) 0 || isClosed (start .connection)) _ _ open-start
         ∙ ap (λ (r : Result State Answer). holding (r .state .connection) (r .state .unfinished)) listing-holds);
     store = ap (λ (r : Result State Answer). r .state .store) came;
@@ -91,5 +93,4 @@ pub listing-cut : (cuts : List (List ℕ)) → flatten cuts ≡ listing → ever
 listing-cut cuts e = cut-bytes cuts (ap (every isByte) e ∙ listing-bytes)
 
 pub listing-offered : ListingOffered
-unfolding Chain
-listing-offered cuts room e l = demand-3 start emptyStore [] start-sound tt .exists start-shaped cuts room (listing-cut cuts e) l
+listing-offered cuts room e l = bytes-offered start emptyStore start-sound start-shaped cuts room (listing-cut cuts e) l

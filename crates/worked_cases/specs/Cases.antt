@@ -16,7 +16,7 @@ use Rattle.store.specs.Store.{emptyStore}
 use Rattle.session.specs.declared.Answer.{Answer}
 use Rattle.session.specs.Answers.{answerNumber}
 use Rattle.opening.specs.Opening.{answerer, opened}
-use Rattle.streams.specs.Model.{Ended}
+use Rattle.streams.specs.Model.{Ended, bytes}
 use Rattle.receiver.specs.Demand3.{modelRan}
 
 -- a case: a value's encoding; bytes that overflow; a server ID's encoding; a stream after the hello, with the numbers of its answers and its
@@ -42,7 +42,7 @@ west = 119 ∷ 101 ∷ 115 ∷ 116 ∷ []
 
 -- the byte model of a new session as answerer `east`, accepting `west`, with an empty store, fed the hello and then these bytes
 unfoldable pub afterHello : List ℕ → List (Ended Answer)
-afterHello bytes = modelRan (opened answerer east west) emptyStore (hello ++ bytes) .ended
+afterHello rest = modelRan (opened answerer east west) emptyStore (bytes (hello ++ rest)) .ended
 
 unfoldable pub isValue : ℕ → ℕ → Int → Bool
 isValue v next (int.Value w n) = eqb v w && eqb next n

@@ -1,4 +1,4 @@
--- The listing's stream of document 01, with the key type of request 1, and its answers, replies and end state.
+-- The listing's stream of document 01, with the key type of request 1 and the acknowledgement's number of request 2, and its answers, replies and end state.
 use Prim.Native.Nat.{ℕ}
 use mathlib.Core.List.{List, [], _∷_, _++_}
 use lib.ListN.{replicate}
@@ -27,8 +27,8 @@ unfoldable pub listed : List (Response Answer)
 listed =
     record { answer = answer.Hello 7 0; reply = 0x32 ∷ 0x30 ∷ 0x30 ∷ 0x0A ∷ [] }
     ∷ record { answer = answer.Table 0; reply = [] }
-    ∷ record { answer = answer.Update 0 4294967295 0 commit.New; reply = 0x0A ∷ 0x85 ∷ 0x05 ∷ 0x01 ∷ 0xFF ∷ 0xFF ∷ 0xFF ∷ 0xFF ∷ [] }
-    ∷ record { answer = answer.Update 0 0 0 commit.Replaced; reply = 0x0A ∷ 0x85 ∷ 0x05 ∷ 0x01 ∷ 0x00 ∷ 0x00 ∷ 0x00 ∷ 0x00 ∷ [] }
+    ∷ record { answer = answer.Update 0 4294967295 0 commit.New; reply = 0x0A ∷ 0x84 ∷ 0x05 ∷ 0x01 ∷ 0xFF ∷ 0xFF ∷ 0xFF ∷ 0xFF ∷ [] }
+    ∷ record { answer = answer.Update 0 0 0 commit.Replaced; reply = 0x0A ∷ 0x84 ∷ 0x05 ∷ 0x01 ∷ 0x00 ∷ 0x00 ∷ 0x00 ∷ 0x00 ∷ [] }
     ∷ record { answer = answer.Finished; reply = 0x00 ∷ 0x03 ∷ [] }
     ∷ []
 
@@ -59,18 +59,30 @@ listedTables =
       name = replicate 32 0;
     })
 
--- one entry, whose value of data type 2 is 5; the other places are free
+-- one entry, whose value of data type 2 is 5, with the table's expiry as its remaining time; the other places are free
 unfoldable pub listedEntries : List Entry
 listedEntries =
     record {
       held = 1;
       «server_id» = pos 0;
+      timed = 1;
+      remaining = 60000;
       table = 0;
       «key_len» = 4;
       key = 0x00 ∷ 0x00 ∷ 0x00 ∷ 0x2A ∷ replicate 60 0;
       values = 0 ∷ 5 ∷ replicate 32 0;
     }
-    ∷ replicate 127 (record { held = 0; «server_id» = pos 0; table = 0; «key_len» = 0; key = replicate 64 0; values = replicate 34 0 })
+    ∷ replicate 127
+    (record {
+      held = 0;
+      «server_id» = pos 0;
+      timed = 0;
+      remaining = 0;
+      table = 0;
+      «key_len» = 0;
+      key = replicate 64 0;
+      values = replicate 34 0;
+    })
 
 unfoldable pub listedStore : Store
 listedStore = record { tables = listedTables; entries = listedEntries }
@@ -99,8 +111,8 @@ listedResult = record {
   responses = listed;
   replies =
       0x32 ∷ 0x30 ∷ 0x30 ∷ 0x0A
-      ∷ 0x0A ∷ 0x85 ∷ 0x05 ∷ 0x01 ∷ 0xFF ∷ 0xFF ∷ 0xFF ∷ 0xFF
-      ∷ 0x0A ∷ 0x85 ∷ 0x05 ∷ 0x01 ∷ 0x00 ∷ 0x00 ∷ 0x00 ∷ 0x00
+      ∷ 0x0A ∷ 0x84 ∷ 0x05 ∷ 0x01 ∷ 0xFF ∷ 0xFF ∷ 0xFF ∷ 0xFF
+      ∷ 0x0A ∷ 0x84 ∷ 0x05 ∷ 0x01 ∷ 0x00 ∷ 0x00 ∷ 0x00 ∷ 0x00
       ∷ 0x00 ∷ 0x03 ∷ [];
   state = listedState;
 }

@@ -3,6 +3,7 @@
 use crate::common::{listing, State};
 use std::hint::black_box;
 use std::mem::size_of;
+use std::time::Duration;
 
 /// Fills the stack below its caller's frame, where the next function's frames come to lie.
 #[inline(never)]
@@ -21,7 +22,7 @@ fn held(state: &State) -> Vec<u8> {
     [bytes(state.session.layout()), bytes(state.store.layout())].concat()
 }
 
-/// The same after opening and after each call, over a stack with this content.
+/// The same after opening, after each call and after passing time, over a stack with this content.
 fn left(open: fn() -> State, pieces: &[&[u8]], fill: u8) -> Vec<Vec<u8>> {
     fill_stack(fill);
     let mut state = open();
@@ -29,6 +30,11 @@ fn left(open: fn() -> State, pieces: &[&[u8]], fill: u8) -> Vec<Vec<u8>> {
     for piece in pieces {
         fill_stack(fill);
         state.call(piece);
+        left.push(held(&state));
+    }
+    for time in [Duration::ZERO, Duration::from_secs(60)] {
+        fill_stack(fill);
+        state.store.pass_time(time).expect("the store is sound");
         left.push(held(&state));
     }
     left

@@ -1,6 +1,8 @@
 //! Messages to send, and sessions to send them to.
 
+use peers::layout::Entry;
 use peers::{Answer, KeyType, Refusal, Session, Store, READING_ROOM};
+use std::time::Duration;
 
 /// The content of a room before a call.
 pub const FILL: u8 = 0xAA;
@@ -84,6 +86,38 @@ pub fn update(id: u32, key: &[u8], values: &[u64]) -> Vec<u8> {
     message(128, &body)
 }
 
+/// The same with a remaining time in milliseconds.
+pub fn timed_update(id: u32, time: u32, key: &[u8], values: &[u64]) -> Vec<u8> {
+    let mut body = [id.to_be_bytes(), time.to_be_bytes()].concat();
+    body.extend(key);
+    body.extend(values.iter().flat_map(|&value| int(value)));
+    message(133, &body)
+}
+
+/// A free place of an empty store.
+pub const FREE: Entry = Entry {
+    held: 0,
+    server_id: 0,
+    timed: 0,
+    remaining: 0,
+    table: 0,
+    key_len: 0,
+    key: [0; 64],
+    values: [0; 34],
+};
+
+/// What passing time leaves of a place, by the rule.
+fn lowered(entry: Entry, milliseconds: u32) -> Entry {
+    match (entry.held, entry.timed) {
+        (1, 1) if entry.remaining <= milliseconds => FREE,
+        (1, 1) => Entry {
+            remaining: entry.remaining - milliseconds,
+            ..entry
+        },
+        _ => entry,
+    }
+}
+
 /// What one session and one store came to.
 #[derive(Clone, PartialEq, Eq, Debug)]
 pub struct State {
@@ -159,6 +193,20 @@ impl State {
             }
         }
         told
+    }
+
+    /// Passes time, which leaves what the rule says: all as it was where it is refused.
+    pub fn pass(&mut self, milliseconds: u32) -> Result<(), Refusal> {
+        let mut expected = self.clone();
+        let passed = self
+            .store
+            .pass_time(Duration::from_millis(milliseconds.into()));
+        if passed.is_ok() {
+            let entries = &mut expected.store.layout_mut().entries;
+            *entries = entries.map(|entry| lowered(entry, milliseconds));
+        }
+        assert!(*self == expected, "passing {milliseconds}: {passed:?}");
+        passed
     }
 
     /// Offers messages, each of which must be accepted.

@@ -1,6 +1,6 @@
 //! Freeing entries and tables between calls.
 
-use crate::common::{define, message, refused, update, State, HELLO};
+use crate::common::{define, message, refused, timed_update, update, State, FREE, HELLO};
 use peers::{Answer, Commit, DataType, KeyType, Refusal, Session, Value};
 
 /// An established record with table `t` at place 0, and one entry.
@@ -42,6 +42,26 @@ fn an_entry() {
     assert_eq!(entry.value(DataType::Gpc0), Some(Value::Number(9)));
 }
 
+/// A place that the host frees keeps what it held; one that time frees is an empty store's.
+#[test]
+fn an_entry_by_the_host_and_one_by_time() {
+    let mut state = one_entry();
+    state.accept(&[
+        timed_update(2, 7, b"keyu", &[5]),
+        timed_update(3, 8, b"keyv", &[5]),
+    ]);
+    let freed = state.store.layout().entries[2];
+    assert!(state.store.free_entry(2));
+    assert_eq!(state.pass(7), Ok(()));
+    let entries = &state.store.layout().entries;
+    assert_eq!((entries[0].held, entries[1]), (1, FREE));
+    assert_eq!(entries[2], peers::layout::Entry { held: 0, ..freed });
+    state.accept(&[update(4, b"keyw", &[5]), update(5, b"keyx", &[5])]);
+    let keys: Vec<_> = state.store.entries().map(|e| e.key()).collect();
+    assert_eq!(keys, [b"keyt", b"keyw", b"keyx"]);
+    assert!(state.store.entries().all(|e| e.remaining().is_none()));
+}
+
 #[test]
 fn a_table_that_a_record_uses() {
     let mut state = one_entry();
@@ -57,7 +77,7 @@ fn a_table_that_a_record_uses() {
     state.accept(&[define(7, b"other", KeyType::Integer, 4, 4, &[])]);
     state.session = old;
     let told = state.offer(&incremental());
-    assert_eq!(told[0].1, [10, 133, 5, 1, 0, 0, 0, 2]);
+    assert_eq!(told[0].1, [10, 132, 5, 1, 0, 0, 0, 2]);
     assert_eq!(state.store.entry(0).unwrap().table().name(), b"other");
 }
 

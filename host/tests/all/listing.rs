@@ -2,6 +2,7 @@
 
 use crate::common::{listing, State, Told};
 use peers::{Answer, Commit, DataType, KeyType, Value};
+use std::time::Duration;
 
 /// The listing's answers and replies.
 fn expected() -> Vec<Told> {
@@ -20,11 +21,11 @@ fn expected() -> Vec<Told> {
         (Answer::Table { place: 0 }, vec![]),
         (
             update(u32::MAX, Commit::New),
-            vec![0x0A, 0x85, 5, 1, 0xFF, 0xFF, 0xFF, 0xFF],
+            vec![0x0A, 0x84, 5, 1, 0xFF, 0xFF, 0xFF, 0xFF],
         ),
         (
             update(0, Commit::Replaced),
-            vec![0x0A, 0x85, 5, 1, 0, 0, 0, 0],
+            vec![0x0A, 0x84, 5, 1, 0, 0, 0, 0],
         ),
         (Answer::Finished, vec![0, 3]),
     ]
@@ -64,6 +65,7 @@ fn the_store_afterwards() {
     let entry = entries[0];
     assert_eq!((entry.place(), entry.key()), (0, &[0, 0, 0, 0x2A][..]));
     assert_eq!(entry.table().place(), 0);
+    assert_eq!(entry.remaining(), Some(Duration::from_secs(60)));
     let values: Vec<_> = entry.values().collect();
     assert_eq!(values, [(DataType::Gpc0, Value::Number(5))]);
     assert_eq!(entry.value(DataType::Gpc1), None);

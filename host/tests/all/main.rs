@@ -11,4 +11,5 @@ mod opening;
 mod random;
 mod reading;
 mod texts;
+mod times;
 mod unsound;

@@ -157,6 +157,11 @@ fn of_an_update_with_a_string() {
     state.accept(&[message(128, &joined(&fields))]);
     let fields: Vec<_> = key().into_iter().chain(values()).collect();
     each_field(&state, 129, &fields, None);
+    let time = || [bytes(&[0xFF; 4])];
+    let fields: Vec<_> = time().into_iter().chain(key()).chain(values()).collect();
+    each_field(&state, 134, &fields, None);
+    let fields: Vec<_> = id().into_iter().chain(fields).collect();
+    each_field(&state, 133, &fields, None);
 }
 
 #[test]
@@ -174,6 +179,9 @@ fn of_an_update_with_another_key() {
         each_field(&state, 128, &fields, None);
         state.accept(&[update(9, &key, &[5])]);
         each_field(&state, 129, &fields[1..], None);
+        let fields = [bytes(&[0, 0, 0, 9]), bytes(&[0; 4]), bytes(&key), word(5)];
+        each_field(&state, 133, &fields, None);
+        each_field(&state, 134, &fields[1..], None);
     }
 }
 
@@ -182,7 +190,7 @@ fn of_a_switch_and_an_acknowledgement() {
     let mut state = State::established();
     state.accept(&[define(300, b"t", KeyType::Integer, 4, 0, &[])]);
     each_field(&state, 131, &[word(300)], None);
-    each_field(&state, 133, &[word(300), bytes(&[0, 0, 1, 0])], None);
+    each_field(&state, 132, &[word(300), bytes(&[0, 0, 1, 0])], None);
 }
 
 /// It is counted from the body's first byte, whatever pieces the message comes in and whatever came before.

@@ -63,7 +63,7 @@ fn piece(random: &mut Random) -> Vec<u8> {
     }
 }
 
-/// One call, whose piece and room stand between bytes that must stay.
+/// One reading call, and one that passes time. The piece and room stand between bytes that must stay.
 fn call(random: &mut Random, state: &mut State) {
     const EDGE: usize = 64;
     let before = state.clone();
@@ -85,6 +85,9 @@ fn call(random: &mut Random, state: &mut State) {
         assert_eq!((taken, reply_len), (0, 0));
         assert!(*state == before, "a refused call changed something");
     }
+    // the helper looks at what is left
+    let passed = state.pass(random.next() as u32);
+    assert!(matches!(passed, Ok(()) | Err(Refusal::Unsound)));
 }
 
 #[test]

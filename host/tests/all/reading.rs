@@ -46,7 +46,7 @@ fn switch_acknowledgement_skipped() {
     );
     assert_eq!(state.session.current(), Some(0));
     let acknowledgement = [int(300), vec![0, 0, 1, 0]].concat();
-    let told = state.offer(&message(133, &acknowledgement));
+    let told = state.offer(&message(132, &acknowledgement));
     assert_eq!(
         told[0].0,
         Answer::Acknowledgement {

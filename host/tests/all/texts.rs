@@ -80,7 +80,7 @@ fn an_entry_shows_its_key_and_present_values() {
         update(1, &[0, 0, 0, 42], &[5, 1, 2, 3]),
     ]);
     let entry = state.store.entry(0).unwrap();
-    let expected = "Entry { place: 0, table: t, key: [00, 00, 00, 2A], \
+    let expected = "Entry { place: 0, table: t, key: [00, 00, 00, 2A], remaining: Some(60s), \
         values: {gpc0: Number(5), gpc0_rate: Rate { elapsed: 1, current: 2, previous: 3 }} }";
     assert_eq!(format!("{entry:?}"), expected);
     let expected = "Table { place: 0, name: t, key_type: Some(Integer), key_len: 4, \

@@ -1,5 +1,5 @@
 //! Each kind of fault of a record or a store, one at a time, and what stands next to it on the other side of its boundary.
-//! A fault is refused with 4; a call on either side that takes nothing leaves every byte as it was.
+//! A fault is refused with 4; a call on either side that takes nothing leaves every byte as it was. Passing time looks at the store alone.
 
 use crate::common::{define, message, refused, update, State, KEY_LENGTHS, PLAIN};
 use peers::layout::{Entry, Session, Store, Table};
@@ -92,12 +92,28 @@ fn answer(base: &State, change: Change, piece: &[u8]) -> Answer {
     answer
 }
 
+/// Passes some times after a change. The store alone decides, so the answer is that of a reading call with a new record.
+fn pass(base: &State, change: Change) -> Result<(), Refusal> {
+    let mut state = base.clone();
+    change(state.session.layout_mut(), state.store.layout_mut());
+    state.session = State::answerer().session;
+    let expected = match state.clone().call(b"").1 .0 {
+        Answer::More => Ok(()),
+        _ => Err(Refusal::Unsound),
+    };
+    for time in [0, 7, u32::MAX] {
+        assert_eq!(state.clone().pass(time), expected);
+    }
+    expected
+}
+
 /// Changes after which record and store are sound.
 fn sound(base: &State, changes: &[Change]) {
     for (n, change) in changes.iter().enumerate() {
         let answer = answer(base, *change, b"");
         let expected = [Answer::More, refused(Refusal::Closed)];
         assert!(expected.contains(&answer), "sound change {n}: {answer:?}");
+        assert_eq!(pass(base, *change), Ok(()), "sound change {n}");
     }
 }
 
@@ -109,6 +125,7 @@ fn faults(base: &State, changes: &[Change]) {
             let answer = answer(base, *change, piece);
             assert_eq!(answer, refused(Refusal::Unsound), "fault {n}");
         }
+        _ = pass(base, *change);
     }
 }
 
@@ -310,6 +327,8 @@ fn garbage_entry(held: u32) -> Entry {
     Entry {
         held,
         server_id: -1,
+        timed: 7,
+        remaining: 7,
         table: usize::MAX,
         key_len: usize::MAX,
         key: [0xFF; 64],
@@ -426,6 +445,46 @@ fn key_bytes_past_the_length() {
             |_, t| t.entries[2].key[2] = 1,
             |_, t| t.entries[2].key[63] = 1,
             |_, t| t.entries[4].key[16] = 255,
+        ],
+    );
+}
+
+#[test]
+fn time_mark_of_an_entry() {
+    sound(
+        &eight_tables(),
+        &[
+            |_, t| t.entries[0].timed = 0,
+            |_, t| t.entries[0].timed = 1,
+            |_, t| (t.entries[0].timed, t.entries[0].remaining) = (1, 7),
+            |_, t| (t.entries[6].timed, t.entries[6].remaining) = (1, u32::MAX),
+            // without a mark the number isn't looked at
+            |_, t| t.entries[0].remaining = 7,
+            |_, t| t.entries[6].remaining = u32::MAX,
+            // nor is a free place
+            |_, t| t.entries[7].timed = 2,
+            |_, t| (t.entries[127].timed, t.entries[127].remaining) = (u32::MAX, u32::MAX),
+            |_, t| (t.entries[7].timed, t.entries[7].remaining) = (1, 7),
+            |_, t| (t.entries[0].timed, t.entries[0].held) = (2, 0),
+        ],
+    );
+    faults(
+        &eight_tables(),
+        &[
+            |_, t| t.entries[0].timed = 2,
+            |_, t| t.entries[6].timed = 2,
+            |_, t| (t.entries[0].timed, t.entries[0].remaining) = (2, u32::MAX),
+            |_, t| t.entries[0].timed = 256,
+            |_, t| t.entries[3].timed = 257,
+            |_, t| t.entries[5].timed = 1 << 31,
+            |_, t| t.entries[6].timed = u32::MAX,
+        ],
+    );
+    faults(
+        &full(),
+        &[
+            |_, t| t.entries[0].timed = 2,
+            |_, t| t.entries[127].timed = 3,
         ],
     );
 }
@@ -830,6 +889,8 @@ fn methods_on_what_is_not_sound() {
     let mut state = eight_tables();
     state.store.layout_mut().tables[0].key_type = 256 + 2;
     assert_eq!(state.store.table(0).unwrap().key_type(), None);
+    (0..2).for_each(|entry| state.store.layout_mut().entries[entry].timed = 2);
+    assert!(state.store.entries().all(|e| e.remaining().is_none()));
     let record = state.session.layout_mut();
     (record.connection.closed, record.connection.number) = (1, 256 + 10);
     (record.connection.current, record.len) = (u32::MAX, usize::MAX);

@@ -2,6 +2,7 @@
 
 mod definitions;
 mod scripts;
+mod times;
 
 use crate::generate::{capture, script};
 use crate::listing::listing;
@@ -13,30 +14,30 @@ use std::path::Path;
 pub const SEED: u64 = 1;
 
 /// The number of streams of the generated script.
-pub const COUNT: u64 = 1600;
+pub const COUNT: u64 = 1200;
 
 /// Captures made by the generator: the number that closes them and the seed.
 pub const CLOSED: [(u8, u64); 16] = [
-    (0, 2734),
-    (10, 236),
+    (0, 646),
+    (10, 2092),
     (11, 534),
     (12, 2082),
-    (13, 731),
-    (20, 1453),
-    (21, 784),
-    (22, 571),
-    (23, 2630),
+    (13, 2114),
+    (20, 2264),
+    (21, 2849),
+    (22, 1173),
+    (23, 1443),
     (24, 1124),
-    (25, 815),
-    (26, 1762),
-    (27, 1998),
-    (28, 1005),
+    (25, 1872),
+    (26, 1522),
+    (27, 1576),
+    (28, 811),
     (29, 80),
-    (30, 830),
+    (30, 2406),
 ];
 
 /// The seed of a long capture that stays open.
-const LONG: u64 = 153;
+const LONG: u64 = 732;
 
 /// A file with its name.
 pub struct File {

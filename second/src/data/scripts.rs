@@ -1,6 +1,6 @@
 //! Scripts that go through the limits one by one.
 
-use super::definitions;
+use super::{definitions, times};
 use crate::datatype;
 use crate::generate::values::Shape;
 use crate::generate::wire::{self, table_message, Field, Message};
@@ -38,22 +38,25 @@ pub fn all() -> Vec<(&'static str, Vec<u8>)> {
         ("statuses", statuses()),
         ("limits", limits()),
         ("full", full()),
+        ("times", times::times()),
     ];
     list.extend(ends());
     list
 }
 
 /// Scripts that end early, with their names.
-fn ends() -> [(&'static str, Vec<u8>); 9] {
+fn ends() -> [(&'static str, Vec<u8>); 11] {
     [
         ("end-empty", b"".to_vec()),
         ("end-unknown", b"O\0XD".to_vec()),
         ("end-reconnection-first", b"N\0O\0".to_vec()),
         ("end-call-first", b"C\x0C\0\0O\0".to_vec()),
         ("end-dump-first", b"DO\0".to_vec()),
+        ("end-time-first", b"T\0\0\0\0O\0".to_vec()),
         ("end-cut-open", b"O\0O".to_vec()),
         ("end-cut-reconnection", b"O\x01N".to_vec()),
         ("end-cut-call", b"O\0C\x0C\0".to_vec()),
+        ("end-cut-time", b"O\0T\0\0\0\x01T\0\0\0".to_vec()),
         ("end-cut-piece", b"O\0C\x0C\0\x05HAPr".to_vec()),
     ]
 }
@@ -241,20 +244,23 @@ fn field_messages() -> Vec<(Vec<Vec<u8>>, Message)> {
         let update = wire::update(Some(u32::MAX), b"k", shape, &values);
         list.push((vec![definition], update));
     }
-    list.push(incremental(STRING, b"key", &[0, 2, 3, 13]));
-    list.push(incremental(IPV4, b"\x01\x02\x03\x04", &[18]));
+    list.extend(other_forms(STRING, b"key", &[0, 2, 3, 13]));
+    list.extend(other_forms(IPV4, b"\x01\x02\x03\x04", &[18]));
     list
 }
 
-/// An incremental update with these data types, and what goes before it.
-fn incremental(key_type: u64, key: &[u8], data_types: &[u32]) -> (Vec<Vec<u8>>, Message) {
+/// Updates of the other forms with these data types, and what goes before
+/// each.
+fn other_forms(key_type: u64, key: &[u8], data_types: &[u32]) -> [(Vec<Vec<u8>>, Message); 3] {
     let bits = data_types.iter().map(|&number| datatype::bit(number));
     let shape = shape(key_type, key.len() as u64, bits.sum());
     let values = vec![240; datatype::values(shape.data_types).len()];
     let definition = wire::definition(1, b"i", shape, None);
     let update = |id| wire::update(id, key, shape, &values);
     let before = vec![definition.bytes(), update(Some(9)).bytes()];
-    (before, update(None))
+    let timed = update(Some(9)).timed(u32::MAX);
+    let messages = [update(None), update(None).timed(60_000), timed];
+    messages.map(|message| (before.clone(), message))
 }
 
 /// A shape.
@@ -271,7 +277,7 @@ fn headers() -> Vec<u8> {
     let mut script = Script::default();
     let classes = [0, 1, 2, 9, 10, 11, 127, 128, 254, 255];
     let kinds = [
-        0, 1, 2, 3, 4, 5, 6, 16, 127, 128, 129, 130, 131, 132, 133, 134, 254, 255,
+        0, 1, 2, 3, 4, 5, 6, 16, 127, 128, 129, 130, 131, 132, 133, 134, 135, 136, 254, 255,
     ];
     for class in classes {
         for kind in kinds {
@@ -392,7 +398,7 @@ fn limits() -> Vec<u8> {
         long_message(&mut script, &message);
     }
     longest_update(&mut script);
-    for kind in 128..=134 {
+    for kind in 128..=135 {
         script.open();
         script.pieces(&[&[0x0A, kind, 0xF1], &[0x31, 0x00]]);
         overflowing_length(&mut script, kind);
@@ -402,12 +408,13 @@ fn limits() -> Vec<u8> {
 
 /// Messages with a body of 1,024 bytes; all but the first need its table.
 fn longest_messages() -> Vec<Vec<u8>> {
-    let starts: [(u8, &[u8]); 6] = [
+    let starts: [(u8, &[u8]); 7] = [
         (0x82, &EXAMPLE[3..13]),
         (0x80, &EXAMPLE[16..27]),
+        (0x85, &[0, 0, 0, 9, 0, 0, 0, 5, 0, 0, 0, 0x2A, 7]),
         (0x83, &[1]),
-        (0x85, &[0xF0, 0x00, 1, 2, 3, 4]),
-        (0x84, &[]),
+        (0x84, &[0xF0, 0x00, 1, 2, 3, 4]),
+        (0x87, &[]),
         (0xFF, &[]),
     ];
     let long = |(kind, start): (u8, &[u8])| {
@@ -515,8 +522,10 @@ fn full_endings() -> Vec<(usize, Vec<u8>)> {
         let held = wire::definition(9, b"c", full_shape(), None);
         let disagreeing = wire::definition(9, b"c", shape(BINARY, 2, 1 << 2 | 1 << 4), None);
         let incremental = full_update(None, 200);
-        for message in [known, new, other, ninth, held, disagreeing, incremental] {
-            endings.extend(variants(&message).into_iter().map(|bytes| (place, bytes)));
+        let timed = [&known, &new, &incremental].map(|message| message.clone().timed(5));
+        let untimed = [known, new, other, ninth, held, disagreeing, incremental];
+        for message in untimed.iter().chain(&timed) {
+            endings.extend(variants(message).into_iter().map(|bytes| (place, bytes)));
         }
     }
     endings

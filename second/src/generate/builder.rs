@@ -7,6 +7,7 @@ use super::faults::fault;
 use super::greetings::greeting;
 use super::profile::{Operation, Profile};
 use super::random::Random;
+use super::times;
 use super::values::{self, shape, table_id, table_name, update_id, Shape};
 use super::wire::{self, table_message, Message};
 use crate::datatype::{self, MAX_32};
@@ -23,20 +24,29 @@ pub struct Builder<'a> {
     /// The store after the bytes so far.
     pub store: Store,
     profile: &'a Profile,
-    bytes: Vec<u8>,
+    built: Built,
 }
 
-/// The bytes of one session that starts from this record and store.
-pub fn session(random: &mut Random, profile: &Profile, record: &Record, store: &Store) -> Vec<u8> {
+/// A session as it's built.
+#[derive(Clone, Debug, Default)]
+pub struct Built {
+    /// The bytes.
+    pub bytes: Vec<u8>,
+    /// The times that pass, each with the number of bytes before it.
+    pub passes: Vec<(usize, u32)>,
+}
+
+/// Builds one session that starts from this record and store.
+pub fn session(random: &mut Random, profile: &Profile, record: &Record, store: &Store) -> Built {
     let mut builder = Builder {
         random,
         record: record.clone(),
         store: store.clone(),
         profile,
-        bytes: Vec::new(),
+        built: Built::default(),
     };
     builder.run();
-    builder.bytes
+    builder.built
 }
 
 impl Builder<'_> {
@@ -47,8 +57,10 @@ impl Builder<'_> {
             if self.record.is_closed() {
                 break;
             }
+            self.pass();
             self.step();
         }
+        self.pass();
         self.finish();
         self.trail();
     }
@@ -58,7 +70,16 @@ impl Builder<'_> {
         for &byte in bytes {
             feed(&mut self.record, &mut self.store, byte);
         }
-        self.bytes.extend_from_slice(bytes);
+        self.built.bytes.extend_from_slice(bytes);
+    }
+
+    /// Sometimes passes time.
+    fn pass(&mut self) {
+        if self.random.chance(self.profile.passes) {
+            let time = times::passing(self.random, &self.store);
+            self.store.pass(time);
+            self.built.passes.push((self.built.bytes.len(), time));
+        }
     }
 
     /// Adds bytes, sometimes damaged.
@@ -121,8 +142,8 @@ impl Builder<'_> {
 
     /// A message of an unknown type.
     fn skipped(&mut self) -> Vec<u8> {
-        let any = self.random.within(134..=255) as u8;
-        let kind = self.random.pick(&[132, 132, 134, 255, any]);
+        let any = self.random.within(136..=255) as u8;
+        let kind = self.random.pick(&[135, 135, 136, 255, any]);
         let length = match self.random.below(60) {
             0 => self.random.pick(&[239, 240, 1023, 1024]),
             _ => self.random.below(10),
@@ -286,12 +307,16 @@ impl Builder<'_> {
         self.update_with(id, &key, shape)
     }
 
-    /// An update with a key and any values.
+    /// An update with a key and any values, timed or not.
     pub fn update_with(&mut self, id: Option<u32>, key: &[u8], shape: Shape) -> Message {
         let types = datatype::values(shape.data_types);
         let values = types.iter().map(|&n| values::value(self.random, n));
         let values: Vec<u64> = values.collect();
-        wire::update(id, key, shape, &values)
+        let message = wire::update(id, key, shape, &values);
+        match self.random.chance(self.profile.timed) {
+            true => message.timed(times::remaining(self.random, &self.store)),
+            false => message,
+        }
     }
 
     /// A new key while the store isn't full, or a held one.

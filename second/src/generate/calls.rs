@@ -1,7 +1,9 @@
 //! Divides the bytes of a session into the calls of a script.
 
+use super::builder::Built;
 use super::profile::Profile;
 use super::random::Random;
+use super::times;
 use crate::answer::{Answer, Outcome};
 use crate::call::read;
 use crate::record::{Record, Role};
@@ -93,18 +95,51 @@ impl Script {
         Command::Dump.write(&mut self.bytes);
     }
 
-    /// Adds the calls that bring the bytes of a session.
-    pub fn send(&mut self, random: &mut Random, profile: &Profile, bytes: &[u8]) {
-        let style = Style::choose(random, bytes.len());
-        let mut rest = bytes;
+    /// Adds the calls that bring the bytes of a session and pass its times.
+    pub fn send(&mut self, random: &mut Random, profile: &Profile, built: &Built) {
+        let style = Style::choose(random, built.bytes.len());
+        let mut rest = &built.bytes[..];
+        let mut passes = &built.passes[..];
         let mut refused = false;
         while !rest.is_empty() && !refused && !self.record.is_closed() {
+            passes = self.pass_due(random, passes, built.bytes.len() - rest.len());
             self.interrupt(random, profile, rest);
             let outcome = self.offer(random, style, rest);
             refused = matches!(outcome.answer, Answer::Refused(_));
             rest = &rest[outcome.taken..];
         }
+        self.pass_due(random, passes, built.bytes.len() - rest.len());
         self.afterwards(random, rest);
+    }
+
+    /// Passes the times that are due after some bytes and gives the others.
+    fn pass_due<'a>(
+        &mut self,
+        random: &mut Random,
+        passes: &'a [(usize, u32)],
+        taken: usize,
+    ) -> &'a [(usize, u32)] {
+        let due = passes.partition_point(|pass| pass.0 <= taken);
+        for pass in &passes[..due] {
+            self.pass(random, pass.1);
+        }
+        &passes[due..]
+    }
+
+    /// Adds a passing call, often with a dump.
+    fn pass(&mut self, random: &mut Random, milliseconds: u32) {
+        Command::Pass(milliseconds).write(&mut self.bytes);
+        self.store.pass(milliseconds);
+        let held = self.store.entries.iter().flatten().count();
+        if random.chance(250) && held < 20 {
+            self.dump();
+        }
+    }
+
+    /// Adds a passing call with any time.
+    pub fn pass_any(&mut self, random: &mut Random) {
+        let time = times::passing(random, &self.store);
+        self.pass(random, time);
     }
 
     /// Offers a piece.
@@ -132,7 +167,7 @@ impl Script {
         Command::Call { room, piece }.write(&mut self.bytes);
     }
 
-    /// Sometimes adds a refused call, an empty piece or a dump.
+    /// Sometimes adds a refused call, an empty piece, a passing call or a dump.
     fn interrupt(&mut self, random: &mut Random, profile: &Profile, rest: &[u8]) {
         if random.chance(25) {
             let count = random.below(12).min(rest.len());
@@ -142,12 +177,15 @@ impl Script {
             let room = good_room(random);
             self.idle(room, &[]);
         }
+        if random.chance(profile.passes / 10) {
+            self.pass_any(random);
+        }
         if random.chance(profile.dumps) {
             self.dump();
         }
     }
 
-    /// Sometimes adds calls after the session.
+    /// Sometimes adds calls after the session, passing ones too.
     fn afterwards(&mut self, random: &mut Random, rest: &[u8]) {
         if !self.record.is_closed() || random.chance(500) {
             return;
@@ -156,6 +194,9 @@ impl Script {
             let room = random.below(LARGEST_ROOM + 1) as u8;
             let count = random.below(rest.len().min(10) + 1);
             self.idle(room, &rest[..count]);
+        }
+        if random.chance(300) {
+            self.pass_any(random);
         }
     }
 

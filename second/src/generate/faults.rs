@@ -22,10 +22,14 @@ pub fn fault(builder: &mut Builder) -> Vec<u8> {
     header(builder)
 }
 
-/// A refusal number less 20; those of a full store go first.
+/// A refusal number less 20; those of a full store and of a session without
+/// current table go first.
 fn choose(builder: &mut Builder) -> usize {
-    if builder.store.free_entry().is_none() && builder.random.chance(400) {
+    if builder.store.free_entry().is_none() && builder.random.chance(700) {
         return 9;
+    }
+    if builder.record.current.is_none() && builder.random.chance(150) {
+        return 7;
     }
     if builder.store.free_table().is_none() && builder.random.chance(500) {
         return builder.random.pick(&[6, 6, 6, 10]);
@@ -95,7 +99,7 @@ fn header(builder: &mut Builder) -> Vec<u8> {
 fn any_kind(builder: &mut Builder) -> u8 {
     builder
         .random
-        .pick(&[128, 129, 130, 131, 132, 133, 134, 255])
+        .pick(&[128, 129, 130, 131, 132, 133, 134, 135, 255])
 }
 
 /// A body length that overflows.
@@ -273,7 +277,7 @@ fn ninth_table(builder: &mut Builder) -> Option<Message> {
 
 /// An update without current table, or a switch to an unbound ID.
 fn unbound(builder: &mut Builder) -> Message {
-    if builder.record.current.is_none() && builder.random.chance(600) {
+    if builder.record.current.is_none() && builder.random.chance(800) {
         let shape = shape(builder.random, false);
         let id = update_id(builder.random);
         let id = Some(id).filter(|_| builder.random.chance(500));
@@ -319,6 +323,6 @@ fn no_room(builder: &mut Builder) -> Option<Message> {
     let (_, shape) = builder.table(place);
     let key = builder.new_key(place, shape);
     let id = Some(update_id(builder.random));
-    let id = id.filter(|_| builder.record.previous[place].is_none() || builder.random.chance(500));
+    let id = id.filter(|_| builder.record.previous[place].is_none() || builder.random.chance(300));
     Some(builder.update_with(id, &key, shape))
 }

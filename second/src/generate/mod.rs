@@ -6,6 +6,7 @@ pub mod faults;
 pub mod greetings;
 pub mod profile;
 pub mod random;
+pub mod times;
 pub mod values;
 pub mod wire;
 
@@ -44,14 +45,17 @@ pub fn stream(seed: u64) -> Vec<u8> {
 
 /// Adds one session to a script.
 fn one_session(random: &mut Random, profile: &Profile, script: &mut Script) {
-    let bytes = builder::session(random, profile, &script.record, &script.store);
-    script.send(random, profile, &bytes);
+    let built = builder::session(random, profile, &script.record, &script.store);
+    script.send(random, profile, &built);
 }
 
-/// Adds a reconnection, sometimes after a dump.
+/// Adds a reconnection, sometimes after a dump or some time.
 fn reconnect(random: &mut Random, script: &mut Script) {
     if random.chance(200) && !script.is_full() {
         script.dump();
+    }
+    if random.chance(150) {
+        script.pass_any(random);
     }
     script.reconnect(role(random));
 }
@@ -67,7 +71,9 @@ fn role(random: &mut Random) -> Role {
 /// The bytes of one answerer's session, for the listing.
 pub fn capture(seed: u64) -> Vec<u8> {
     let mut random = Random::new(seed ^ 0x5555_5555_5555_5555);
-    let profile = Profile::choose(&mut random);
+    let mut profile = Profile::choose(&mut random);
+    // Time can't pass in the listing.
+    profile.passes = 0;
     let (record, _) = session(Role::Answerer);
-    builder::session(&mut random, &profile, &record, &Store::new())
+    builder::session(&mut random, &profile, &record, &Store::new()).bytes
 }

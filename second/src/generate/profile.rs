@@ -61,16 +61,21 @@ pub struct Profile {
     pub reconnections: usize,
     /// The chance of a dump before a call.
     pub dumps: usize,
+    /// The chance that an update is timed.
+    pub timed: usize,
+    /// The chance that time passes before a message.
+    pub passes: usize,
 }
 
 impl Profile {
     /// One of the profiles.
     pub fn choose(random: &mut Random) -> Profile {
-        match random.weighted(&[340, 220, 200, 225, 15]) {
+        match random.weighted(&[310, 200, 190, 195, 90, 15]) {
             0 => Profile::handshakes(),
             1 => Profile::tables(),
             2 => Profile::values(),
             3 => Profile::mixed(),
+            4 => Profile::times(),
             _ => Profile::full(),
         }
     }
@@ -91,6 +96,8 @@ impl Profile {
             new_keys: 500,
             reconnections: 200,
             dumps: 15,
+            timed: 400,
+            passes: 60,
         }
     }
 
@@ -105,6 +112,8 @@ impl Profile {
             new_keys: 500,
             reconnections: 250,
             dumps: 8,
+            timed: 400,
+            passes: 50,
         }
     }
 
@@ -119,6 +128,8 @@ impl Profile {
             new_keys: 500,
             reconnections: 200,
             dumps: 8,
+            timed: 400,
+            passes: 60,
         }
     }
 
@@ -133,6 +144,24 @@ impl Profile {
             new_keys: 400,
             reconnections: 250,
             dumps: 8,
+            timed: 500,
+            passes: 100,
+        }
+    }
+
+    /// Many updates and much time.
+    fn times() -> Profile {
+        Profile {
+            weights: [12, 6, 1, 8, 40, 40, 1, 1, 1, 0],
+            steps: 4..=24,
+            damage: 5,
+            bad_greetings: 15,
+            wide: false,
+            new_keys: 650,
+            reconnections: 250,
+            dumps: 8,
+            timed: 600,
+            passes: 250,
         }
     }
 
@@ -140,13 +169,15 @@ impl Profile {
     fn full() -> Profile {
         Profile {
             weights: [30, 4, 4, 30, 500, 500, 4, 2, 2, 0],
-            steps: 130..=190,
+            steps: 140..=200,
             damage: 0,
             bad_greetings: 0,
             wide: false,
             new_keys: 930,
             reconnections: 300,
             dumps: 0,
+            timed: 450,
+            passes: 4,
         }
     }
 }

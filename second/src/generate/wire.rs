@@ -5,7 +5,8 @@ use super::values::Shape;
 use crate::datatype;
 use crate::frame::TABLE_CLASS;
 use crate::integer::encode;
-use crate::message::{ACKNOWLEDGEMENT, DEFINITION, INCREMENTAL, SWITCH, UPDATE};
+use crate::message::{ACKNOWLEDGEMENT, DEFINITION, SWITCH};
+use crate::message::{INCREMENTAL, TIMED, TIMED_INCREMENTAL, UPDATE};
 use crate::store::{Times, INTEGER, IPV4, IPV6, STRING};
 
 /// A field of a body.
@@ -173,6 +174,18 @@ impl Message {
             true => other.bytes(),
             false => other.up_to(place).bytes(),
         }
+    }
+
+    /// The timed form of an update, with this remaining time.
+    pub fn timed(mut self, remaining: u32) -> Message {
+        let (kind, place) = match self.kind {
+            UPDATE => (TIMED, 1),
+            _ => (TIMED_INCREMENTAL, 0),
+        };
+        self.kind = kind;
+        let time = Field::raw(&remaining.to_be_bytes());
+        self.fields.insert(place, time);
+        self
     }
 
     /// The message with no field behind this one.

@@ -4,7 +4,7 @@
 use crate::common::{refused_at, Session};
 use crate::walk::starts;
 use second::answer::Answer;
-use second::call::read;
+use second::call::{pass_time, read};
 use second::data::files;
 use second::generate::stream;
 use second::integer::{decode, Decoded};
@@ -15,7 +15,7 @@ use second::store::Store;
 use std::collections::BTreeSet;
 
 const SEED: u64 = 3_000_000;
-const COUNT: u64 = 10000;
+const COUNT: u64 = 20000;
 
 /// How a field fails.
 #[derive(Clone, Copy, Debug, PartialEq, Eq, PartialOrd, Ord)]
@@ -45,6 +45,7 @@ impl Seen {
                 Command::Open(role) => (record, store) = (session(role).0, Store::new()),
                 Command::Reconnect(role) => record = session(role).0,
                 Command::Call { room, piece } => self.call(&mut record, &mut store, room, piece),
+                Command::Pass(time) => assert_eq!(pass_time(&mut store, time), 0),
                 Command::Dump => {}
             }
             rest = after;
@@ -177,19 +178,21 @@ const ENTRY: &[&str] = &[
 ];
 
 /// The fields of each message.
-const FIELDS: [(u8, &[&[&str]]); 5] = [
+const FIELDS: [(u8, &[&[&str]]); 7] = [
     (128, &[&["update ID"], ENTRY]),
     (129, &[ENTRY]),
     (130, &[DEFINITION]),
     (131, &[&["table ID"]]),
-    (133, &[&["table ID", "update ID"]]),
+    (132, &[&["table ID", "update ID"]]),
+    (133, &[&["update ID", "remaining time"], ENTRY]),
+    (134, &[&["remaining time"], ENTRY]),
 ];
 
 /// The ways in which a field can fail.
 fn ways(name: &str) -> Vec<Way> {
     match name {
         "name" => vec![Way::Missing, Way::Cut, Way::NotPlain],
-        "key" | "string" | "update ID" => vec![Way::Missing, Way::Cut],
+        "key" | "string" | "update ID" | "remaining time" => vec![Way::Missing, Way::Cut],
         // A definition may end before it.
         "expiry" => vec![Way::Cut, Way::Range],
         _ => vec![Way::Missing, Way::Cut, Way::Range],

@@ -55,7 +55,7 @@ fn a_call_takes_one_message() {
         commit: Commit::New,
     };
     assert_eq!((outcome.taken, outcome.answer), (14, expected));
-    assert_eq!(reply, [10, 133, 5, 1, 255, 255, 255, 255]);
+    assert_eq!(reply, [10, 132, 5, 1, 255, 255, 255, 255]);
 }
 
 #[test]
@@ -83,7 +83,7 @@ fn the_longest_reply_fits_the_room() {
     let bytes = message(128, &update(1, b"kkkk", &[]));
     let (outcome, reply) = call(&mut session, &bytes, 12);
     assert_eq!(outcome.reply, 12);
-    let expected = [10, 133, 9, 0xFF, 0xF0, 0xFE, 0xFE, 0x7E, 0, 0, 0, 1];
+    let expected = [10, 132, 9, 0xFF, 0xF0, 0xFE, 0xFE, 0x7E, 0, 0, 0, 1];
     assert_eq!(reply, expected);
 }
 

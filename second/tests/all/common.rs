@@ -20,9 +20,9 @@ pub const EXAMPLE_LISTING: &str = "hello west 7 0
 reply 3230300A
 table 0 7431
 update 0 4294967295 0 new
-reply 0A850501FFFFFFFF
+reply 0A840501FFFFFFFF
 update 0 0 0 replaced
-reply 0A85050100000000
+reply 0A84050100000000
 finished
 reply 0003
 end open 0
@@ -176,6 +176,14 @@ pub fn timed(id: u64, name: &[u8], shape: [u64; 3], times: &[u64]) -> Vec<u8> {
 /// The body of an update.
 pub fn update(id: u32, key: &[u8], values: &[u64]) -> Vec<u8> {
     let mut body = id.to_be_bytes().to_vec();
+    body.extend_from_slice(key);
+    body.extend(encoded(values));
+    body
+}
+
+/// The body of a timed update.
+pub fn timed_update(id: u32, time: u32, key: &[u8], values: &[u64]) -> Vec<u8> {
+    let mut body = update(id, &time.to_be_bytes(), &[]);
     body.extend_from_slice(key);
     body.extend(encoded(values));
     body

@@ -1,7 +1,8 @@
 //! What the generated streams reach.
 
+use crate::passing::{self, Passing, Times};
 use second::answer::{Answer, Commit, Outcome};
-use second::call::read;
+use second::call::{pass_time, read};
 use second::datatype;
 use second::generate::values::EDGES;
 use second::generate::{capture, script, stream};
@@ -14,13 +15,14 @@ use second::store::{Store, ENTRIES, TABLES};
 use std::collections::{BTreeMap, BTreeSet};
 
 const SEED: u64 = 1_000_000;
-const COUNT: u64 = 5000;
+const COUNT: u64 = 7000;
 
 /// What the calls of some streams showed.
 #[derive(Default)]
 struct Seen {
     answers: BTreeMap<&'static str, u32>,
     refusals: BTreeMap<u8, u32>,
+    refused_types: BTreeMap<(u8, u8), u32>,
     tables: usize,
     entries: usize,
     incremental: u32,
@@ -47,6 +49,7 @@ struct Seen {
     longest_piece: usize,
     unfinished: BTreeMap<(u8, u8), BTreeSet<usize>>,
     handshakes: BTreeMap<u8, BTreeSet<usize>>,
+    passing: Passing,
 }
 
 /// The name of an answer.
@@ -99,6 +102,7 @@ const NAMES: [&str; 18] = [
 struct Step<'a> {
     before: &'a Record,
     times_before: usize,
+    remaining_before: &'a Times,
     piece: &'a [u8],
     outcome: Outcome,
     record: &'a Record,
@@ -113,12 +117,19 @@ impl Seen {
         let mut rest = script;
         while let Some((command, after)) = command(rest) {
             match command {
-                Command::Open(role) => (record, store) = (session(role).0, Store::new()),
+                Command::Open(role) => {
+                    (record, store) = (session(role).0, Store::new());
+                    self.passing.open();
+                }
                 Command::Reconnect(role) => {
                     record = session(role).0;
                     self.reconnections += 1;
                 }
                 Command::Call { room, piece } => self.call(&mut record, &mut store, room, piece),
+                Command::Pass(time) => {
+                    self.passing.pass(&record, &store, time);
+                    assert_eq!(pass_time(&mut store, time), 0);
+                }
                 Command::Dump => {}
             }
             rest = after;
@@ -130,6 +141,7 @@ impl Seen {
     fn call(&mut self, record: &mut Record, store: &mut Store, room: u8, piece: &[u8]) {
         let before = record.clone();
         let times_before = times(store);
+        let remaining_before = passing::times(store);
         let outcome = read(record, store, piece, &mut vec![0; usize::from(room)]);
         self.rooms.insert(room);
         self.empty_pieces += u32::from(piece.is_empty());
@@ -138,6 +150,7 @@ impl Seen {
         self.look(&Step {
             before: &before,
             times_before,
+            remaining_before: &remaining_before,
             piece,
             outcome,
             record,
@@ -165,6 +178,9 @@ impl Seen {
         let taken = &step.piece[..step.outcome.taken];
         let message = [&step.before.unfinished[..], taken].concat();
         assert_eq!(refusal.offset.is_some(), matches!(number, 23 | 24 | 30));
+        if let [10, kind, ..] = message[..] {
+            *self.refused_types.entry((number, kind)).or_default() += 1;
+        }
         match (number, &message[..]) {
             (24, [10, 130, rest @ ..]) => drop(self.refused_key(rest)),
             (30, [10, 130, rest @ ..]) => self.refused_name(rest).unwrap(),
@@ -220,7 +236,7 @@ impl Seen {
     /// Looks at an accepted update.
     fn update(&mut self, step: &Step, table: usize, id: u32, entry: usize) {
         let message = [&step.before.unfinished, step.piece].concat();
-        let incremental = message[1] == 129;
+        let incremental = matches!(message[1], 129 | 134);
         let previous = step.before.previous[table];
         self.incremental += u32::from(incremental);
         let wrapped = incremental && previous == Some(u64::from(u32::MAX)) && id == 0;
@@ -229,7 +245,11 @@ impl Seen {
             .entries
             .max(step.store.entries.iter().flatten().count());
         let held = step.store.table(table).unwrap();
-        let entry = step.store.entries[entry].as_ref().unwrap();
+        let place = entry;
+        let entry = step.store.entries[place].as_ref().unwrap();
+        let before = step.remaining_before;
+        self.passing
+            .update(message[1], before, place, entry.remaining);
         self.key_types.insert(held.key_type);
         self.key_lengths.insert(entry.key_length);
         self.data_types.extend(datatype::present(held.data_types));
@@ -309,6 +329,8 @@ fn the_streams_reach_all_rules() {
     reaches_all_values(&seen);
     reaches_all_bad_keys(&seen);
     reaches_all_name_bytes(&seen);
+    reaches_all_update_refusals(&seen);
+    seen.passing.reaches_all();
     reaches_all_divisions(&seen);
 }
 
@@ -353,6 +375,20 @@ fn reaches_all_name_bytes(seen: &Seen) {
     assert!(seen.not_plain_at_the_end >= 10 && seen.not_plain_on_full >= 3);
 }
 
+/// Updates of all forms are refused with all numbers that they can have.
+fn reaches_all_update_refusals(seen: &Seen) {
+    for kind in [128, 129, 133, 134] {
+        for number in [23, 24, 27, 29] {
+            assert!(
+                seen.refused_types.contains_key(&(number, kind)),
+                "{number} {kind}"
+            );
+        }
+    }
+    assert!(seen.refused_types.contains_key(&(28, 129)));
+    assert!(seen.refused_types.contains_key(&(28, 134)));
+}
+
 /// Pieces end after every byte of short messages, in all rooms.
 fn reaches_all_divisions(seen: &Seen) {
     assert!((0..=40).all(|room| seen.rooms.contains(&room)));
@@ -364,8 +400,10 @@ fn reaches_all_divisions(seen: &Seen) {
         (129, 40),
         (130, 40),
         (131, 4),
-        (132, 7),
-        (133, 8),
+        (132, 8),
+        (133, 40),
+        (134, 40),
+        (135, 7),
     ];
     for (kind, longest) in kinds {
         let counts = &seen.unfinished[&(10, kind)];

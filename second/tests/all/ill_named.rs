@@ -1,6 +1,6 @@
 //! What the generated streams reach of names that aren't plain.
 
-use second::call::read;
+use second::call::{pass_time, read};
 use second::generate::stream;
 use second::integer::{decode, Decoded};
 use second::model::feed;
@@ -38,6 +38,7 @@ impl Seen {
                 Command::Open(role) => (record, store) = (session(role).0, Store::new()),
                 Command::Reconnect(role) => record = session(role).0,
                 Command::Call { room, piece } => self.call(&mut record, &mut store, room, piece),
+                Command::Pass(time) => assert_eq!(pass_time(&mut store, time), 0),
                 Command::Dump => {}
             }
             rest = after;

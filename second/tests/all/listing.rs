@@ -1,6 +1,8 @@
 //! The listing.
 
-use crate::common::{definition, message, timed, update, EXAMPLE, EXAMPLE_LISTING, HELLO};
+use crate::common::{
+    definition, message, timed, timed_update, update, EXAMPLE, EXAMPLE_LISTING, HELLO,
+};
 use second::listing::{hex, list, listing, Listing};
 use std::io::Read;
 
@@ -78,9 +80,11 @@ fn other_lines() {
     input.extend(message(130, &definition(300, b"z:", [2, 4, 0])));
     input.extend(message(130, &timed(2, b"b", [2, 4, 0], &[1])));
     input.extend(message(131, &[0xFC, 3]));
-    input.extend(message(133, &[9, 0xFF, 0xFF, 0xFF, 0xFE]));
-    input.extend(message(132, &[]));
+    input.extend(message(132, &[9, 0xFF, 0xFF, 0xFF, 0xFE]));
+    input.extend(message(135, &[]));
     input.extend(message(128, &update(77, b"kkkk", &[])));
+    input.extend(message(133, &timed_update(79, 5, b"kkkk", &[])));
+    input.extend(message(134, b"\0\0\0\0llll"));
     input.extend(message(131, &[9]));
     let expected = "hello west 7 0
 reply 3230300A
@@ -93,9 +97,13 @@ table 0 7A3A
 table 1 62
 switch 0
 ack 9 4294967294
-skipped 132
+skipped 135
 update 0 77 0 new
-reply 0A8506FC030000004D
+reply 0A8406FC030000004D
+update 0 79 0 replaced
+reply 0A8406FC030000004F
+update 0 80 1 new
+reply 0A8406FC0300000050
 refused 27
 reply 0100
 end closed 27

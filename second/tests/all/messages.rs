@@ -105,7 +105,7 @@ fn a_length_overflow_is_refused_at_its_tenth_byte() {
 
 #[test]
 fn other_types_are_skipped_by_length() {
-    let kinds = (128..=255).filter(|kind| !matches!(kind, 128..=131 | 133));
+    let kinds = (128..=255).filter(|kind| !matches!(kind, 128..=134));
     for kind in kinds {
         for length in [0, 1, 239, 240, 1024] {
             let mut session = Session::open();
@@ -143,12 +143,12 @@ fn acknowledgements() {
         let mut session = Session::open();
         let before = session.clone();
         let body = [&encode(u64::from(id))[..], &update_bytes(update)].concat();
-        let response = session.respond(&message(133, &body));
+        let response = session.respond(&message(132, &body));
         assert_eq!(response.answer, Answer::Acknowledged { id, update });
         assert_eq!(response.reply, []);
         assert_eq!(session, before);
         let longer = [&body[..], &[9; 20]].concat();
-        let answer = session.one(133, &longer);
+        let answer = session.one(132, &longer);
         assert_eq!(answer, Answer::Acknowledged { id, update });
     }
 }
@@ -160,21 +160,21 @@ fn update_bytes(update: u32) -> [u8; 4] {
 #[test]
 fn faulty_acknowledgements() {
     let session = Session::open();
-    assert_eq!(session.would(133, &[]), refused_at(23, 0));
-    assert_eq!(session.would(133, &[0xF0]), refused_at(23, 0));
-    assert_eq!(session.would(133, &[1]), refused_at(23, 1));
-    assert_eq!(session.would(133, &[1, 0, 0, 0]), refused_at(23, 1));
+    assert_eq!(session.would(132, &[]), refused_at(23, 0));
+    assert_eq!(session.would(132, &[0xF0]), refused_at(23, 0));
+    assert_eq!(session.would(132, &[1]), refused_at(23, 1));
+    assert_eq!(session.would(132, &[1, 0, 0, 0]), refused_at(23, 1));
     let over = [&encode(1 << 32)[..], &[0, 0, 0, 0]].concat();
-    assert_eq!(session.would(133, &over), refused_at(24, 0));
-    assert_eq!(session.would(133, &encode(1 << 32)), refused_at(24, 0));
-    assert_eq!(session.would(133, &[0xFF; 10]), refused_at(24, 0));
-    assert_eq!(session.would(133, &[0xFF; 9]), refused_at(23, 0));
+    assert_eq!(session.would(132, &over), refused_at(24, 0));
+    assert_eq!(session.would(132, &encode(1 << 32)), refused_at(24, 0));
+    assert_eq!(session.would(132, &[0xFF; 10]), refused_at(24, 0));
+    assert_eq!(session.would(132, &[0xFF; 9]), refused_at(23, 0));
 }
 
 #[test]
 fn ignored_bytes_are_no_header() {
     let mut session = Session::open();
-    let mut bytes = message(133, &[1, 0, 0, 0, 2, 0x00, 0x01]);
+    let mut bytes = message(132, &[1, 0, 0, 0, 2, 0x00, 0x01]);
     bytes.extend([0, 4]);
     let responses = session.send(&bytes);
     let answers: Vec<Answer> = responses.iter().map(|(_, r)| r.answer).collect();

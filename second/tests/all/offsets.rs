@@ -90,7 +90,7 @@ fn switches_and_acknowledgements() {
     let session = Session::with_tables(&[&table]);
     check(&session, 131, &[integer_32(300)], &[]);
     for id in [1, 300, 4294967295] {
-        check(&session, 133, &[integer_32(id), raw(&[0; 4])], &[]);
+        check(&session, 132, &[integer_32(id), raw(&[0; 4])], &[]);
     }
 }
 

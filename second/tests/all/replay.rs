@@ -34,6 +34,7 @@ fn commands_as_bytes() {
             room: 12,
             piece: &long,
         },
+        Command::Pass(0x01020304),
         Command::Dump,
     ];
     for original in commands {
@@ -69,13 +70,14 @@ fn scripts_that_end() {
         b"X",
         b"N\0",
         b"D",
+        b"T\0\0\0\0",
         b"C\x0C\0\0",
         b"\0",
         b"o\0",
     ] {
         assert_eq!(text(script), "end\n");
     }
-    let cut: [&[u8]; 8] = [
+    let cut: [&[u8]; 11] = [
         b"",
         b"C",
         b"C\x0C",
@@ -84,6 +86,9 @@ fn scripts_that_end() {
         b"N",
         b"O",
         b"d",
+        b"T",
+        b"T\0\0\0",
+        b"t\0\0\0\0",
     ];
     for end in cut {
         let script = [b"O\0", end].concat();
@@ -148,8 +153,9 @@ fn a_dump_with_all_lines() {
         message(128, &update(5, &[0, 0, 0, 42], &[u64::MAX, u64::MAX])),
         message(130, &timed(1, b"b", [6, 8, rates], &[7, 3, 8, 5, 9])),
         message(128, &[0, 0, 0, 9, 0, 1, 2, 3, 4, 5, 6]),
-        message(129, &[2, b'A', b'B', 1, 2, 3, 4, 5, 6]),
+        message(134, &[0, 0, 0, 0, 2, b'A', b'B', 1, 2, 3, 4, 5, 6]),
         message(130, &definition(4, b"c", [7, 2, 0])),
+        message(128, &[0, 0, 0, 8, 1, 2]),
         vec![10, 128, 5, 0xAB],
     ];
     let mut script = open();
@@ -165,12 +171,14 @@ previous 0 5
 bound 1 1
 previous 1 10
 bound 2 4
+previous 2 8
 table 0 61 2 4 8193 60000
 table 1 62 6 8 40 7 8 9
 table 2 63 7 2 0 -
-entry 0 0 0000002A -1 18446744073709551615
-entry 1 1 - 1 2 3 4 5 6
-entry 2 1 4142 1 2 3 4 5 6
+entry 0 0 0000002A T60000 -1 18446744073709551615
+entry 1 1 - T7 1 2 3 4 5 6
+entry 2 1 4142 T0 1 2 3 4 5 6
+entry 3 2 0102 -
 end
 ";
     assert_eq!(last_dump(&script), expected);
@@ -189,7 +197,7 @@ current 0
 bound 0 1
 previous 0 4294967295
 table 0 7431 2 4 4 60000
-entry 0 0 0000002A 4660
+entry 0 0 0000002A T60000 4660
 end
 ";
     assert_eq!(last_dump(&script), expected);
@@ -206,11 +214,46 @@ fn a_reconnection_keeps_the_store() {
 unfinished -
 current -
 table 0 7431 2 4 4 60000
-entry 0 0 0000002A 4660
+entry 0 0 0000002A T60000 4660
 end
 ";
     assert_eq!(last_dump(&script), expected);
     script.extend(b"O\0D");
     let expected = "session handshake\nunfinished -\ncurrent -\nend\n";
     assert_eq!(last_dump(&script), expected);
+}
+
+#[test]
+fn passing_time() {
+    let mut script = open();
+    for piece in [&EXAMPLE[27..40], &EXAMPLE[40..54]] {
+        script.extend(call(12, piece));
+    }
+    let dump = |time: u32| {
+        let pass = [&b"T"[..], &time.to_be_bytes(), b"D"].concat();
+        let output = text(&[&script[..], &pass].concat());
+        let passed = output.rfind("passed ").unwrap();
+        output[passed..].to_owned()
+    };
+    let rest = "session open\nunfinished -\ncurrent 0\nbound 0 1\nprevious 0 4294967295\n\
+        table 0 7431 2 4 4 60000\n";
+    let expected = format!("passed 0\n{rest}entry 0 0 0000002A T1 4660\nend\n");
+    assert_eq!(dump(59_999), expected);
+    for time in [60_000, 60_001, u32::MAX] {
+        assert_eq!(dump(time), format!("passed 0\n{rest}end\n"));
+    }
+}
+
+#[test]
+fn time_passes_in_every_phase() {
+    let expected = "open\npassed 0\nend\n";
+    assert_eq!(text(b"O\0T\0\0\0\x01"), expected);
+    let mut script = open();
+    for piece in [&EXAMPLE[27..40], &EXAMPLE[40..54], &[0, 5]] {
+        script.extend(call(12, piece));
+    }
+    script.extend(b"T\0\0\0\x03D");
+    assert!(last_dump(&script).contains("\nentry 0 0 0000002A T59997 4660\n"));
+    script.extend(b"N\0T\0\0\0\x03D");
+    assert!(last_dump(&script).contains("\nentry 0 0 0000002A T59994 4660\n"));
 }

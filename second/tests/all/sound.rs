@@ -27,7 +27,7 @@ fn base() -> Session {
 
 type StoreRow = fn(&Store) -> bool;
 
-const STORE_ROWS: [(&str, StoreRow); 15] = [
+const STORE_ROWS: [(&str, StoreRow); 16] = [
     ("name length", names_are_within_limits),
     ("plain names", names_are_plain),
     ("key type", key_types_are_known),
@@ -42,6 +42,7 @@ const STORE_ROWS: [(&str, StoreRow); 15] = [
     ("entry padding", entry_keys_are_padded),
     ("value count", value_counts_match),
     ("value", values_are_within_range),
+    ("remaining time", remaining_times_are_32_bit),
     ("distinct entries", entries_are_distinct),
 ];
 
@@ -199,6 +200,19 @@ fn entry_values() {
 }
 
 #[test]
+fn remaining_times() {
+    for place in 0..3 {
+        for time in [None, Some(0), Some(1), Some(MAX)] {
+            entry_case(&[], place, |entry| entry.remaining = time);
+        }
+        for time in [MAX + 1, u64::MAX] {
+            let rows = &["remaining time"];
+            entry_case(rows, place, |entry| entry.remaining = Some(time));
+        }
+    }
+}
+
+#[test]
 fn distinct_entries() {
     let copy = |store: &mut Store| store.entries[127] = store.entries[2].clone();
     store_case(&["distinct entries"], copy);
@@ -343,7 +357,7 @@ fn unfinished_bytes_of_messages() {
         &[2, 0],
         &[10, 127, 5],
         &[10, 128, 0],
-        &[10, 132, 1, 7, 0],
+        &[10, 135, 1, 7, 0],
         &[10, 128, 0xF1, 0x31],
         &[
             10, 128, 0xFF, 0xFF, 0xFF, 0xFF, 0xFF, 0xFF, 0xFF, 0xFF, 0xFF, 0xFF,

@@ -39,7 +39,7 @@ fn an_update_is_held_and_acknowledged() {
     let mut session = with_shape([2, 4, 4]);
     let response = session.respond(&message(128, &update(0x01020304, b"key0", &[4660])));
     assert_eq!(response.answer, new(0, 0x01020304, 0));
-    assert_eq!(response.reply, [10, 133, 5, 1, 1, 2, 3, 4]);
+    assert_eq!(response.reply, [10, 132, 5, 1, 1, 2, 3, 4]);
     assert_eq!(session.entries(), [&Entry::new(0, b"key0", vec![4660])]);
     assert_eq!(session.record.previous[0], Some(0x01020304));
 }
@@ -50,7 +50,7 @@ fn acknowledgements_have_the_bound_id() {
         let mut session = Session::with_tables(&[&definition(id, b"t", [2, 4, 0])]);
         let response = session.respond(&message(128, &update(MAX as u32, &[0; 4], &[])));
         let body = [&encode(id)[..], &[0xFF; 4]].concat();
-        let expected = [&[10, 133, body.len() as u8], &body[..]].concat();
+        let expected = [&[10, 132, body.len() as u8], &body[..]].concat();
         assert_eq!(response.reply, expected);
         assert_eq!(response.reply.len(), length);
     }
@@ -317,7 +317,7 @@ fn a_redefinition_keeps_the_previous_id() {
     session.one(130, &definition(300, b"t", [2, 4, 0]));
     let response = session.respond(&message(129, b"kkkk"));
     assert_eq!(response.answer, replaced(0, 42, 0));
-    assert_eq!(response.reply, [10, 133, 6, 0xFC, 3, 0, 0, 0, 42]);
+    assert_eq!(response.reply, [10, 132, 6, 0xFC, 3, 0, 0, 0, 42]);
 }
 
 #[test]
@@ -383,7 +383,7 @@ fn bodies_are_judged_when_whole() {
     let session = with_shape([2, 4, 4]);
     let none = Session::open();
     let body = [0xFF; 30];
-    for kind in [128, 129, 130, 131, 133] {
+    for kind in 128..=134 {
         for start in [&session, &none] {
             let bytes = message(kind, &body);
             let mut copy = start.clone();

@@ -79,6 +79,15 @@ impl Walk<'_> {
                 self.entry(table?)
             }
             129 => self.entry(table?),
+            133 => {
+                self.raw("update ID", 4)?;
+                self.raw("remaining time", 4)?;
+                self.entry(table?)
+            }
+            134 => {
+                self.raw("remaining time", 4)?;
+                self.entry(table?)
+            }
             130 => self.definition(),
             131 => self.integer("table ID").map(drop),
             _ => {

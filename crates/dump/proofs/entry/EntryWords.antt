@@ -1,26 +1,40 @@
--- The words of an entry's values, for each way through the functions that put them.
+-- The words of an entry's remaining time and values, for each way through the functions that put them.
 use Prim.Native.Nat.{ℕ}
 use native.Mathlib.Omega.{arith}
 use mathlib.Core.Path.{_≡_, refl, sym, ap, _∙_}
 use mathlib.Core.Bool.{Bool, true, false}
-use mathlib.Core.List.{List, [], _∷_, _++_, map}
+use mathlib.Core.List.{List, [], _∷_, _++_, map, append-nil}
 use lib.IntN.{ℤ, pos}
 use lib.ListN.{length}
 use borrow.Author.Needs.{needs}
+use borrow.Author.Tests.{eq-eqb, ne-eqb}
 use mir.Facts.{toZ-ofZ}
 use mir.Syntax.{w32}
 use mir.Val.{SFits, toZ, ofZ}
-use Rattle.handshake.specs.Bytes.{decimal}
+use Rattle.handshake.specs.Bytes.{ascii, decimal}
 use Rattle.store.specs.declared.Entry.{Entry}
 use Rattle.store.specs.Limits.{present, slotTypes}
 use Rattle.store.proofs.Rules.{slot-count}
 use Rattle.text.specs.Text.{signed, spaced}
 use Rattle.text.specs.Room.{Wrote}
-use Rattle.text.proofs.Rooms.{retold}
+use Rattle.text.proofs.Rooms.{joined, retold}
 use Rattle.text.proofs.LineWords.{words, no-words}
-use Rattle.dump.specs.StoreLines.{presentAmong, valuesOf}
+use Rattle.dump.specs.StoreLines.{presentAmong, valuesOf, timeWord}
 use Rattle.dump.proofs.PresentValues.{Along, along-end, along-kept, along-turn, among-nil, among-none, among-one, map-append}
 
+-- ---- the remaining time
+module _ (e : Entry) {room x : List ℕ} {at k : ℕ} where
+  pub no-time : (e .timed ≡ 1 → ⊥) → Wrote room at (spaced (ascii "-" ∷ [])) x k → Wrote room at (spaced (timeWord e ∷ [])) x k
+  unfolding timeWord
+  no-time f w = rw (ne-eqb (e .timed) 1 f) w
+
+  pub a-time : {y : List ℕ} {m : ℕ} → e .timed ≡ 1 → Wrote room at (ascii " T") x k → Wrote x k (decimal (e .remaining)) y m → Wrote room at (spaced (timeWord e ∷ [])) y m
+  unfolding timeWord spaced
+  a-time h p q = rw (eq-eqb (e .timed) 1 h) (retold (ap (λ (l : List ℕ). ascii " T" ++ l) (sym (append-nil (decimal (e .remaining))))) (joined p q))
+
+pub ruleset times = (needs, no-time, a-time)
+
+-- ---- the values
 module _ (types : ℕ) (z : ℤ) (b : Bool) (is : b ≡ present types 0) {room : List ℕ} {at : ℕ} where
   pub server-there : {x : List ℕ} {k : ℕ} → SFits w32 z → b ≡ true
       → Wrote room at (spaced (signed (toZ w32 (ofZ w32 z)) ∷ [])) x k → Wrote room at (spaced (map signed (presentAmong types (0 ∷ []) (z ∷ [])))) x k
@@ -42,7 +56,6 @@ slots-start types vs room at e = record {
 
 pub ruleset along-slots = (needs, slots-start, along-kept, along-turn, along-end)
 
--- ---- the words of an entry
 signed-pos : (ns : List ℕ) → map signed (map pos ns) ≡ map decimal ns
 unfolding signed
 signed-pos [] = refl

@@ -15,7 +15,8 @@ use Rattle.text.specs.Text.{hex, hexOrNone, signed, spaced}
 use Rattle.text.specs.Room.{Wrote}
 use Rattle.text.proofs.Rooms.{retold, nothing}
 use Rattle.text.proofs.LineWords.{line-of, words}
-use Rattle.dump.specs.StoreLines.{valuesOf, timesWords, tableLine, entryLine}
+use Rattle.dump.specs.StoreLines.{valuesOf, timesWords, timeWord, tableLine, entryLine}
+use Rattle.dump.proofs.table.DefinitionWords.{three-words}
 use Rattle.text.proofs.Prefixes.{prefixes, whole}
 
 module _ {room x : List ℕ} {at k : ℕ} where
@@ -57,18 +58,18 @@ module _ {room : List ℕ} {at : ℕ} (place : ℕ) where
     no-entry-line f = retold (sym (cond-false (eqb (e .held) 1) _ _ (ne-eqb (e .held) 1 f))) (nothing room at)
 
     pub entry-line : {x y z u : List ℕ} {k m n o : ℕ} → e .held ≡ 1 → Wrote room at (ascii "entry") x k → Wrote x k (spaced (decimal place ∷ [])) y m
-        → Wrote y m (spaced (decimal (e .table) ∷ hexOrNone (keyOf e) ∷ map signed (valuesOf types e))) z n
+        → Wrote y m (spaced (decimal (e .table) ∷ hexOrNone (keyOf e) ∷ timeWord e ∷ map signed (valuesOf types e))) z n
         → Wrote z n (10 ∷ []) u o → Wrote room at (entryLine place types e) u o
     unfolding entryLine entryHeld
     entry-line h p q r w =
-        let ws = decimal (e .table) ∷ hexOrNone (keyOf e) ∷ map signed (valuesOf types e) in
+        let ws = decimal (e .table) ∷ hexOrNone (keyOf e) ∷ timeWord e ∷ map signed (valuesOf types e) in
         retold (sym (cond-true (eqb (e .held) 1) _ _ (eq-eqb (e .held) 1 h))) (line-of (ascii "entry") p (decimal place ∷ ws) (words (decimal place ∷ []) ws q r) w)
 
 pub ruleset store-lines = (needs, no-table-line, table-line, no-entry-line, entry-line)
 
-module _ (types : ℕ) (e : Entry) {room x y : List ℕ} {at k m : ℕ} where
-  pub content-is : (a b : List ℕ) {z : List ℕ} {n : ℕ} → Wrote room at (spaced (a ∷ [])) x k → Wrote x k (spaced (b ∷ [])) y m
-      → Wrote y m (spaced (map signed (valuesOf types e))) z n → Wrote room at (spaced (a ∷ b ∷ map signed (valuesOf types e))) z n
-  content-is a b p q r = words (a ∷ b ∷ []) (map signed (valuesOf types e)) (words (a ∷ []) (b ∷ []) p q) r
+module _ (types : ℕ) (e : Entry) {room x y z : List ℕ} {at k m n : ℕ} where
+  pub content-is : (a b c : List ℕ) {u : List ℕ} {o : ℕ} → Wrote room at (spaced (a ∷ [])) x k → Wrote x k (spaced (b ∷ [])) y m
+      → Wrote y m (spaced (c ∷ [])) z n → Wrote z n (spaced (map signed (valuesOf types e))) u o → Wrote room at (spaced (a ∷ b ∷ c ∷ map signed (valuesOf types e))) u o
+  content-is a b c p q r w = words (a ∷ b ∷ c ∷ []) (map signed (valuesOf types e)) (three-words a b c p q r) w
 
 pub ruleset entry-words = (needs, content-is)

@@ -55,7 +55,7 @@ use Rattle.session.proofs.Session.Laws as S′
 use Rattle.store.specs.declared.Store.{Store}
 use Rattle.store.proofs.Store as T
 use Rattle.store.proofs.Store.Laws as T′
-use Rattle.reading.proofs.Lending.{lends-plain-mut, plain-mut-back, FieldsBack, fields-back}
+use Rattle.store_scan.proofs.Lending.{lends-plain-mut, plain-mut-back, FieldsBack, fields-back}
 use Rattle.reading.specs.declared.results.Step.{Step}
 use Rattle.reading.proofs.results.Step as P
 use Rattle.reading.proofs.results.Step.Laws as P′

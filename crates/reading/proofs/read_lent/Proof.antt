@@ -187,7 +187,7 @@ step-at-4 = refl
 step-at-5 : fieldOf P′.mir 5 ≡ someO (N₀′.mir, 1336)
 step-at-5 = refl
 
-step-at-6 : fieldOf P′.mir 6 ≡ someO (N₁′.mir, 1696)
+step-at-6 : fieldOf P′.mir 6 ≡ someO (N₁′.mir, 1704)
 step-at-6 = refl
 
 -- the arrays in the store: their machine values, their relations, and the store with another element
@@ -200,7 +200,7 @@ arr-is₀ h g = LL.owed T.the-type T′.the-laws h (stoV h ∷ []) g .1 .0
 made₀ : (h : Store) → Is T.the-row h (stoV h ∷ []) → (i : ℕ) (e : Entry) → Is N₀.the-row e (elV₀ e ∷ []) → Is T.the-row (withEntry h i e) (stoV (withEntry h i e) ∷ [])
 made₀ h g i e eis = LL.owes T.the-type T′.the-laws (withEntry h i e) (LL.owed T.the-type T′.the-laws h (stoV h ∷ []) g .0, (items-put N₀.the-type N₀′.the-laws 128 (h .entries) _ (arr-is₀ h g) i e eis, tt))
 
-far₀ : (i : ℕ) → i < 128 → i * 360 < 2 ^ 64
+far₀ : (i : ℕ) → i < 128 → i * 368 < 2 ^ 64
 far₀ i lt = omega (arith, lt)
 
 abbrev vals₁ : List Table → List Val

@@ -87,7 +87,7 @@ one-more : (i : ℕ) → i + 1 ≡ suc i
 one-more i = add-suc i zero ∙ ap suc (add-zero i)
 
 -- an index's distance in bytes, and the next index, are numbers of 64 bits
-far : (i : ℕ) → i < 128 → i * 360 < 2 ^ 64
+far : (i : ℕ) → i < 128 → i * 368 < 2 ^ 64
 far i lt = omega (arith, lt)
 
 near : (i : ℕ) → i < 128 → i * 4 < 2 ^ 64

@@ -97,7 +97,7 @@ below : (a b : ℕ) → Tᵇ (not (leb a b)) → b < a
 below a b t = leb-false a b (fails (leb a b) t)
 
 -- an index's distance in bytes, and the next index, are numbers of 64 bits
-far : (i : ℕ) → i < 128 → i * 360 < 2 ^ 64
+far : (i : ℕ) → i < 128 → i * 368 < 2 ^ 64
 far i lt = omega (arith, lt)
 
 near : (i : ℕ) → i < 128 → i * 4 < 2 ^ 64
@@ -180,13 +180,13 @@ abbrev CodesIs : List ℕ → Type 0
 CodesIs cs = Is (Array u32 128) cs (codesV cs ∷ [])
 
 key-is : (e : Entry) → EntryIs e → Is (Array u8 64) (bytesOf e) (keyV e ∷ [])
-key-is e is = LL.owed N.the-type N′.the-laws e _ is .1 .1 .1 .1 .0
+key-is e is = LL.owed N.the-type N′.the-laws e _ is .1 .1 .1 .1 .1 .1 .0
 
 key-long : (e : Entry) → EntryIs e → length (e .key) ≡ 64
 key-long e is = ap length (sym (map-id (e .key))) ∙ key-is e is .1 .0 .1
 
 key-fits : (e : Entry) → EntryIs e → e .«key_len» < 2 ^ 64
-key-fits e is = LL.owed N.the-type N′.the-laws e _ is .1 .1 .1 .0 .1
+key-fits e is = LL.owed N.the-type N′.the-laws e _ is .1 .1 .1 .1 .1 .0 .1
 
 -- a byte of a key, and a code: how many there are, which one it is, and that it is a number of its width
 bytes-all : (e : Entry) → EntryIs e → length (byteVs e) ≡ 64
@@ -462,7 +462,7 @@ module _ {M : Type 1} (𝓤 : URA M) (H : Heap 𝓤) (A : Atoms 𝓤) (W : Given
         land ! (from ! (stop !)) (init ! 17 refl (bool-lawful 𝓤 H A W .typed y _ is .0)) $ rewrite ! 17 (λ (u : Val). ‵ (fat fullShare tyBool l₂₂ 0 u)) (ap only is) refl $
         branches ! (load ! (from ! (stop !)) (look ! 17 refl)) (λ s.
         -- the bytes of the two keys
-        assigns ! (of-opd ! (load ! (from ! (fld ! refl (stop !))) (look-in ! 43 (sub ! 4 refl (whole !))))) (from ! (stop !)) (init ! 41 refl (key-typed (one i) (one-is i (inside i t)) .0)) $
+        assigns ! (of-opd ! (load ! (from ! (fld ! refl (stop !))) (look-in ! 43 (sub ! 6 refl (whole !))))) (from ! (stop !)) (init ! 41 refl (key-typed (one i) (one-is i (inside i t)) .0)) $
         assigns ! (of-opd ! (lit ! tt)) (from ! (stop !)) (init ! 39 refl (tt, record { fits = lit< tt })) $
         forget ! 17 refl $ forget ! 19 refl $ forget ! 21 refl $ forget ! 23 refl $ forget ! 25 refl $ forget ! 27 refl $ forget ! 29 refl $ forget ! 31 refl $ forget ! 33 refl $ forget ! 35 refl $ forget ! 43 refl $
         blocks ! $ by ! (bytes-loop i X (inside i t) r (k (inside i t)) (match-start entry (one i) _ _ (sym ye ∙ holds y s))))
@@ -512,8 +512,8 @@ module _ {M : Type 1} (𝓤 : URA M) (H : Heap 𝓤) (A : Atoms 𝓤) (W : Given
       alloc1 ! (λ l₀. alloc1 ! (λ l₁. alloc1 ! (λ l₂. alloc1 ! (λ l₃. alloc1 ! (λ l₄. alloc1 ! (λ l₅. alloc1 ! (λ l₆. alloc1 ! (λ l₇. alloc1 ! (λ l₈. alloc1 ! (λ l₉. alloc1 ! (λ l₁₀. alloc1 ! (λ l₁₁. alloc1 ! (λ l₁₂. alloc1 ! (λ l₁₃. alloc1 ! (λ l₁₄. alloc1 ! (λ l₁₅. alloc1 ! (λ l₁₆. alloc1 ! (λ l₁₇. alloc1 ! (λ l₁₈. alloc1 ! (λ l₁₉. alloc1 ! (λ l₂₀. alloc1 ! (λ l₂₁. alloc1 ! (λ l₂₂. alloc1 ! (λ l₂₃. alloc1 ! (λ l₂₄. alloc1 ! (λ l₂₅. alloc1 ! (λ l₂₆. alloc1 ! (λ l₂₇. alloc1 ! (λ l₂₈. alloc1 ! (λ l₂₉. alloc0 ! $ params1 ! $
       pass1 ! (init ! 56 refl (tt, tt)) $ pass1 ! (init ! 54 refl (entry-typed entry nis .0)) $ pass1 ! (init ! 52 refl (tt, record { fits = his .1 })) $ pass1 ! (init ! 50 refl (codes-typed codes cis .0)) $ pass0 ! $
       assigns ! (of-opd ! (load ! (from ! (stop !)) (look ! 50 refl))) (from ! (stop !)) (init ! 48 refl (codes-typed codes cis .0)) $
-      assigns ! (of-opd ! (load ! (from ! (fld ! refl (stop !))) (look-in ! 54 (sub ! 3 refl (whole !))))) (from ! (stop !)) (init ! 46 refl (tt, record { fits = key-fits entry nis })) $
-      assigns ! (of-opd ! (load ! (from ! (fld ! refl (stop !))) (look-in ! 54 (sub ! 4 refl (whole !))))) (from ! (stop !)) (init ! 44 refl (key-typed entry nis .0)) $
+      assigns ! (of-opd ! (load ! (from ! (fld ! refl (stop !))) (look-in ! 54 (sub ! 5 refl (whole !))))) (from ! (stop !)) (init ! 46 refl (tt, record { fits = key-fits entry nis })) $
+      assigns ! (of-opd ! (load ! (from ! (fld ! refl (stop !))) (look-in ! 54 (sub ! 6 refl (whole !))))) (from ! (stop !)) (init ! 44 refl (key-typed entry nis .0)) $
       assigns ! (of-opd ! (lit ! tt)) (from ! (stop !)) (init ! 42 refl (tt, record { fits = lit< tt })) $
       move ! (60 ∷ 61 ∷ []) $ looks ! tt T.the-row (Is T.the-row) (shows 𝓤 H A T.the-row) (LL.vals T.the-type T′.the-laws) (LL.tells T.the-type T′.the-laws) (LL.copy T.the-type T′.the-copy 𝓤 H A W) h b o (λ q′ vs.
       spelt ! T.the-row (Is T.the-row) (shows 𝓤 H A T.the-row) (LL.vals T.the-type T′.the-laws) (LL.tells T.the-type T′.the-laws) q′ h vs b o $ move ! (1 ∷ []) $ peeks ! T.the-row (Is T.the-row) (shows 𝓤 H A T.the-row) h (stoV h ∷ []) (λ g. drop ! $

@@ -18,7 +18,7 @@ use Rattle.lists.proofs.Searching.{Searching, search-start, search-here, search
 use Rattle.store.specs.declared.Table.{Table}
 use Rattle.store.specs.declared.Entry.{Entry}
 use Rattle.store.specs.Store.{tableHeld, entryHeld, entryFree, keyOf}
-use Rattle.store.specs.Sound.{soundEntry, entryKeyLengthOk, keyRestZero, valuesOk}
+use Rattle.store.specs.Sound.{soundEntry, entryTimedOk, entryKeyLengthOk, keyRestZero, valuesOk}
 use Rattle.store.proofs.Lookup.{blankTable, blankEntry}
 use Rattle.lists.proofs.Maps.{length-mapped, mapped-at}
 use Rattle.store_soundness.proofs.entry.EntryTests.{free-entry-sound, entry-flag-unsound, place-unsound, rows-sound}
@@ -58,7 +58,7 @@ module _ (tables : List Table) (e : Entry) where
   code-place h l = sym (bad-code (place-unsound tables e h l))
 
   module _ {b : Bool} (h : e .held ≡ 1) (l : e .table < 8) (n : length tables ≡ 8)
-      (q : b ≡ (let t = getD tables (e .table) blankTable in tableHeld t && allOf (entryKeyLengthOk t e ∷ keyRestZero e ∷ valuesOk t e ∷ []))) where
+      (q : b ≡ (let t = getD tables (e .table) blankTable in tableHeld t && allOf (entryTimedOk e ∷ entryKeyLengthOk t e ∷ keyRestZero e ∷ valuesOk t e ∷ []))) where
     pub code-rows : not b ≡ true → 2147483648 ≡ entryCode tables e
     code-rows t = sym (bad-code (rows-sound tables e h _ b l n refl q ∙ not-true b t))
 

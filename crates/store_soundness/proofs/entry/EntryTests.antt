@@ -10,16 +10,27 @@ use lib.Dec.{ltb, leb, eqb}
 use borrow.Author.Needs.{needs}
 use borrow.Author.Tests.{eq-eqb, ne-eqb, le-leb, lt-leb, lt-ltb, le-ltb, not-true, not-false}
 use Rattle.lists.specs.Lists.{allOf, every, isZero}
-use Rattle.lists.proofs.Cases.{and-true, and-false, or-true, or-false, or-second, unless-true, unless-false, cond-true, cond-false, all-false, by-test}
+use Rattle.lists.proofs.Cases.{and-true, and-false, or-true, or-false, or-second, unless-true, unless-false, cond-true, cond-false, all-true, all-false, by-test}
 use Rattle.lists.proofs.Every.{getD-any, drop-step}
 use Rattle.store.specs.declared.Table.{Table}
 use Rattle.store.specs.declared.Entry.{Entry}
 use Rattle.store.specs.declared.types.KeyKind.{KeyKind}
 use Rattle.store.specs.Limits.{keyKind, isString, present, isWide, slotTypes}
 use Rattle.store.specs.Store.{tableHeld, entryHeld, noTable}
-use Rattle.store.specs.Sound.{entryTableOk, entryKeyLengthOk, keyRestZero, slotOk, slotsOk, valuesOk, entryTests, soundEntry}
+use Rattle.store.specs.Sound.{entryTableOk, entryTimedOk, entryKeyLengthOk, keyRestZero, slotOk, slotsOk, valuesOk, entryTests, soundEntry}
 use Rattle.store.proofs.Rules.{slot-count}
 use Rattle.store.proofs.Lookup.{blankTable}
+
+-- ---- an entry's mark of a time
+
+module _ (e : Entry) (ts : List Bool) where
+  pub mark-stop : 1 < e .timed → false ≡ allOf (entryTimedOk e ∷ ts)
+  unfolding entryTimedOk
+  mark-stop l = sym (all-false (leb (e .timed) 1) ts (lt-leb (e .timed) 1 l))
+
+  pub mark-next : (r : Bool) → e .timed ≤ 1 → r ≡ allOf ts → r ≡ allOf (entryTimedOk e ∷ ts)
+  unfolding entryTimedOk
+  mark-next r l q = q ∙ sym (all-true (leb (e .timed) 1) ts (le-leb (e .timed) 1 l))
 
 -- ---- an entry's key
 
@@ -160,16 +171,16 @@ module _ (tables : List Table) (e : Entry) where
     place-unsound l =
         let t = getD tables (e .table) noTable in
         held-rows
-        ∙ all-false (ltb (e .table) 8 && tableHeld t) (entryKeyLengthOk t e ∷ keyRestZero e ∷ valuesOk t e ∷ [])
+        ∙ all-false (ltb (e .table) 8 && tableHeld t) (entryTimedOk e ∷ entryKeyLengthOk t e ∷ keyRestZero e ∷ valuesOk t e ∷ [])
         (and-false (ltb (e .table) 8) (tableHeld t) (le-ltb (e .table) 8 l))
 
     pub rows-sound : (t : Table) (b : Bool) → e .table < 8 → length tables ≡ 8 → t ≡ getD tables (e .table) blankTable
-        → b ≡ (tableHeld t && allOf (entryKeyLengthOk t e ∷ keyRestZero e ∷ valuesOk t e ∷ [])) → soundEntry tables e ≡ b
+        → b ≡ (tableHeld t && allOf (entryTimedOk e ∷ entryKeyLengthOk t e ∷ keyRestZero e ∷ valuesOk t e ∷ [])) → soundEntry tables e ≡ b
     unfolding entryTableOk allOf
     rows-sound t b l n q p =
         let u = getD tables (e .table) noTable in
         held-rows
-        ∙ ap (λ (x : Bool). x && allOf (entryKeyLengthOk u e ∷ keyRestZero e ∷ valuesOk u e ∷ [])) (and-true (ltb (e .table) 8) (tableHeld u) (lt-ltb (e .table) 8 l))
-        ∙ ap (λ (x : Table). tableHeld x && allOf (entryKeyLengthOk x e ∷ keyRestZero e ∷ valuesOk x e ∷ []))
+        ∙ ap (λ (x : Bool). x && allOf (entryTimedOk e ∷ entryKeyLengthOk u e ∷ keyRestZero e ∷ valuesOk u e ∷ [])) (and-true (ltb (e .table) 8) (tableHeld u) (lt-ltb (e .table) 8 l))
+        ∙ ap (λ (x : Table). tableHeld x && allOf (entryTimedOk e ∷ entryKeyLengthOk x e ∷ keyRestZero e ∷ valuesOk x e ∷ []))
         (getD-any tables (e .table) noTable blankTable (omega arith) ∙ sym q)
         ∙ sym p

@@ -12,7 +12,7 @@ use Rattle.store.specs.declared.Table.{Table}
 use Rattle.store.specs.declared.Entry.{Entry}
 use Rattle.store.specs.Limits.{slotTypes}
 use Rattle.store.specs.Sound.{slotOk, slotsOk, valuesOk}
-use Rattle.store_soundness.proofs.entry.EntryTests.{narrow-value, values-row, table-gone, table-there}
+use Rattle.store_soundness.proofs.entry.EntryTests.{mark-stop, mark-next, narrow-value, values-row, table-gone, table-there}
 use Rattle.store_soundness.specs.Narrow.{isNarrow}
 
 pub narrow-passes : (v : ℕ) → v < 4294967296 → isNarrow v ≡ true
@@ -36,4 +36,4 @@ unfolding valuesOk
 narrow-values t e b q h =
     all-last true (slotsOk (t .«data_types») slotTypes (e .values)) (sym (narrow-slots (t .«data_types») slotTypes (e .values) (sym q ∙ h)))
 
-pub ruleset entry-rows = (needs, values-row, all-stop, all-next, all-last, table-gone, table-there, narrow-values)
+pub ruleset entry-rows = (needs, values-row, all-stop, all-next, all-last, table-gone, table-there, mark-stop, mark-next, narrow-values)

@@ -9,6 +9,9 @@ put-decimal-word-requires c κs = search needs
 put-key-requires : tie.Need-put-key-requires
 put-key-requires c κs = search needs
 
+put-time-requires : tie.Need-put-time-requires
+put-time-requires c κs = search needs
+
 put-values-requires : tie.Need-put-values-requires
 put-values-requires c κs = search needs
 
@@ -21,4 +24,10 @@ returns c = search entry-words
 pub put-content-spec : {M : Type 1} → statement M
 put-content-spec =
     tie.close
-    (tie.spec put-decimal-word-requires put-key-requires put-values-requires same-length returns)
+    (tie.spec
+    put-decimal-word-requires
+    put-key-requires
+    put-time-requires
+    put-values-requires
+    same-length
+    returns)

@@ -1,4 +1,6 @@
-use Rattle.message.proofs.Committing.{reading-fields}
+use mir.Syntax.{w32}
+use mir.ValLaws.{toZ-ofZ}
+use Rattle.message.proofs.Committing.{reading-fields, fields-whole}
 use Rattle.message.proofs.update.with_fields.Statement.{statement}
 use Rattle.message.proofs.update.with_fields.Tie as tie
 
@@ -33,7 +35,11 @@ ask-nothing-requires : tie.Need-ask-nothing-requires
 ask-nothing-requires c κs = search reading-fields
 
 returns : tie.Need-returns
-returns c = search reading-fields
+returns c =
+    let m = c .before in
+    let t = m .before in
+    let told = t .before .before .before .before in
+    fields-whole _ _ _ _ _ (told .enum-told .given .1) _ _ _ (m .make-entry .ensures) (c .ask-commit .ensures) (toZ-ofZ w32 _ (record { sfits = t .struct-told .given .1 .1 .1 .1 .1 .1 .0 .1 }))
 
 returns-2 : tie.Need-returns-2
 returns-2 c = search reading-fields

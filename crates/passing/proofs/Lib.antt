@@ -1,0 +1,2 @@
+mod Testing
+mod Promising

@@ -1,0 +1,66 @@
+// Time that passes on a store: every entry is tested and changed where it lies.
+use store::ENTRIES;
+use store::Store;
+use store::no_entry;
+use store::time::pass_entry;
+use store_scan::Query;
+use store_scan::scan;
+use store_soundness::table::tables_ok;
+ghost use mathlib.Core.Path.{_≡_};
+ghost use Rattle.store.specs.Sound.{soundStore};
+ghost use Rattle.store.specs.Time.{passTime, PassPromise};
+
+// What passing time by value gives back: the number that the lent one returns, and the store that it leaves.
+pub struct Step {
+    pub number: u32,
+    pub store: Store,
+}
+
+// Whether a store is sound. No entry is sought.
+fn store_ok(store: &Store) -> bool
+    ensures { λ r. ⌜ r ≡ soundStore (now (store .entry)) ⌝ }
+{
+    let tables = store.tables;
+    if !tables_ok(tables) {
+        return false;
+    }
+    let entry = no_entry();
+    let query = Query { tables, entry };
+    let scanned = scan(store, query);
+    scanned.sound
+}
+
+// Every entry after so many milliseconds. The entry of a free place isn't copied.
+fn pass_entries(store: &mut Store, milliseconds: u32)
+    ensures { λ _. ⌜ now (store .exit) ≡ passTime milliseconds (now (store .entry)) ⌝ }
+{
+    let mut i = 0;
+    while i < ENTRIES {
+        let held = store.entries[i].held;
+        if held != 0 {
+            let e = store.entries[i];
+            store.entries[i] = pass_entry(e, milliseconds);
+        }
+        i += 1;
+    }
+}
+
+// Passes milliseconds on a lent store, which holds the new state afterwards: 0; or 4, and the store stays, where it isn't sound.
+pub fn pass_lent(store: &mut Store, milliseconds: u32) -> u32
+    ensures { λ r. ⌜ PassPromise (now (store .entry)) (record { milliseconds = milliseconds; number = r; store = now (store .exit) }) ⌝ }
+{
+    if !store_ok(store) {
+        return 4;
+    }
+    pass_entries(store, milliseconds);
+    0
+}
+
+// The same by value. The store is lent where it lies in the step that is returned.
+pub fn pass(store: Store, milliseconds: u32) -> Step
+    ensures { λ r. ⌜ PassPromise store (record { milliseconds = milliseconds; number = r .number; store = r .store }) ⌝ }
+{
+    let mut step = Step { number: 0, store };
+    step.number = pass_lent(&mut step.store, milliseconds);
+    step
+}
