@@ -28,8 +28,8 @@ extern "C" {
 
 /* ---- version */
 
-#define PEERS_VERSION 5 /* of the calls: their names, parameters, numbers and meaning */
-#define PEERS_LAYOUT 3  /* of the structs: their fields, order and sizes */
+#define PEERS_VERSION 6 /* of the calls: their names, parameters, numbers and meaning */
+#define PEERS_LAYOUT 4  /* of the structs: their fields, order and sizes */
 
 /* The archive's version times 65,536 plus its layout. */
 uint32_t peers_version(void);
@@ -53,10 +53,21 @@ static inline int peers_matches(void) { return peers_version() == PEERS_VERSION 
 /*
  * ---- the store: fields are read directly; a store of zeros is empty
  *
- * Between two calls the host may free an entry: `held` becomes 0. Entries whose time is over are freed by peers_pass_time. A table may be
- * freed in the same way only where none of its entries is held and no record in use has it bound or updated. Such a record would be refused
- * with 4 while the place is free, and once another table takes the place its next update would be committed there, to the wrong table, and
- * acknowledged. So free the table's entries first, and give each connection that has it bound or updated a new record before the next call.
+ * `counts` says how many held entries each table has, so that nobody walks the entries for it. Calls keep it and test it: a store in which
+ * one of the 8 counts isn't the number that walking finds, 0 at a free place, is refused with 4.
+ *
+ * Between two calls the host may free an entry: its `held` becomes 0, and the count of its table (`counts[entry.table]`) one less:
+ *
+ *     if (store.entries[place].held) {
+ *         store.entries[place].held = 0;
+ *         store.counts[store.entries[place].table]--;
+ *     }
+ *
+ * Where the count is left as it was, or is lowered for a place that isn't held, every later call is refused with 4. Entries whose time is over are freed by peers_pass_time, with their
+ * counts. A table may be freed by its `held` only where none of its entries is held, so that its count is 0, and no record in use has it
+ * bound or updated. Such a record would be refused with 4 while the place is free, and once another table takes the place its next update
+ * would be committed there, to the wrong table, and acknowledged. So free the table's entries first, and give each connection that has it
+ * bound or updated a new record before the next call.
  */
 
 /* The numbers that peers send, with the key lengths that a table of this type may have. */
@@ -151,6 +162,7 @@ struct peers_entry {
 
 struct peers_store {
     struct peers_table tables[PEERS_TABLES];
+    uint32_t counts[PEERS_TABLES]; /* how many held entries the table at the same place has; 0 at a free place */
     struct peers_entry entries[PEERS_ENTRIES];
 };
 
@@ -283,9 +295,9 @@ struct peers_outcome peers_read(struct peers_session *session, struct peers_stor
                                 uint8_t *room, size_t room_len);
 
 /*
- * Passes so many milliseconds: entries with at most so many remaining are freed, the times of the others are lowered by them, and entries
- * without a remaining time stay. 0 milliseconds free the entries with 0 remaining. Returns 0, or PEERS_REFUSED_UNSOUND on a store that
- * holds what the rules don't allow; that store stays as it is.
+ * Passes so many milliseconds: entries with at most so many remaining are freed and their tables' counts lowered, the times of the others
+ * are lowered by them, and entries without a remaining time stay. 0 milliseconds free the entries with 0 remaining. Returns 0, or
+ * PEERS_REFUSED_UNSOUND on a store that holds what the rules don't allow; that store stays as it is.
  *
  * Only the store is lent: tables stay, and every record, open or closed, goes on as it was. A freed place has zeros, as in an empty store,
  * and a new key takes the lowest free place.

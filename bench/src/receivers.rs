@@ -199,6 +199,7 @@ impl Library {
     pub fn as_second(&self) -> (Record, second::store::Store) {
         let store = second::store::Store {
             tables: std::array::from_fn(|place| self.store.table(place).map(second_table)),
+            counts: std::array::from_fn(|place| self.store.entries_of(place).into()),
             entries: std::array::from_fn(|place| self.store.entry(place).map(second_entry)),
         };
         (second_record(&self.session), store)

@@ -2,8 +2,8 @@
 
 use bench::plain::mark;
 use bench::receivers::{Library, Plain, Receiver, Role, Second};
+use bench::streams::{definition, timed_update, traffic_filling, traffic_updates, BY_LENGTH};
 use bench::streams::{filling, int, long_filling, long_updates, message, updates, HELLO};
-use bench::streams::{timed_update, traffic_filling, traffic_updates, BY_LENGTH};
 use second::generate;
 use second::replay::{command, Command};
 
@@ -223,6 +223,44 @@ fn on_times_that_pass() {
         all.take(&filling(3));
         all.pass(59_999);
     }
+}
+
+/// Entries that come to eight tables, are replaced and go with time; each call compares the three stores, counts too.
+#[test]
+fn on_counts_of_eight_tables() {
+    let mut all = All::open(Role::Answerer);
+    all.take(HELLO);
+    for n in 0..136 {
+        all.take(&definition(n % 8));
+        all.take(&timed_update(n, n / 8, n));
+        if n == 63 {
+            assert_eq!(all.plain.store.counts, [8; 8]);
+            // keys that are held are replaced
+            all.take(&timed_update(n, n / 8, n));
+            assert_eq!(all.plain.store.counts, [8; 8]);
+            // three of each table are freed, then place after place is taken again
+            all.pass(2);
+            assert_eq!(all.plain.store.counts, [5; 8]);
+        }
+    }
+    assert_eq!(all.plain.store.counts, [14; 8]);
+    all.pass(14);
+    assert_eq!(all.plain.store.counts, [2; 8]);
+    all.call(&[0, 5], 12);
+    all.pass(u32::MAX);
+    assert_eq!(all.plain.store.counts, [0; 8]);
+}
+
+/// One table takes all places, and the next entry of another is refused.
+#[test]
+fn on_counts_of_a_full_store() {
+    let mut all = All::open(Role::Answerer);
+    all.take(&filling(128));
+    assert_eq!(all.plain.store.counts, [128, 0, 0, 0, 0, 0, 0, 0]);
+    all.take(&definition(2));
+    all.take(&timed_update(9, 9, 9));
+    assert_eq!(all.plain.session.connection.number, 29);
+    assert_eq!(all.plain.store.counts, [128, 0, 0, 0, 0, 0, 0, 0]);
 }
 
 #[test]

@@ -128,6 +128,7 @@ static void test_readings(void) {
         check_equal(states);
     }
     CHECK(all_zero(states[0].store->entries, sizeof states[0].store->entries));
+    CHECK(all_zero(states[0].store->counts, sizeof states[0].store->counts));
     for (size_t side = 0; side < 2; side++) give_back_state(states[side]);
 }
 

@@ -1,4 +1,5 @@
-/* What becomes of a record whose table is freed, and the way to free one; entries that the host frees and that time frees. */
+/* What becomes of a record whose table is freed, and the way to free one; entries that the host frees and that time frees; what becomes of
+ * a store in which the host left a count. */
 #include "test.h"
 
 static const struct peers_table *named(const struct peers_store *store, const char *name) {
@@ -12,7 +13,8 @@ static const struct peers_table *named(const struct peers_store *store, const ch
 /* Frees the table at place 0 with its entries, as the header says. */
 static void free_first(struct peers_store *store) {
     for (size_t i = 0; i < PEERS_ENTRIES; i++)
-        if (store->entries[i].table == 0) store->entries[i].held = 0;
+        if (store->entries[i].held && store->entries[i].table == 0) free_entry(store, i);
+    CHECK(store->counts[0] == 0);
     store->tables[0].held = 0;
 }
 
@@ -81,14 +83,56 @@ static void entry_alone(struct state state) {
     establish(state);
     define(state, 1, "t", PEERS_KEY_INTEGER, 4, 1u << PEERS_GPC0);
     update(state, 1, "keyt", 4, (const uint64_t[]){5}, 1);
-    state.store->entries[0].held = 0;
+    free_entry(state.store, 0);
+    CHECK(state.store->counts[0] == 0);
+    /* the place keeps the table's number, but nothing more is held there: the count stays */
+    free_entry(state.store, 0);
+    CHECK(state.store->counts[0] == 0);
     struct peers_outcome outcome = call(state, incremental, INCREMENTAL, 12, reply);
     CHECK(outcome.number == PEERS_UPDATE && outcome.values[2] == 0 && outcome.values[3] == 0);
-    CHECK(state.store->entries[0].values[PEERS_SLOT_GPC0] == 9);
-    /* a table that goes before its entries leaves a store that is refused */
+    CHECK(state.store->entries[0].values[PEERS_SLOT_GPC0] == 9 && state.store->counts[0] == 1);
+    /* a table that goes before its entries leaves a store that is refused, with its count and without */
     state.store->tables[0].held = 0;
     open_answerer_on(state);
     CHECK(call(state, (const uint8_t *)"H", 1, 12, reply).number == PEERS_REFUSED_UNSOUND);
+    state.store->counts[0] = 0;
+    CHECK(call(state, (const uint8_t *)"H", 1, 12, reply).number == PEERS_REFUSED_UNSOUND);
+}
+
+/* Whether reading and passing time are refused with 4, and change nothing. */
+static bool is_refused(struct state state) {
+    static struct peers_session session;
+    static struct peers_store store;
+    uint8_t reply[12];
+    session = *state.session;
+    store = *state.store;
+    struct peers_outcome outcome = call(state, incremental, INCREMENTAL, 12, reply);
+    pass_time(state.store, UINT32_MAX, PEERS_REFUSED_UNSOUND);
+    CHECK(memcmp(&session, state.session, sizeof session) == 0 && memcmp(&store, state.store, sizeof store) == 0);
+    return outcome.number == PEERS_REFUSED_UNSOUND && outcome.taken == 0 && outcome.reply_len == 0;
+}
+
+/* A count that the host left, or lowered twice, is refused until it is right; then reading goes on. */
+static void count_that_was_left(struct state state) {
+    uint8_t reply[12];
+    establish(state);
+    define(state, 1, "t", PEERS_KEY_INTEGER, 4, 1u << PEERS_GPC0);
+    update(state, 1, "keyt", 4, (const uint64_t[]){5}, 1);
+    update(state, 2, "keyu", 4, (const uint64_t[]){5}, 1);
+    state.store->entries[0].held = 0;
+    CHECK(is_refused(state));
+    state.store->counts[0] = 0;
+    CHECK(is_refused(state));
+    state.store->counts[0] = 1;
+    CHECK(call(state, incremental, INCREMENTAL, 12, reply).number == PEERS_UPDATE);
+    CHECK(state.store->counts[0] == 2);
+    /* a table that goes with its entries, but without its count */
+    state.store->entries[0].held = state.store->entries[1].held = state.store->tables[0].held = 0;
+    open_answerer_on(state);
+    CHECK(is_refused(state));
+    state.store->counts[0] = 0;
+    CHECK(call(state, (const uint8_t *)"H", 1, 12, reply).number == PEERS_MORE);
+    pass_time(state.store, 0, 0);
 }
 
 /* The host frees one entry, time another: the next key takes the lower place. */
@@ -98,8 +142,9 @@ static void by_the_host_and_by_time(struct state state) {
     update(state, 1, "keya", 4, (const uint64_t[]){5}, 1);
     timed_update(state, 2, 7, "keyb", 4, (const uint64_t[]){5}, 1);
     timed_update(state, 3, 8, "keyc", 4, (const uint64_t[]){5}, 1);
-    state.store->entries[2].held = 0;
+    free_entry(state.store, 2);
     pass_time(state.store, 7, 0);
+    CHECK(state.store->counts[0] == 1);
     /* the place that the host freed keeps what it held, and its time isn't lowered */
     CHECK(state.store->entries[2].remaining == 8 && all_zero(&state.store->entries[1], sizeof state.store->entries[1]));
     update(state, 4, "keyd", 4, (const uint64_t[]){5}, 1);
@@ -113,6 +158,7 @@ void test_freeing(void) {
     old_record(state);
     new_record(state);
     entry_alone(state);
+    count_that_was_left(state);
     by_the_host_and_by_time(state);
     give_back_state(state);
 }

@@ -16,7 +16,7 @@ static const struct line lines[] = {
     FIELD(table, name_len), FIELD(table, key_len), FIELD(table, expiry), FIELD(table, periods), FIELD(table, name),
     SIZE(entry), FIELD(entry, held), FIELD(entry, server_id), FIELD(entry, timed), FIELD(entry, remaining),
     FIELD(entry, table), FIELD(entry, key_len), FIELD(entry, key), FIELD(entry, values),
-    SIZE(store), FIELD(store, tables), FIELD(store, entries),
+    SIZE(store), FIELD(store, tables), FIELD(store, counts), FIELD(store, entries),
     SIZE(binding), FIELD(binding, bound), FIELD(binding, updated), FIELD(binding, id), FIELD(binding, previous),
     SIZE(connection), FIELD(connection, phase), FIELD(connection, closed), FIELD(connection, number),
     FIELD(connection, current), FIELD(connection, local_len), FIELD(connection, remote_len), FIELD(connection, local),

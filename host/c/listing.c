@@ -50,6 +50,7 @@ static void check_end(struct state state) {
     CHECK(memcmp(entry->key, "\x00\x00\x00\x2A", 4) == 0 && entry->values[PEERS_SLOT_GPC0] == 5);
     CHECK(entry->timed == 1 && entry->remaining == 60000);
     CHECK(state.store->tables[1].held == 0 && state.store->entries[1].held == 0);
+    CHECK(memcmp(state.store->counts, (const uint32_t[PEERS_TABLES]){1}, sizeof state.store->counts) == 0);
 }
 
 /* Offers the stream cut at a place, and byte by byte where the place is past its end. */

@@ -12,6 +12,7 @@ int main(int argc, char **argv) {
         test_definition();
         test_offsets();
         test_times();
+        test_counts();
         test_unsound();
         test_random();
         test_freeing();

@@ -20,6 +20,7 @@ static void try_time(struct state state, struct peers_store *store) {
     uint32_t number = peers_pass_time(state.store, (uint32_t)next());
     CHECK(number == 0 || number == 4);
     CHECK(number == 0 || memcmp(store, state.store, sizeof *store) == 0);
+    CHECK(number == 4 || counts_are_right(state.store));
     CHECK(memcmp(store->tables, state.store->tables, sizeof store->tables) == 0);
 }
 

@@ -1,4 +1,5 @@
-/* Reads one peer's bytes from standard input as `east`, accepting `west`, and prints the entries that it holds at the end. */
+/* Reads one peer's bytes from standard input as `east`, accepting `west`, and prints the tables, with the number of their entries, and the
+ * entries that it holds at the end. */
 #include "peers.h"
 #include <stdio.h>
 
@@ -10,9 +11,16 @@ static void print_refusal(const struct peers_outcome *outcome) {
     printf("\n");
 }
 
+static void print_name(const struct peers_table *table) { printf("%.*s", (int)table->name_len, (const char *)table->name); }
+
+static void print_table(size_t place) {
+    print_name(&store.tables[place]);
+    printf(" entries %u\n", (unsigned)store.counts[place]);
+}
+
 static void print_entry(const struct peers_entry *entry) {
     const struct peers_table *table = &store.tables[entry->table];
-    printf("%.*s", (int)table->name_len, (const char *)table->name);
+    print_name(table);
     for (size_t i = 0; i < entry->key_len; i++) printf("%s%02X", i ? "" : " ", entry->key[i]);
     if (table->data_types & 1u << PEERS_GPC0) printf(" gpc0 %llu", (unsigned long long)entry->values[PEERS_SLOT_GPC0]);
     printf("\n");
@@ -36,6 +44,8 @@ int main(void) {
             if (outcome.taken == 0) return 1; /* offered again, the bytes would be refused again */
         }
     }
+    for (size_t i = 0; i < PEERS_TABLES; i++)
+        if (store.tables[i].held) print_table(i);
     for (size_t i = 0; i < PEERS_ENTRIES; i++)
         if (store.entries[i].held) print_entry(&store.entries[i]);
     return 0;

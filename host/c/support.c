@@ -42,6 +42,22 @@ bool all_zero(const void *memory, size_t size) {
     return true;
 }
 
+bool counts_are_right(const struct peers_store *store) {
+    uint32_t walked[PEERS_TABLES] = {0};
+    for (size_t i = 0; i < PEERS_ENTRIES; i++)
+        if (store->entries[i].held == 1) walked[store->entries[i].table]++;
+    for (size_t i = 0; i < PEERS_TABLES; i++)
+        if (store->tables[i].held == 0 && walked[i] != 0) return false;
+    return memcmp(walked, store->counts, sizeof walked) == 0;
+}
+
+void free_entry(struct peers_store *store, size_t place) {
+    if (store->entries[place].held) {
+        store->entries[place].held = 0;
+        store->counts[store->entries[place].table]--;
+    }
+}
+
 static void take_opened(struct state state, struct peers_opened opened) {
     CHECK(opened.outcome.number == PEERS_MORE && opened.outcome.taken == 0 && opened.outcome.count == 0);
     *state.session = opened.session;
@@ -70,6 +86,9 @@ void establish(struct state state) {
     CHECK(call(state, (const uint8_t *)hello, sizeof hello - 1, 12, reply).number == PEERS_HELLO);
 }
 
+/* Whether a call with this answer tested the store and found it sound. */
+static bool was_sound(uint32_t number) { return number != PEERS_REFUSED_ROOM && number != PEERS_REFUSED_UNSOUND; }
+
 /* Whether a refusal says where the body broke. */
 static bool has_offset(uint32_t number) {
     return number == PEERS_REFUSED_CUT || number == PEERS_REFUSED_RANGE || number == PEERS_REFUSED_TABLE_NAME;
@@ -86,6 +105,7 @@ struct peers_outcome call(struct state state, const uint8_t *piece, size_t len, 
     for (size_t i = outcome.reply_len; i < room; i++) CHECK(lent_room[i] == FILL);
     if (outcome.number < PEERS_MORE) CHECK(outcome.count == (has_offset(outcome.number) ? 1 : 0) && outcome.values[0] <= 1024);
     for (size_t i = outcome.count; i < 4; i++) CHECK(outcome.values[i] == 0);
+    if (was_sound(outcome.number)) CHECK(counts_are_right(state.store));
     give_back(lent_piece, len);
     give_back(lent_room, room);
     return outcome;
@@ -185,17 +205,22 @@ void timed_update(struct state state, uint32_t id, uint32_t time, const void *ke
     accept(state, 133, body, len, PEERS_UPDATE);
 }
 
-/* What the rule leaves of a held entry. */
-static void lower(struct peers_entry *entry, uint32_t milliseconds) {
+/* What the rule leaves of a held entry, and of its table's count. */
+static void lower(struct peers_store *store, size_t place, uint32_t milliseconds) {
+    struct peers_entry *entry = &store->entries[place];
     if (entry->held != 1 || entry->timed != 1) return;
-    if (entry->remaining <= milliseconds) memset(entry, 0, sizeof *entry);
-    else entry->remaining -= milliseconds;
+    if (entry->remaining > milliseconds) {
+        entry->remaining -= milliseconds;
+        return;
+    }
+    store->counts[entry->table]--;
+    memset(entry, 0, sizeof *entry);
 }
 
 void pass_time(struct peers_store *store, uint32_t milliseconds, uint32_t number) {
     static struct peers_store expected;
     memcpy(&expected, store, sizeof expected);
-    for (size_t i = 0; number == 0 && i < PEERS_ENTRIES; i++) lower(&expected.entries[i], milliseconds);
+    for (size_t i = 0; number == 0 && i < PEERS_ENTRIES; i++) lower(&expected, i, milliseconds);
     CHECK(peers_pass_time(store, milliseconds) == number);
     CHECK(memcmp(&expected, store, sizeof expected) == 0);
 }

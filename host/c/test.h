@@ -37,6 +37,12 @@ void give_back_state(struct state state);
 
 bool all_zero(const void *memory, size_t size);
 
+/* Whether each count is the number of held entries that walking finds, and 0 at a free place. */
+bool counts_are_right(const struct peers_store *store);
+
+/* Frees the entry at a place, as the header says. */
+void free_entry(struct peers_store *store, size_t place);
+
 /* States to start from, in the memory of `state`. */
 void open_answerer(struct state state);
 void open_answerer_on(struct state state); /* the store stays */
@@ -44,13 +50,13 @@ void open_caller(struct state state);
 void establish(struct state state);
 
 /* One call, with piece and room in such memory. The reply is left in `reply`, and the room past it must stay. A refusal must have a value
- * if it is one that says where the body broke, and no other may. */
+ * if it is one that says where the body broke, and no other may. A call that tested the store must leave counts that are right. */
 struct peers_outcome call(struct state state, const uint8_t *piece, size_t len, size_t room, uint8_t reply[12]);
 
 /* Offers bytes until all are taken or the session is closed; every answer but "more wanted" goes to `told`. */
 void offer(struct state state, const uint8_t *bytes, size_t len, void (*told)(const struct peers_outcome *, const uint8_t *));
 
-/* Passes time; the store must be left as the rule says, which is as it was where the number is 4. */
+/* Passes time; the store must be left as the rule says, counts too, which is as it was where the number is 4. */
 void pass_time(struct peers_store *store, uint32_t milliseconds, uint32_t number);
 
 /* Each key type with its least and its greatest key length. */
@@ -84,6 +90,7 @@ void test_listing(void);
 void test_definition(void);
 void test_offsets(void);
 void test_times(void);
+void test_counts(void);
 void test_unsound(void);
 void test_random(void);
 void test_freeing(void);

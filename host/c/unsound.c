@@ -175,19 +175,35 @@ static void names(void) {
     }
 }
 
-/* ---- entries */
+/* ---- entries: a change that takes one from a table or adds one goes with the counts, so that the fault is the one that is named */
+
+/* Puts the entry at a place to another table. */
+static void move(size_t place, size_t table) {
+    t->counts[t->entries[place].table]--;
+    t->counts[table]++;
+    t->entries[place].table = table;
+}
+
+/* Holds a copy of an entry at another place. */
+static void copy(size_t from, size_t to) {
+    t->entries[to] = t->entries[from];
+    t->counts[t->entries[to].table]++;
+}
 
 static void entries(void) {
-    SOUND(t->entries[0].held = 0);
+    SOUND(free_entry(t, 0));
     FAULT(t->entries[0].held = 2);
+    FAULT(t->entries[0].held = 2; t->counts[0]--);
     FAULT(t->entries[127].held = 2);
+    FAULT(t->entries[127].held = 2; t->counts[0]++);
     FAULT(t->entries[127].held = 256);
     FAULT(t->entries[127].held = UINT32_MAX);
-    SOUND(t->entries[0].table = 4);
-    SOUND(t->entries[2].table = 7);
+    SOUND(move(0, 4));
+    SOUND(move(2, 7));
     FAULT(t->entries[0].table = 8);
-    FAULT(t->entries[0].table = SIZE_MAX);
-    FAULT(t->entries[0].table = 2);
+    FAULT(t->entries[0].table = 8; t->counts[0]--);
+    FAULT(t->entries[0].table = SIZE_MAX; t->counts[0]--);
+    FAULT(move(0, 2));
     SOUND(t->entries[2].key_len = 0; memset(t->entries[2].key, 0, 64));
     SOUND(t->entries[2].key_len = 8);
     FAULT(t->entries[2].key_len = 9);
@@ -226,7 +242,7 @@ static void times(void) {
     SOUND(t->entries[7].timed = 2);
     SOUND(t->entries[7].timed = 1; t->entries[7].remaining = 7);
     SOUND(t->entries[127].timed = UINT32_MAX; t->entries[127].remaining = UINT32_MAX);
-    SOUND(t->entries[0].timed = 2; t->entries[0].held = 0);
+    SOUND(t->entries[0].timed = 2; free_entry(t, 0));
 }
 
 static void values(void) {
@@ -244,11 +260,11 @@ static void values(void) {
 static void twins(void) {
     SOUND(t->entries[0].key[3] = 3);
     SOUND(memcpy(t->entries[3].key, t->entries[2].key, 64));
-    SOUND(t->entries[0].key[3] = 2; t->entries[0].table = 4);
-    SOUND(t->entries[0].key[3] = 2; t->entries[0].held = 0);
+    SOUND(t->entries[0].key[3] = 2; move(0, 4));
+    SOUND(t->entries[0].key[3] = 2; free_entry(t, 0));
     FAULT(t->entries[0].key[3] = 2);
-    FAULT(t->entries[127] = t->entries[0]);
-    FAULT(t->entries[7] = t->entries[6]);
+    FAULT(copy(0, 127));
+    FAULT(copy(6, 7));
     FAULT(memcpy(t->entries[3].key, t->entries[2].key, 64); t->entries[3].key_len = 2);
 }
 
@@ -258,6 +274,32 @@ static void twins_in_a_full_store(void) {
     FAULT(t->entries[0].key[0] = 1);
     FAULT(t->entries[127].key[0] = 126);
     FAULT(t->entries[64].key[0] = 63);
+}
+
+/* ---- counts */
+
+/* Each count off by one and by more, at held and at free places, and two that make up for each other. */
+static void counts(void) {
+    static const uint32_t more[] = {1, 2, 128, 256, 65536, 1u << 31, UINT32_MAX};
+    for (size_t place = 0; place < PEERS_TABLES; place++) {
+        for (size_t i = 0; i < sizeof more / sizeof *more; i++) {
+            FAULT(t->counts[place] += more[i]);
+            FAULT(t->counts[place] += more[i]; t->counts[(place + 1) % PEERS_TABLES] -= more[i]);
+        }
+        if (base_store.counts[place] > 0) FAULT(t->counts[place] = 0);
+    }
+}
+
+/* An entry that goes, comes or is moved without its count. */
+static void entries_without_counts(void) {
+    FAULT(t->entries[0].held = 0);
+    FAULT(t->entries[6].held = 0);
+    FAULT(t->entries[0].table = 4);
+    FAULT(t->entries[2].table = 7);
+    FAULT(t->entries[7] = t->entries[0]; t->entries[7].key[3] = 9);
+    SOUND(copy(0, 7); t->entries[7].key[3] = 9);
+    FAULT(t->entries[127] = t->entries[0]; t->entries[127].key[3] = 9);
+    SOUND(copy(0, 127); t->entries[127].key[3] = 9);
 }
 
 /* ---- the record */
@@ -325,6 +367,11 @@ static void bindings(void) {
     FAULT(b[7].bound = 0);
 }
 
+/* Leaves no mark of table 0 in the record. */
+static void unused(void) {
+    s->connection.current = s->connection.bindings[0].bound = s->connection.bindings[0].updated = 0;
+}
+
 /* With one table held, at place 0. */
 static void tables_not_held(void) {
     struct peers_binding *b = s->connection.bindings;
@@ -337,10 +384,16 @@ static void tables_not_held(void) {
     FAULT(b[7].updated = 1);
     FAULT(s->connection.current = 2);
     FAULT(s->connection.current = 8);
-    FAULT(t->entries[0].table = 1);
-    FAULT(t->entries[0].table = 7);
-    FAULT(t->tables[0].held = 0; s->connection.current = 0; b[0].bound = 0; b[0].updated = 0);
-    SOUND(t->tables[0].held = 0; s->connection.current = 0; b[0].bound = 0; b[0].updated = 0; t->entries[0].held = 0);
+    FAULT(t->entries[0].table = 1; t->counts[0] = 0);
+    FAULT(move(0, 1));
+    FAULT(move(0, 7));
+    FAULT(unused(); t->tables[0].held = 0);
+    FAULT(unused(); t->tables[0].held = 0; t->counts[0] = 0);
+    SOUND(unused(); t->tables[0].held = 0; free_entry(t, 0));
+    /* a free table place is looked at for its count */
+    FAULT(unused(); t->tables[0].held = 0; t->entries[0].held = 0);
+    FAULT(unused(); t->tables[0].held = 0; free_entry(t, 0); t->counts[0] = UINT32_MAX);
+    FAULT(unused(); t->tables[0].held = 0; free_entry(t, 0); t->counts[7] = 1);
 }
 
 /* ---- unfinished bytes */
@@ -442,16 +495,21 @@ void test_unsound(void) {
     times();
     values();
     twins();
+    counts();
+    entries_without_counts();
     connection();
     peer_names();
     bindings();
     one_table(state);
     tables_not_held();
+    counts();
     unfinished_message();
     full(state);
     twins_in_a_full_store();
+    counts();
     open_answerer(state);
     keep_base();
+    counts();
     unfinished_hello();
     open_caller(state);
     keep_base();

@@ -1,4 +1,5 @@
-//! Reads one peer's bytes from standard input as `east`, accepting `west`, and prints the entries that it holds at the end.
+//! Reads one peer's bytes from standard input as `east`, accepting `west`, and prints the tables, with the number of their entries, and the
+//! entries that it holds at the end.
 
 use peers::{Answer, Session, Store, READING_ROOM};
 use std::io::{self, Read};
@@ -25,6 +26,10 @@ fn main() -> Result<(), Box<dyn std::error::Error>> {
                 }
             }
         }
+    }
+    for table in store.tables() {
+        let count = store.entries_of(table.place());
+        println!("{} entries {count}", table.name().escape_ascii());
     }
     for entry in store.entries() {
         print!(

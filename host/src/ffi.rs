@@ -40,8 +40,8 @@ extern "C" {
 }
 
 /// The version of the calls and that of the structs' layout, as in `include/peers.h`.
-pub const VERSION: u32 = 5;
-pub const LAYOUT: u32 = 3;
+pub const VERSION: u32 = 6;
+pub const LAYOUT: u32 = 4;
 
 /// The archive's version and layout.
 pub fn archive() -> (u32, u32) {

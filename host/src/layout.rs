@@ -72,6 +72,8 @@ pub struct Entry {
 pub struct Store {
     /// The table places.
     pub tables: [Table; TABLES],
+    /// How many held entries the table at the same place has; 0 at a free place.
+    pub counts: [u32; TABLES],
     /// The entry places.
     pub entries: [Entry; ENTRIES],
 }

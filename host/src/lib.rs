@@ -15,7 +15,8 @@
 //! }
 //! ```
 //!
-//! On its ticks it gives [`Store::pass_time`] the time since the last one, which frees the entries whose time is over.
+//! On its ticks it gives [`Store::pass_time`] the time since the last one, which frees the entries whose time is over. A status page asks
+//! [`Store::entries_of`] how many entries a table has.
 //!
 //! The work is done by the static library `libpeers.a`, each of whose functions is proved to meet its contract.
 //! Nothing is global: calls on different sessions and stores can run at the same time.

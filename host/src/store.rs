@@ -91,6 +91,15 @@ impl Store {
         })
     }
 
+    /// How many entries the table at this place has, 0 where no table is held: the count that the store keeps, without a walk. 0 also past
+    /// the last place.
+    ///
+    /// It is the field as the store has it, also of a store that the host spoiled in [`Store::layout_mut`]: nothing is tested here. Every
+    /// call keeps the counts right, and refuses a store whose counts are off with [`Refusal::Unsound`].
+    pub fn entries_of(&self, table: usize) -> u32 {
+        self.store.counts.get(table).copied().unwrap_or(0)
+    }
+
     /// Passes time: entries with at most this much remaining are freed, the times of the others are lowered by it, and entries without a
     /// remaining time stay. No time frees the entries with none left.
     ///
@@ -109,16 +118,22 @@ impl Store {
         }
     }
 
-    /// Frees the entry at a place, and says whether one was held there.
+    /// Frees the entry at a place, lowers its table's count by one, and says whether an entry was held there.
+    ///
+    /// A host that frees an entry in [`Store::layout_mut`] lowers the count itself, or every later call is refused with
+    /// [`Refusal::Unsound`].
     pub fn free_entry(&mut self, place: usize) -> bool {
-        let held = self.entry(place).is_some();
-        if held {
-            self.store.entries[place].held = 0;
-        }
-        held
+        let Some(table) = self.entry(place).map(|entry| entry.table().place()) else {
+            return false;
+        };
+        self.store.entries[place].held = 0;
+        // it wraps, so that a count which was off before stays off
+        let count = &mut self.store.counts[table];
+        *count = count.wrapping_sub(1);
+        true
     }
 
-    /// Frees the table at a place with its entries, and says whether one was held there.
+    /// Frees the table at a place with its entries, so that its count is 0, and says whether one was held there.
     ///
     /// No session that goes on may use it ([`Session::uses`](crate::Session::uses)): such a session would be refused with
     /// [`Refusal::Unsound`](crate::Refusal::Unsound) while the place is free, and once another table takes the place its next update would
@@ -131,6 +146,7 @@ impl Store {
         for entry in entries.filter(|entry| entry.table == place) {
             entry.held = 0;
         }
+        self.store.counts[place] = 0;
         self.store.tables[place].held = 0;
         true
     }

@@ -155,13 +155,13 @@ fn remaining(table: &Table, kind: u8, fields: &mut Fields) -> Result<Option<u64>
 
 /// Puts an entry into the store and gives its place.
 fn commit(store: &mut Store, entry: Entry) -> Result<(usize, Commit), Refusal> {
-    let known = store.keyed(entry.table, entry.key());
-    let (place, commit) = match known {
-        Some(place) => (place, Commit::Replaced),
-        None => (store.free_entry().ok_or(refusal::ENTRIES)?, Commit::New),
-    };
-    store.entries[place] = Some(entry);
-    Ok((place, commit))
+    if let Some(place) = store.keyed(entry.table, entry.key()) {
+        store.entries[place] = Some(entry);
+        return Ok((place, Commit::Replaced));
+    }
+    let place = store.free_entry().ok_or(refusal::ENTRIES)?;
+    store.add(place, entry);
+    Ok((place, Commit::New))
 }
 
 /// The acknowledgement of an update.

@@ -177,6 +177,7 @@ pub fn dump(record: &Record, store: &Store, output: &mut Vec<u8>) {
     for (place, table) in held(&store.tables) {
         add_line(output, &table_line(place, table));
     }
+    add_line(output, &counts_line(&store.counts));
     for (place, entry) in held(&store.entries) {
         add_line(output, &entry_line(place, entry, store));
     }
@@ -232,6 +233,12 @@ fn table_line(place: usize, table: &Table) -> String {
         }
     }
     words.join(" ")
+}
+
+/// The line of the counts, by place.
+fn counts_line(counts: &[u64]) -> String {
+    let counts: Vec<String> = counts.iter().map(u64::to_string).collect();
+    format!("counts {}", counts.join(" "))
 }
 
 /// The line of an entry.

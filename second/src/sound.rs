@@ -34,6 +34,7 @@ pub fn store_is_sound(store: &Store) -> bool {
         && values_are_within_range(store)
         && remaining_times_are_32_bit(store)
         && entries_are_distinct(store)
+        && counts_match(store)
 }
 
 /// Whether the record is sound on this store.
@@ -182,6 +183,21 @@ pub fn entries_are_distinct(store: &Store) -> bool {
     are_distinct(entries(store), |one, other| {
         one.table == other.table && one.key_length == other.key_length && one.key == other.key
     })
+}
+
+/// The count of each table place is the number of its entries, 0 where the
+/// place is free.
+pub fn counts_match(store: &Store) -> bool {
+    let mut counts = store.counts.iter().enumerate();
+    counts.all(|(place, &count)| count == walked(store, place))
+}
+
+/// The number of entries of the held table at a place, 0 where it's free.
+fn walked(store: &Store, place: usize) -> u64 {
+    match store.table(place) {
+        None => 0,
+        Some(_) => entries(store).filter(|entry| entry.table == place).count() as u64,
+    }
 }
 
 /// Whether no two of the items are equal by the given test.

@@ -135,6 +135,8 @@ impl Entry {
 pub struct Store {
     /// The table places.
     pub tables: [Option<Table>; TABLES],
+    /// The number of entries of each table place.
+    pub counts: [u64; TABLES],
     /// The entry places.
     pub entries: [Option<Entry>; ENTRIES],
 }
@@ -150,6 +152,7 @@ impl Store {
     pub fn new() -> Store {
         Store {
             tables: std::array::from_fn(|_| None),
+            counts: [0; TABLES],
             entries: std::array::from_fn(|_| None),
         }
     }
@@ -174,12 +177,25 @@ impl Store {
         self.tables.iter().position(Option::is_none)
     }
 
-    /// Passes time: entries with no more than this left are removed, the time
-    /// of the others is lowered.
+    /// Passes time on a sound store: entries with no more than this left are
+    /// removed, the time of the others is lowered.
     pub fn pass(&mut self, milliseconds: u32) {
         for place in &mut self.entries {
-            *place = place.take().and_then(|e| e.after(milliseconds.into()));
+            let Some(entry) = place.take() else {
+                continue;
+            };
+            let table = entry.table;
+            *place = entry.after(milliseconds.into());
+            if place.is_none() {
+                self.counts[table] -= 1;
+            }
         }
+    }
+
+    /// Puts an entry of a new key into a free place.
+    pub fn add(&mut self, place: usize, entry: Entry) {
+        self.counts[entry.table] += 1;
+        self.entries[place] = Some(entry);
     }
 
     /// The lowest free entry place.

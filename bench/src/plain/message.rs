@@ -256,6 +256,7 @@ fn update(
     let fields = entry_fields(&mut reader, &store.tables[place], timed)?;
     let (entry, replaced) = entry_place(store, place, fields.key)?;
     put_entry(&mut store.entries[entry], place, &fields);
+    store.counts[place] += u32::from(!replaced);
     binding.updated = 1;
     binding.previous = id;
     let mut reply = [0; 12];

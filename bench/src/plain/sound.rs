@@ -20,7 +20,7 @@ pub fn is_sound(session: &Session, store: &Store) -> bool {
 pub fn store_is_sound(store: &Store) -> bool {
     store.tables.iter().all(table_is_sound)
         && names_are_distinct(&store.tables)
-        && store.entries.iter().all(|e| entry_is_sound(store, e))
+        && entries_are_sound(store)
         && keys_are_distinct(&store.entries)
 }
 
@@ -44,6 +44,20 @@ fn names_are_distinct(tables: &[Table]) -> bool {
     };
     let twin = |(at, a): (usize, &Table)| tables[at + 1..].iter().any(|b| same(a, b));
     !tables.iter().enumerate().any(twin)
+}
+
+/// Each entry by itself, and in the same walk how many each table has: these are the counts, 0 where no table is held.
+fn entries_are_sound(store: &Store) -> bool {
+    let mut counts = [0; TABLES];
+    for entry in &store.entries {
+        if !entry_is_sound(store, entry) {
+            return false;
+        }
+        if entry.held == 1 {
+            counts[entry.table] += 1;
+        }
+    }
+    store.counts == counts
 }
 
 fn entry_is_sound(store: &Store, entry: &Entry) -> bool {

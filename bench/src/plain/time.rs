@@ -24,6 +24,7 @@ pub fn pass_time(store: &mut Store, milliseconds: u32) -> u32 {
     let timed = |entry: &&mut Entry| entry.held == 1 && entry.timed == 1;
     for entry in store.entries.iter_mut().filter(timed) {
         if entry.remaining <= milliseconds {
+            store.counts[entry.table] -= 1;
             *entry = FREE;
         } else {
             entry.remaining -= milliseconds;

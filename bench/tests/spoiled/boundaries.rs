@@ -1,7 +1,7 @@
 //! Each kind of fault by itself, and what stands next to it on the other side of its boundary.
 
-use crate::{five_tables, refused_opening, Both, UNSOUND};
-use bench::layout::{Session, Store};
+use crate::{count, five_tables, refused_opening, states, Both, UNSOUND};
+use bench::layout::{Session, Store, TABLES};
 use bench::receivers::Role;
 use peers::KeyType;
 
@@ -38,8 +38,8 @@ const BOUNDARIES: &[(Change, Change)] = &[
         |_, t| t.entries[127].held = 0,
         |_, t| t.entries[127].held = 2,
     ),
-    (|_, t| t.entries[0].table = 1, |_, t| t.entries[0].table = 8),
-    (|_, t| t.entries[0].table = 1, |_, t| t.entries[0].table = 5),
+    (|_, t| shift(t, 1), |_, t| shift(t, 8)),
+    (|_, t| shift(t, 1), |_, t| shift(t, 5)),
     (
         |_, t| t.entries[4].key_len = 8,
         |_, t| t.entries[4].key_len = 9,
@@ -66,7 +66,10 @@ const BOUNDARIES: &[(Change, Change)] = &[
         |_, t| t.entries[0].timed = u32::MAX,
     ),
     (
-        |_, t| (t.entries[0].timed, t.entries[0].held) = (2, 0),
+        |_, t| {
+            (t.entries[0].timed, t.entries[0].held) = (2, 0);
+            count(t);
+        },
         |_, t| (t.entries[0].timed, t.entries[0].held) = (2, 1),
     ),
     (|_, t| t.entries[6].timed = 2, |_, t| t.entries[5].timed = 2),
@@ -82,6 +85,23 @@ const BOUNDARIES: &[(Change, Change)] = &[
         |_, t| t.entries[0].key[3] = b'2',
         |_, t| t.entries[0].key[3] = b'1',
     ),
+    // counts: of an entry that goes, comes or is put to another table, and of a free place
+    (
+        |_, t| (t.entries[0].held, t.counts[0]) = (0, 1),
+        |_, t| t.entries[0].held = 0,
+    ),
+    (
+        |_, t| (t.entries[0].held, t.counts[0]) = (0, 1),
+        |_, t| (t.entries[0].held, t.counts[0]) = (0, 0),
+    ),
+    (
+        |_, t| {
+            (t.entries[6], t.entries[6].key[3], t.counts[0]) = (t.entries[0], b'2', 3);
+        },
+        |_, t| (t.entries[6], t.entries[6].key[3]) = (t.entries[0], b'2'),
+    ),
+    (|_, t| shift(t, 1), |_, t| t.entries[0].table = 1),
+    (|_, t| t.counts[7] = 0, |_, t| t.counts[7] = 1),
     // the record
     (|s, _| s.connection.phase = 2, |s, _| s.connection.phase = 3),
     (
@@ -136,6 +156,12 @@ const BOUNDARIES: &[(Change, Change)] = &[
     (|s, _| (s.len, s.buffer[0]) = (1, 10), |s, _| s.len = 2),
 ];
 
+/// Puts the first entry to another table, with the counts of the tables that there are.
+fn shift(store: &mut Store, table: usize) {
+    store.entries[0].table = table;
+    count(store);
+}
+
 const NOTHING: Change = |_, _| {};
 
 /// The same on the record of a refused opening, all of which is zeros but for two fields.
@@ -149,6 +175,7 @@ const OPENING_BOUNDARIES: &[(Change, Change)] = &[
         |s, _| s.connection.number = 0,
     ),
     (|_, t| t.tables[0].key_type = 9, |_, t| t.tables[0].held = 2),
+    (NOTHING, |_, t| t.counts[0] = 1),
     (NOTHING, |s, _| s.connection.closed = 2),
     (NOTHING, |s, _| s.connection.phase = 1),
     (NOTHING, |s, _| s.connection.current = 1),
@@ -228,6 +255,27 @@ fn of_names() {
         }
     }
 }
+
+/// Each count with numbers next to it and with ones that have its low bytes, alone and made up for by the next one.
+#[test]
+fn of_counts() {
+    for base in states() {
+        let right = base.plain.store.counts;
+        for (place, more) in (0..TABLES).flat_map(|place| OFF.map(|more| (place, more))) {
+            let mut both = base.clone();
+            both.change(|_, t| t.counts[place] = right[place].wrapping_add(more));
+            assert!(both.is_unsound(), "{more} more at {place}");
+            let other = (place + 1) % TABLES;
+            both.change(|_, t| t.counts[other] = right[other].wrapping_sub(more));
+            assert!(both.is_unsound(), "{more} from {other} to {place}");
+            both.change(|_, t| t.counts = right);
+            assert!(!both.is_unsound());
+        }
+    }
+}
+
+/// By how much a count is off: one more, one less, and numbers whose low bytes are none.
+const OFF: [u32; 5] = [1, u32::MAX, 128, 256, 1 << 16];
 
 #[test]
 fn of_a_refused_opening() {

@@ -5,7 +5,7 @@ mod boundaries;
 mod random;
 mod unfinished;
 
-use bench::layout::{Session, Store};
+use bench::layout::{Session, Store, TABLES};
 use bench::receivers::{Library, Plain, Receiver, Role};
 use bench::streams::{filling, int, message, HELLO};
 use peers::KeyType;
@@ -79,6 +79,16 @@ impl Both {
             "a call takes a store that time can't pass in"
         );
         unsound
+    }
+}
+
+/// Sets the counts to what walking the entries finds.
+fn count(store: &mut Store) {
+    store.counts = [0; TABLES];
+    for entry in store.entries.iter().filter(|entry| entry.held == 1) {
+        if let Some(count) = store.counts.get_mut(entry.table) {
+            *count += 1;
+        }
     }
 }
 

@@ -1,6 +1,6 @@
 //! Sound states with some bytes changed.
 
-use crate::{states, update, Both, UNSOUND};
+use crate::{count, states, update, Both, UNSOUND};
 use bench::layout::{Session, Store};
 use bench::streams::message;
 
@@ -108,6 +108,15 @@ fn spoil_entry(random: &mut Random, store: &mut Store) {
     }
 }
 
+/// Sets the counts right, so that the other changes decide alone, and spoils one of them now and then.
+fn spoil_counts(random: &mut Random, store: &mut Store) {
+    count(store);
+    if random.below(4) == 0 {
+        let place = random.below(8);
+        random.spoil_word(&mut store.counts[place]);
+    }
+}
+
 /// Makes calls on a spoiled state: whether it was unsound.
 fn calls_agree(random: &mut Random, both: &mut Both) -> bool {
     let pieces = [
@@ -140,6 +149,10 @@ fn after_random_changes() {
                 1 => spoil_table(&mut random, store),
                 _ => spoil_entry(&mut random, store),
             });
+        }
+        // as often as not the counts stay, which changes of entries may have put off
+        if random.below(2) == 0 {
+            both.change(|_, store| spoil_counts(&mut random, store));
         }
         unsound += usize::from(calls_agree(&mut random, &mut both));
     }

@@ -1,4 +1,4 @@
--- The lines in which `replay` shows tables and entries.
+-- The lines in which `replay` shows tables, counts and entries.
 use Prim.Native.Nat.{ℕ}
 use mathlib.Core.List.{List, [], _∷_, _++_, map}
 use mathlib.Core.Bool.{cond}
@@ -37,6 +37,10 @@ tableLine place t =
     (line (ascii "table")
     (decimal place ∷ hex (nameOf t) ∷ decimal (t .«key_type») ∷ decimal (t .«key_len») ∷ decimal (t .«data_types») ∷ timesWords t))
     []
+
+-- request 9: `counts` and the number of entries of each table place, of a free one too
+unfoldable pub countsLine : List ℕ → List ℕ
+countsLine counts = line (ascii "counts") (map decimal counts)
 
 -- the remaining time: `T` and the milliseconds, `-` where the entry has none
 unfoldable pub timeWord : Entry → List ℕ

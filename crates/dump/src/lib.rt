@@ -1,5 +1,6 @@
 // Record and store as lines, for the program `replay`.
 pub mod bound;
+pub mod counts;
 pub mod entry;
 pub mod lines;
 pub mod phase;

@@ -55,6 +55,11 @@ and-true a b h = rw h
 pub and-false : (a b : Bool) → a ≡ false → (a && b) ≡ false
 and-false a b h = rw h
 
+-- a second test that holds says nothing
+pub and-true-second : (a b : Bool) → b ≡ true → (a && b) ≡ a
+and-true-second true b h = h
+and-true-second false b h = refl
+
 -- of two failing tests either says so
 pub and-false-second : (a b : Bool) → b ≡ false → (a && b) ≡ false
 and-false-second true b h = h

@@ -19,7 +19,7 @@ use Rattle.store.specs.declared.Table.{Table}
 use Rattle.store.specs.declared.Entry.{Entry}
 use Rattle.store.specs.declared.Store.{Store}
 use Rattle.store.specs.Limits.{plainName, keyKind, isKnown, isString, keyLengthOk, slotTypes}
-use Rattle.store.specs.Store.{tableHeld, tableFree, entryFree, nameOf, keyOf, tableNamed, entryKeyed, findTable, findEntry, freeTable, putTable, putEntry, makeTable, makeEntry, noTable, noEntry}
+use Rattle.store.specs.Store.{tableHeld, tableFree, entryFree, nameOf, keyOf, tableNamed, entryKeyed, findTable, findEntry, freeTable, withEntries, putTable, putEntry, makeTable, makeEntry, noTable, noEntry}
 use Rattle.store.specs.declared.entries.Place.{Place}
 use Rattle.store.specs.Places.{freeOf, placeOf}
 use Rattle.store.specs.Sound.{entryKeyLengthOk, slotsOk, valuesOk}
@@ -303,7 +303,7 @@ module _ (c : Connection) (s : Store) (h : Held c s) where
     commit-at : (place : ℕ) (how : Commit)
         → ((q : ℕ) → q < length (s .entries) → (q ≡ place → ⊥) → entryKeyed table key (getD (s .entries) q noEntry) ≡ false)
         → Kept s (Effects.commitAt c id e place how)
-    unfolding Effects.commitAt changed entryChange putEntry
+    unfolding Effects.commitAt changed entryChange putEntry withEntries
     commit-at place how other = record {
       store =
           put-entry-facts s (h .storeShape) (h .store) place e

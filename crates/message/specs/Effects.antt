@@ -46,7 +46,7 @@ pub data Asks : Type 0 where
   does : Effect → Asks
   commits : ℕ → Entry → Asks
 
--- "From 10 up the record is closed with that number", with the reply of the table of refusals; tables and entries stay
+-- "From 10 up the record is closed with that number", with the reply of the table of refusals; the store stays
 unfoldable pub refuseWith : Connection → ℕ → Answer → Effect
 refuseWith c n a = record { answer = a; reply = refusalReply n; connection = closedWith c n; change = noChange }
 

@@ -22,7 +22,7 @@ use Rattle.store.specs.declared.Store.{Store}
 use Rattle.store.specs.Limits.{slotTypes, present}
 use Rattle.store.specs.Shape.{Cells, EntryShape}
 use Rattle.store.specs.Sound.{soundEntry, entryKeyLengthOk, valuesOk}
-use Rattle.store.specs.Store.{entryHeld, timeLeft, makeEntry, putEntry, noTable, noEntry}
+use Rattle.store.specs.Store.{entryHeld, timeLeft, makeEntry, withEntries, putEntry, noTable, noEntry}
 use Rattle.store.proofs.Facts.{TableFacts, EntryFacts, facts-entry, key-most}
 use Rattle.store.proofs.Ruled.{made-key}
 use Rattle.session.specs.declared.Session.{Session}
@@ -290,7 +290,7 @@ bytes-of-update s t m table id place how p h = by-way s t m table id place how p
 -- ---- the other places
 
 put-there : (t : Store) (place : ℕ) (e : Entry) (i : ℕ) → (i ≡ place → ⊥) → getD (putEntry t place e .entries) i noEntry ≡ getD (t .entries) i noEntry
-unfolding putEntry
+unfolding putEntry withEntries
 put-there t place e i n = getD-set-other (t .entries) place i e noEntry n
 
 elsewhere : (s : Session) (t : Store) (m : Made) (table id place : ℕ) (how : Commit) → ReadPromise s t m → m .outcome .answer ≡ answer.Update table id place how

@@ -1,6 +1,8 @@
 // Time that passes on a store: every entry is tested and changed where it lies.
 use store::ENTRIES;
 use store::Store;
+use store::TABLES;
+use store::counts::count_entry;
 use store::no_entry;
 use store::time::pass_entry;
 use store_scan::Query;
@@ -30,19 +32,23 @@ fn store_ok(store: &Store) -> bool
     scanned.sound
 }
 
-// Every entry after so many milliseconds. The entry of a free place isn't copied.
+// Every entry after so many milliseconds, and the counts of those that are left. The entry of a free place isn't copied.
 fn pass_entries(store: &mut Store, milliseconds: u32)
     ensures { λ _. ⌜ now (store .exit) ≡ passTime milliseconds (now (store .entry)) ⌝ }
 {
+    let mut counts = [0u32; TABLES];
     let mut i = 0;
     while i < ENTRIES {
         let held = store.entries[i].held;
         if held != 0 {
             let e = store.entries[i];
-            store.entries[i] = pass_entry(e, milliseconds);
+            let left = pass_entry(e, milliseconds);
+            counts = count_entry(counts, left.held, left.table);
+            store.entries[i] = left;
         }
         i += 1;
     }
+    store.counts = counts;
 }
 
 // Passes milliseconds on a lent store, which holds the new state afterwards: 0; or 4, and the store stays, where it isn't sound.

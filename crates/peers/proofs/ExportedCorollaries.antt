@@ -4,9 +4,12 @@ use native.Mathlib.Omega.{arith}
 use mathlib.Core.Path.{_≡_, refl, sym, ap, _∙_, subst}
 use mathlib.Core.Logic.{_⊎_, inl, inr, ⊎-elim}
 use mathlib.Core.Option.{some}
-use mathlib.Core.Bool.{true}
+use mathlib.Core.Bool.{true, _&&_}
 use mathlib.Core.List.{List, [], _∷_, _++_, map, flatten, map-append}
 use lib.ListN.{length, take, getD}
+use lib.Dec.{eqb}
+use borrow.Author.Tests.{eqb-true, eqb-false, ne-eqb}
+use Rattle.lists.proofs.Cases.{by-test, and-false, cond-false}
 use Rattle.store.specs.declared.Entry.{Entry}
 use Rattle.store.specs.declared.Store.{Store}
 use Rattle.store.specs.Store.{noEntry}
@@ -14,6 +17,7 @@ use Rattle.store.specs.Time.{Passed}
 use Rattle.store.proofs.Passing.{passed-twice}
 use Rattle.session.specs.declared.Session.{Session}
 use Rattle.session.specs.declared.Commit.{Commit}
+use Rattle.session.specs.declared.Commit.the-variants as commit
 use Rattle.session.specs.declared.Answer.{Answer}
 use Rattle.session.specs.declared.Answer.the-variants as answer
 use Rattle.session.specs.Answers.{refusalOf, answerNumber, answerValues, refusalReply}
@@ -32,6 +36,9 @@ use Rattle.receiver.proofs.Corollaries.{only-reachable, bytes-offered, bytes-by
 use Rattle.receiver.proofs.OnePass.{refused-pass-untouched, passed-records-sound}
 use Rattle.receiver.proofs.Acknowledging.{refused-untouched, others-untouched, held-when-acknowledged, refused-opening-untouched}
 use Rattle.receiver.proofs.Sharing.{other-records-sound, refused-byte}
+use Rattle.reading.specs.Counts.{committedCounts, answeredCounts}
+use Rattle.reading.proofs.counts.Answered.{other-counts}
+use Rattle.reading.proofs.counts.Promised.{read-counts}
 use Rattle.message_bytes.specs.MessageBytes.{UpdateMessage, DefinitionMessage, tableAt, entryAt}
 use Rattle.message_bytes.specs.LastUpdates.{lastEntry, NoneUpdates, passing, Since, NeverUpdated, LastUpdate}
 use Rattle.message_bytes.proofs.LastUpdates.{bytes-of-every-entry}
@@ -39,8 +46,8 @@ use Rattle.message_bytes.proofs.DefinitionMessages.{bytes-of-definition}
 use Rattle.peers.specs.declared.numbers.RawOpened.{RawOpened}
 use Rattle.peers.specs.Numbers.{rawOutcome, rawOpened}
 use Rattle.peers.specs.Reading.{RawMade, RawPromise}
-use Rattle.peers.specs.ExportedDemand3.{RawCalled, rawReads, rawPasses, RawChain, rawReply, rawTaken, rawLastSession, RawResult, rawCameTo, RawOffersTo}
-use Rattle.peers.specs.ExportedCorollaries.{RawSameByAnyDivision, RawAnyDivision, RawOfferedReachable, RawBytesOffered, RawBytesByReading, RawBytesRecord, RawReadingTakes, rawMessage, ToldUpdate, RawEntryHeld, RawHeldWhenAcknowledged, answering, rawLastEntry, RawNoneUpdates, rawPassing, RawNeverUpdated, RawLastUpdate, RawBytesOfEveryEntry, ToldTable, RawDefinition, RawBytesOfDefinition, RawNothingChanged, RawOnlyClosed, RawRefusedCall, RawRefusedUntouched, RawUntouched, RawOthersUntouched, RawRefusedOpening, RawRefusedOpeningUntouched, RawOtherRecordsSound, PassingCalls}
+use Rattle.peers.specs.ExportedDemand3.{RawCalled, rawReads, rawPasses, RawChain, rawValues, rawReply, rawTaken, rawLastSession, RawResult, rawCameTo, RawOffersTo}
+use Rattle.peers.specs.ExportedCorollaries.{RawSameByAnyDivision, RawAnyDivision, RawOfferedReachable, RawBytesOffered, RawBytesByReading, RawBytesRecord, RawReadingTakes, rawMessage, ToldUpdate, RawEntryHeld, RawHeldWhenAcknowledged, answering, rawLastEntry, RawNoneUpdates, rawPassing, RawNeverUpdated, RawLastUpdate, RawBytesOfEveryEntry, ToldTable, RawDefinition, RawBytesOfDefinition, RawNothingChanged, RawOnlyClosed, RawRefusedCall, RawRefusedUntouched, RawUntouched, RawOthersUntouched, rawCounts, RawCountsKept, RawRefusedOpening, RawRefusedOpeningUntouched, RawOtherRecordsSound, PassingCalls}
 use Rattle.peers.proofs.AsMade.{rawOf, rawCalled, madeBy, made-promised, made-same, madesBy, mades-chain, mades-same, values-told, refused-is}
 use Rattle.peers.proofs.ExportedDemand3.{same-reply, same-taken, same-session, same-store, offered, offering, exported-demand-3}
 
@@ -163,6 +170,7 @@ module _ (s : Session) (t : Store) (m : Made) where
     holds = h .holds;
     others = h .others;
     tables = h .tables;
+    counts = h .counts;
     reply = same-reply m ∙ h .reply;
   }
 
@@ -187,7 +195,7 @@ raw-held-when-acknowledged s t m p =
 pub raw-other-records-sound : RawOtherRecordsSound
 raw-other-records-sound s t m other p f = other-records-sound s t (madeBy s t m) other (made-promised s t m p) f
 
--- ---- the bytes of every entry
+-- ---- an update by its number
 
 -- the number 267 is an update's alone
 updates : (a : Answer) → RefusedByte a → answerNumber a ≡ 267
@@ -209,6 +217,48 @@ updates (answer.Acknowledgement id update) h e = absurd (omega (arith, e))
 updates (answer.Skipped type) h e = absurd (omega (arith, e))
 updates (answer.Refused n) h e = let l = h n refl in absurd (omega (arith, l, e))
 updates (answer.RefusedAt n offset) h e = let l = h n refl in absurd (omega (arith, l, e))
+
+-- ---- the counts
+
+update-told : (cs : List ℕ) (table id place : ℕ) (how : Commit)
+    → answeredCounts (answer.Update table id place how) cs ≡ rawCounts 267 (answerValues (answer.Update table id place how)) cs
+unfolding answeredCounts committedCounts rawCounts answerValues
+update-told cs table id place commit.New = refl
+update-told cs table id place commit.Replaced = refl
+
+other-told : (a : Answer) (cs : List ℕ) → (answerNumber a ≡ 267 → ⊥) → answeredCounts a cs ≡ rawCounts (answerNumber a) (answerValues a) cs
+unfolding answerNumber rawCounts
+other-told a cs f =
+    let new = eqb (getD (answerValues a) 3 0) 0 in
+    other-counts a cs (λ table id place how e. f (ap answerNumber e))
+    ∙ sym (cond-false (eqb (answerNumber a) 267 && new) _ _ (and-false (eqb (answerNumber a) 267) new (ne-eqb (answerNumber a) 267 f)))
+
+told-counts : (a : Answer) → RefusedByte a → (cs : List ℕ) → answeredCounts a cs ≡ rawCounts (answerNumber a) (answerValues a) cs
+unfolding answerNumber
+told-counts a h cs =
+    by-test (eqb (answerNumber a) 267)
+    (λ e.
+    let u = updates a h (eqb-true (answerNumber a) 267 e) in
+    let same = u .1 .1 .1 in
+    ap (λ (b : Answer). answeredCounts b cs) same
+    ∙ (update-told cs (u .0) (u .1 .0) (getD (answerValues a) 2 0) (u .1 .1 .0)
+    ∙ ap (λ (b : Answer). rawCounts (answerNumber b) (answerValues b) cs) (sym same)))
+    (λ e. other-told a cs (eqb-false (answerNumber a) 267 e))
+
+counts-told : (s : Session) (t : Store) (m : Made) → ReadPromise s t m
+    → m .store .counts ≡ rawCounts (answerNumber (m .outcome .answer)) (rawValues (rawOf m)) (t .counts)
+counts-told s t m p =
+    read-counts s t m p
+    ∙ (told-counts (m .outcome .answer) (refused-byte s t m p) (t .counts)
+    ∙ ap (λ (vs : List ℕ). rawCounts (answerNumber (m .outcome .answer)) vs (t .counts)) (sym (values-told m)))
+
+pub raw-counts-kept : RawCountsKept
+unfolding rawOutcome
+raw-counts-kept s t m p =
+    by-made (λ (x : RawMade). x .store .counts ≡ rawCounts (x .outcome .number) (rawValues x) (t .counts)) s t m p
+    (counts-told s t (madeBy s t m) (made-promised s t m p))
+
+-- ---- the bytes of every entry
 
 none-updates : (s : Session) (t : Store) (place : ℕ) (cs : List Called) → Chain s t cs → NoneUpdates place cs → RawNoneUpdates place (map rawCalled cs)
 unfolding Chain NoneUpdates RawNoneUpdates rawOutcome

@@ -3,14 +3,14 @@ use Prim.Native.Nat.{ℕ, _+_, _-_, _≤_, _<_}
 use mathlib.Core.Path.{_≡_}
 use mathlib.Core.Logic.{_⊎_}
 use mathlib.Core.List.{List, [], _∷_, _++_, map, flatten}
-use mathlib.Core.Bool.{true, cond, _||_}
+use mathlib.Core.Bool.{true, cond, _&&_, _||_}
 use mathlib.Core.Option.{some}
 use lib.ListN.{length, take, drop, getD}
 use lib.Dec.{eqb}
 use Rattle.lists.specs.Lists.{every}
 use Rattle.store.specs.declared.Entry.{Entry}
 use Rattle.store.specs.declared.Store.{Store}
-use Rattle.store.specs.Store.{makeEntry, noEntry, noTable, emptyStore}
+use Rattle.store.specs.Store.{countsOf, raised, makeEntry, noEntry, noTable, emptyStore}
 use Rattle.store.specs.Time.{Passed, PassedTwice}
 use Rattle.frame.specs.declared.Frame.the-variants as frame
 use Rattle.frame.specs.Frame.{judgeFrame}
@@ -118,8 +118,8 @@ pub record ToldUpdate (m : RawMade) (table id place : ℕ) (how : Commit) : Type
   pub number : m .outcome .number ≡ 267
   pub values : rawValues m ≡ table ∷ id ∷ place ∷ commitNumber how ∷ []
 
--- the store that the call left holds the entry with the message's key and values and its remaining time, and else what it held before; the
--- reply is the acknowledgement of this update with the table's ID
+-- the store that the call left holds the entry with the message's key and values and its remaining time, and else what it held before, with
+-- the counts of its entries; the reply is the acknowledgement of this update with the table's ID
 pub record RawEntryHeld (s : Session) (t : Store) (m : RawMade) : Type 0 where
   pub table : ℕ
   pub id : ℕ
@@ -143,6 +143,8 @@ pub record RawEntryHeld (s : Session) (t : Store) (m : RawMade) : Type 0 where
       ≡ makeEntry table (spanIn body (fields .key)) (fields .server) (fields .time .timed) (fields .time .remaining) (fields .values)
   pub others : (i : ℕ) → (i ≡ place → ⊥) → getD (m .store .entries) i noEntry ≡ getD (t .entries) i noEntry
   pub tables : m .store .tables ≡ t .tables
+  -- request 9: "kept right by every call on a sound store"
+  pub counts : m .store .counts ≡ countsOf (m .store .entries)
   pub reply : rawReply m ≡ acknowledge (bindingAt (s .connection) table .id) id
 
 abbrev pub RawHeldWhenAcknowledged : Type 0
@@ -224,7 +226,7 @@ pub record RawDefinition (s : Session) (t : Store) (m : RawMade) : Type 0 where
 abbrev pub RawBytesOfDefinition : Type 0
 RawBytesOfDefinition = (s : Session) (t : Store) (m : RawMade) → RawPromise s t m → m .outcome .number ≡ 265 → RawDefinition s t m
 
--- ---- any refused call, on any record and store, sound or not, leaves tables and entries and the room past the reply as they were
+-- ---- any refused call, on any record and store, sound or not, leaves the store and the room past the reply as they were
 
 -- "A call's 1, 4 and 2 take nothing and change nothing"
 pub record RawNothingChanged (s : Session) (t : Store) (m : RawMade) : Type 0 where
@@ -259,6 +261,16 @@ pub record RawUntouched (t : Store) (m : RawMade) : Type 0 where
 abbrev pub RawOthersUntouched : Type 0
 RawOthersUntouched =
     (s : Session) (t : Store) (m : RawMade) → RawPromise s t m → (m .outcome .number ≡ 265 → ⊥) → (m .outcome .number ≡ 267 → ⊥) → RawUntouched t m
+
+-- ---- the counts after any call, on any record and store, sound or not
+
+-- request 9: a new entry adds one to its table; every other answer leaves the counts. 267 is an update's number, its first value the table's
+-- place, its fourth 0 for new
+unfoldable pub rawCounts : ℕ → List ℕ → List ℕ → List ℕ
+rawCounts number values counts = cond (eqb number 267 && eqb (getD values 3 0) 0) (raised (getD values 0 0) counts) counts
+
+abbrev pub RawCountsKept : Type 0
+RawCountsKept = (s : Session) (t : Store) (m : RawMade) → RawPromise s t m → m .store .counts ≡ rawCounts (m .outcome .number) (rawValues m) (t .counts)
 
 -- ---- a refused opening, in either role, with any names and any room
 

@@ -3,11 +3,11 @@ use Prim.Native.Nat.{ℕ, _+_, _*_}
 
 -- of the calls: their names, parameters, numbers and meaning
 unfoldable pub version : ℕ
-version = 5
+version = 6
 
 -- of the structs: their fields, order and sizes
 unfoldable pub layout : ℕ
-layout = 3
+layout = 4
 
 -- one number for both
 unfoldable pub archiveVersion : ℕ

@@ -20,9 +20,9 @@ ghost use Rattle.peers.specs.Reading.{RawPromise};
 ghost use Rattle.peers.specs.Version.{archiveVersion};
 
 // The version of the calls, and that of the structs' layout.
-const VERSION: u32 = 5;
+const VERSION: u32 = 6;
 
-const LAYOUT: u32 = 3;
+const LAYOUT: u32 = 4;
 
 // What this archive was built as, so that a header or a wrapper of another version is noticed.
 #[no_mangle]

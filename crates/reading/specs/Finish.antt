@@ -14,6 +14,7 @@ use Rattle.message.specs.Structs.{finished}
 use Rattle.reassembly.specs.declared.Taken.{Taken}
 use Rattle.reading.specs.declared.results.StepChange.{StepChange}
 use Rattle.reading.specs.Results.{stays, waits, gives, replied}
+use Rattle.reading.specs.Counts.{answeredCounts}
 use Rattle.receiver.specs.Model.{replyRoom}
 use Rattle.store_scan.specs.declared.Scanned.{Scanned}
 use Rattle.reading.specs.declared.start.Started.{Started}
@@ -49,11 +50,12 @@ endRoom room (staying a) = room
 endRoom room waiting = room
 endRoom room (answering e) = replied (e .reply) room
 
--- what is returned, and a table or an entry that is put at a place of the store
-unfoldable pub finishedAs : StepChange → Finished
-finishedAs m = record {
+-- what is returned, the counts, and a table or an entry that is put at a place of the store
+unfoldable pub finishedAs : List ℕ → StepChange → Finished
+finishedAs counts m = record {
   outcome = m .outcome;
   session = m .session;
+  counts = answeredCounts (m .outcome .answer) counts;
   «puts_entry» = eqb (m .change .kind) putsEntry && ltb (m .change .place) entryPlaces;
   «puts_table» = eqb (m .change .kind) putsTable && ltb (m .change .place) tablePlaces;
   place = m .change .place;

@@ -1,4 +1,5 @@
 // The end of a reading call: what was asked is done by what the entries said, and what is to be put into the store is told.
+use crate::counts::answered_counts;
 use crate::results::StepChange;
 use crate::results::give;
 use crate::results::stay;
@@ -30,10 +31,11 @@ ghost use Rattle.reading.specs.Finish.{endOf, endStep, endRoom, finished
 // The least room for a reply.
 pub const REPLY_ROOM: usize = 12;
 
-// What is left to do: the outcome to return, the new record, and an entry or a table that is put at the place.
+// What is left to do: the outcome to return, the new record, the new counts, and an entry or a table that is put at the place.
 pub struct Finished {
     pub outcome: Outcome,
     pub session: Session,
+    pub counts: [u32; TABLES],
     pub puts_entry: bool,
     pub puts_table: bool,
     pub place: usize,
@@ -100,12 +102,15 @@ pub fn finish_read(
     session: Session,
     started: Started,
     scanned: Scanned,
+    counts: [u32; TABLES],
     reply: &mut [u8],
 ) -> Finished
-    ensures { λ r. ⌜ (r ≡ finishedAs (endStep session (started .taken) (endOf session started scanned (length (now (reply .entry)))))) × (now (reply .exit) ≡ endRoom (now (reply .entry)) (endOf session started scanned (length (now (reply .entry))))) ⌝ }
+    ensures { λ r. ⌜ (r ≡ finishedAs counts (endStep session (started .taken) (endOf session started scanned (length (now (reply .entry)))))) × (now (reply .exit) ≡ endRoom (now (reply .entry)) (endOf session started scanned (length (now (reply .entry))))) ⌝ }
 {
     let step = finish_change(session, started, scanned, reply);
     let outcome = step.outcome;
+    let answer = outcome.answer;
+    let counts = answered_counts(counts, answer);
     let next = step.session;
     let change = step.change;
     let entry = change.entry;
@@ -115,6 +120,7 @@ pub fn finish_read(
     Finished {
         outcome,
         session: next,
+        counts,
         puts_entry,
         puts_table,
         place: change.place,

@@ -1,4 +1,5 @@
 // The reading call: one session record, one store, a piece of the stream and room for a reply.
+pub mod counts;
 pub mod finish;
 pub mod results;
 pub mod start;
@@ -15,7 +16,7 @@ use store_scan::scan;
 ghost use Rattle.receiver.specs.Promise.{ReadPromise};
 
 // Reads bytes of a piece up to and with the first that ends a message or shows a refusal, else all of it. Record and store are lent, and
-// hold the new state afterwards. The tables are copied; the entries are tested and looked up where they lie.
+// hold the new state afterwards. Tables and counts are copied; the entries are tested and looked up where they lie.
 pub fn read_lent(
     session: &mut Session,
     store: &mut Store,
@@ -28,8 +29,10 @@ pub fn read_lent(
     let started = start_read(*session, tables, piece);
     let query = started.query;
     let scanned = scan(store, query);
-    let step = finish_read(*session, started, scanned, reply);
+    let counts = store.counts;
+    let step = finish_read(*session, started, scanned, counts, reply);
     *session = step.session;
+    store.counts = step.counts;
     if step.puts_entry {
         store.entries[step.place] = step.entry;
     }

@@ -1,4 +1,4 @@
--- When an acknowledgement goes out, the entry is held; any refused call leaves tables and entries as they were.
+-- When an acknowledgement goes out, the entry is held; any refused call leaves the store as it was.
 use Prim.Native.Nat.{ℕ, zero, suc, _-_, _<_, _^_}
 use native.Mathlib.Omega.{arith}
 use mathlib.Core.Path.{_≡_, refl, sym, ap, _∙_, subst}
@@ -15,7 +15,7 @@ use Rattle.lists.proofs.Cases.{by-test, cond-true, cond-false, never, and-first
 use Rattle.lists.proofs.Every.{every-cons}
 use Rattle.store.specs.declared.Store.{Store}
 use Rattle.store.specs.declared.Entry.{Entry}
-use Rattle.store.specs.Store.{putEntry, noEntry}
+use Rattle.store.specs.Store.{countsOf, withEntries, putEntry, noEntry}
 use Rattle.wire.specs.Value.{Bytes}
 use Rattle.handshake.specs.Handshake.{nameOk}
 use Rattle.session.specs.declared.Session.{Session}
@@ -145,16 +145,20 @@ only-updates l message reply (answer.Refused n) r h = never h (r .other)
 only-updates l message reply (answer.RefusedAt n offset) r h = never h (r .other)
 
 pub put-here : (t : Store) (place : ℕ) (e : Entry) → place < length (t .entries) → getD (putEntry t place e .entries) place noEntry ≡ e
-unfolding putEntry
+unfolding putEntry withEntries
 put-here t place e l = getD-set-same (t .entries) place e noEntry l
 
 put-others : (t : Store) (place : ℕ) (e : Entry) (i : ℕ) → (i ≡ place → ⊥) → getD (putEntry t place e .entries) i noEntry ≡ getD (t .entries) i noEntry
-unfolding putEntry
+unfolding putEntry withEntries
 put-others t place e i n = getD-set-other (t .entries) place i e noEntry n
 
 pub put-tables : (t : Store) (place : ℕ) (e : Entry) → putEntry t place e .tables ≡ t .tables
-unfolding putEntry
+unfolding putEntry withEntries
 put-tables t place e = refl
+
+put-counts : (t : Store) (place : ℕ) (e : Entry) → putEntry t place e .counts ≡ countsOf (putEntry t place e .entries)
+unfolding putEntry withEntries
+put-counts t place e = refl
 
 module _ (s : Session) (t : Store) (m : Made) (p : ReadPromise s t m) (e : Effect)
     (j : Judging s t (m .piece) (callOf s t (m .piece) (length (m .room))) e) where
@@ -212,6 +216,7 @@ module _ (s : Session) (t : Store) (m : Made) (p : ReadPromise s t m) (e : Effec
         holds = ap (λ (k : Store). getD (k .entries) place noEntry) stored ∙ put-here t place _ (x .inside);
         others = λ i n. ap (λ (k : Store). getD (k .entries) i noEntry) stored ∙ put-others t place _ i n;
         tables = ap (λ (k : Store). k .tables) stored ∙ put-tables t place _;
+        counts = ap (λ (k : Store). k .counts) stored ∙ (put-counts t place _ ∙ ap (λ (k : Store). countsOf (k .entries)) (sym stored));
         reply =
             reply-is s t m p ∙ (j .reply ∙ x .reply);
       }

@@ -16,8 +16,9 @@ use Rattle.lists.specs.Lists.{firstPlace}
 use Rattle.lists.proofs.Places.{first-at}
 use Rattle.lists.proofs.Cases.{by-test, or-false, cond-true, cond-false}
 use Rattle.store.specs.declared.Table.{Table}
+use Rattle.store.specs.declared.Entry.{Entry}
 use Rattle.store.specs.declared.Store.{Store}
-use Rattle.store.specs.Store.{tableFree, tableNamed, entryFree, noTable}
+use Rattle.store.specs.Store.{tableFree, tableNamed, entryFree, noTable, noEntry}
 use Rattle.store.specs.Places.{freeOf, placeOf}
 use Rattle.handshake.specs.declared.Hello.{Hello}
 use Rattle.handshake.specs.declared.Hello.the-variants as hello
@@ -68,8 +69,13 @@ Noted (answer.RefusedAt n offset) = ⊥
 abbrev pub bodyIn : List ℕ → ℕ → ℕ → List ℕ
 bodyIn u start end = take (end - start) (drop start u)
 
+-- what a committed entry finds at its place: a new one a free place, one that replaces an entry of its table and key
+unfoldable pub Finds : Commit → Entry → Entry → Type 0
+Finds commit.New e old = entryFree old ≡ true
+Finds commit.Replaced e old = keyedAs e old ≡ true
+
 -- an update of the current table whose fields were read, and the place of its entry
-pub record Committing (c : Connection) (t : Store) (u : List ℕ) (fields : Update) (body : List ℕ) (place : ℕ) : Type 0 where
+pub record Committing (c : Connection) (t : Store) (u : List ℕ) (fields : Update) (body : List ℕ) (place : ℕ) (how : Commit) : Type 0 where
   pub kind : ℕ
   pub start : ℕ
   pub end : ℕ
@@ -82,6 +88,7 @@ pub record Committing (c : Connection) (t : Store) (u : List ℕ) (fields : Upda
   pub after : ℕ
   pub read : fieldsOf c t (c .current - 1) form body ≡ got fields after
   pub inside : place < length (t .entries)
+  pub finds : Finds how (updatedEntry body (c .current - 1) fields) (getD (t .entries) place noEntry)
 
 -- a definition whose fields were read, and the place of its table
 pub record Defining (c : Connection) (t : Store) (u : List ℕ) (fields : Definition) (body : List ℕ) (place : ℕ) : Type 0 where
@@ -99,7 +106,7 @@ pub data Kind (c : Connection) (t : Store) (u : List ℕ) : Effect → Type 0 wh
   errored : (type : ℕ) → Kind c t u (peerError c type)
   defined : (fields : Definition) (body : List ℕ) (place : ℕ) → Defining c t u fields body place
       → Kind c t u (defineAt c (fields .id) (definedTable body fields) place)
-  committed : (fields : Update) (body : List ℕ) (place : ℕ) (how : Commit) → Committing c t u fields body place
+  committed : (fields : Update) (body : List ℕ) (place : ℕ) (how : Commit) → Committing c t u fields body place how
       → Kind c t u (commitAt c (fields .id) (updatedEntry body (c .current - 1) fields) place how)
 
 -- ---- numbers of refusals
@@ -175,18 +182,23 @@ module _ (c : Connection) (t : Store) (u : List ℕ) where
     module _ (form : Form) (type : formOf kind ≡ some form) (z : eqb (c .current) 0 ≡ false)
         (previous : form .explicit ≡ false → isUpdated (bindingAt c now) ≡ true) where
       commit-kind : (f : Update) (after p : ℕ) (how : Commit) → fieldsOf c t now form body ≡ got f after → p < length (t .entries)
+          → Finds how (updatedEntry body now f) (getD (t .entries) p noEntry)
           → Kind c t u (commitAt c (f .id) (updatedEntry body now f) p how)
-      commit-kind f after p how r l =
+      commit-kind f after p how r l d =
           committed f body p how
-          (record { kind = kind; start = start; end = end; framed = e; body-is = refl; form = form; type = type; current = z; previous = previous; after = after; read = r; inside = l })
+          (record { kind = kind; start = start; end = end; framed = e; body-is = refl; form = form; type = type; current = z; previous = previous; after = after; read = r; inside = l; finds = d })
 
       -- where the entry goes, by what the lookups found
       commit-entry-kind : (f : Update) (after : ℕ) (x y : Found) → fieldsOf c t now form body ≡ got f after
           → firstPlace (keyedAs (updatedEntry body now f)) (t .entries) ≡ x → firstPlace entryFree (t .entries) ≡ y
           → Kind c t u (commitEntry c (f .id) (updatedEntry body now f) (placeOf x y))
-      unfolding commitEntry placeOf freeOf
-      commit-entry-kind f after (found.At p) y r q w = commit-kind f after p commit.Replaced r (first-at (keyedAs (updatedEntry body now f)) (t .entries) p q .inside)
-      commit-entry-kind f after found.Nothing (found.At p) r q w = commit-kind f after p commit.New r (first-at entryFree (t .entries) p w .inside)
+      unfolding commitEntry placeOf freeOf Finds
+      commit-entry-kind f after (found.At p) y r q w =
+          let x = first-at (keyedAs (updatedEntry body now f)) (t .entries) p q in
+          commit-kind f after p commit.Replaced r (x .inside) (x .passes noEntry)
+      commit-entry-kind f after found.Nothing (found.At p) r q w =
+          let x = first-at entryFree (t .entries) p w in
+          commit-kind f after p commit.New r (x .inside) (x .passes noEntry)
       commit-entry-kind f after found.Nothing found.Nothing r q w = refused-with 29 (omega arith) (omega arith)
 
       with-kind : (r : Read Update) → fieldsOf c t now form body ≡ r → Kind c t u (done c (t .entries) (withFields c body now r))

@@ -12,7 +12,7 @@ use lib.Dec.{eqb}
 use borrow.Author.Tests.{ne-eqb, eqb-false}
 use Rattle.lists.proofs.Cases.{never}
 use Rattle.store.specs.declared.Store.{Store}
-use Rattle.store.specs.Store.{putTable, putEntry, makeTable, makeEntry, tableHeld}
+use Rattle.store.specs.Store.{withEntries, putTable, putEntry, makeTable, makeEntry, tableHeld}
 use Rattle.frame.specs.declared.Frame.the-variants as frame
 use Rattle.frame.specs.Frame.{judgeFrame}
 use Rattle.session.specs.declared.Connection.{Connection}
@@ -123,7 +123,7 @@ module _ (c : Connection) (t : Store) (u : List ℕ) where
   -- ---- held tables stay held
 
   kind-grows : (e : Effect) → Kind c t u e → (i : ℕ) → heldAt (t .tables) i ≡ true → heldAt (changed t (e .change) .tables) i ≡ true
-  unfolding refuseWith refusalOf note peerError defineAt commitAt changed noChange tableChange entryChange putTable putEntry
+  unfolding refuseWith refusalOf note peerError defineAt commitAt changed noChange tableChange entryChange putTable putEntry withEntries
   kind-grows e (kinds.refused n a h r) i k = k
   kind-grows e (kinds.noted d a reply h) i k = k
   kind-grows e (kinds.errored type) i k = k

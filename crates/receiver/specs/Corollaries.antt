@@ -9,7 +9,7 @@ use lib.ListN.{length, take, drop, getD}
 use lib.Dec.{eqb, leb}
 use Rattle.lists.specs.Lists.{every}
 use Rattle.store.specs.declared.Store.{Store}
-use Rattle.store.specs.Store.{makeEntry, noEntry, noTable}
+use Rattle.store.specs.Store.{countsOf, makeEntry, noEntry, noTable}
 use Rattle.store.specs.Time.{passTime, Passed, PassPromise}
 use Rattle.frame.specs.declared.Frame.the-variants as frame
 use Rattle.frame.specs.Frame.{acknowledgementType, judgeFrame}
@@ -86,8 +86,8 @@ messageOf s m = unfinished s ++ take (m .outcome .taken) (m .piece)
 abbrev pub fieldsOf : Connection → Store → ℕ → Form → List ℕ → Read Update
 fieldsOf c t table form body = updateFields form (getD (t .tables) table noTable) (followingId (bindingAt c table .previous)) body
 
--- the store that the call left holds the entry with the message's key and values and its remaining time, and else what it held before; the
--- reply is the acknowledgement of this update with the table's ID
+-- the store that the call left holds the entry with the message's key and values and its remaining time, and else what it held before, with
+-- the counts of its entries; the reply is the acknowledgement of this update with the table's ID
 pub record EntryHeld (s : Session) (t : Store) (m : Made) : Type 0 where
   pub table : ℕ
   pub id : ℕ
@@ -111,6 +111,8 @@ pub record EntryHeld (s : Session) (t : Store) (m : Made) : Type 0 where
       ≡ makeEntry table (spanIn body (fields .key)) (fields .server) (fields .time .timed) (fields .time .remaining) (fields .values)
   pub others : (i : ℕ) → (i ≡ place → ⊥) → getD (m .store .entries) i noEntry ≡ getD (t .entries) i noEntry
   pub tables : m .store .tables ≡ t .tables
+  -- request 9: "kept right by every call on a sound store"
+  pub counts : m .store .counts ≡ countsOf (m .store .entries)
   pub reply : replyIn m ≡ acknowledge (bindingAt (s .connection) table .id) id
 
 abbrev pub HeldWhenAcknowledged : Type 0
@@ -127,7 +129,7 @@ pub record ReadBack (id update : ℕ) : Type 0 where
 abbrev pub AcknowledgementReadBack : Type 0
 AcknowledgementReadBack = (id update : ℕ) → id < 2 ^ 32 → update < 2 ^ 32 → ReadBack id update
 
--- ---- any refused call, on any record and store, sound or not, leaves tables and entries and the room past the reply as they were
+-- ---- any refused call, on any record and store, sound or not, leaves the store and the room past the reply as they were
 
 -- the refusals that close the session: the table's from 10 up, and request 8's 30; opening's 1 and 3 aside
 unfoldable pub closes : ℕ → Bool

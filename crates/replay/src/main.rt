@@ -7,6 +7,7 @@
 //   D                      a dump of record and store
 // Anything else ends the script, and so do N, C, T and D before the first O and the end of the input: `end`. That line is left out where a
 // read or a write failed.
+use dump::counts::put_counts;
 use dump::lines::put_entry;
 use dump::lines::put_table;
 use dump::record_lines::put_record;
@@ -260,6 +261,12 @@ fn dump_tables(page: Page, tables: [Table; TABLES], out: &mut [u8]) -> Page {
     at
 }
 
+fn dump_counts(page: Page, counts: [u32; TABLES], out: &mut [u8]) -> Page {
+    let p = room_at(out, page, MARGIN);
+    let next = put_counts(out, p.next, counts);
+    turned(p, next)
+}
+
 fn types_of(tables: [Table; TABLES], place: usize) -> u32 {
     if TABLES <= place {
         return 0;
@@ -294,7 +301,9 @@ fn show(run: Run, out: &mut [u8]) -> Run {
     let a = room_at(out, run.page, MARGIN);
     let b = put_record(out, a.next, run.session);
     let c = dump_tables(turned(a, b), tables, out);
-    let page = dump_entries(c, store, out);
+    let counts = store.counts;
+    let d = dump_counts(c, counts, out);
+    let page = dump_entries(d, store, out);
     let mut r = run;
     r.page = page;
     r

@@ -17,10 +17,11 @@ use Rattle.store.specs.declared.Table.{Table}
 use Rattle.store.specs.declared.Entry.{Entry}
 use Rattle.store.specs.declared.Store.{Store}
 use Rattle.store.specs.Limits.{plainName, keyKind, isKnown, isString, keyLengthOk, dataTypesOk}
-use Rattle.store.specs.Store.{tableHeld, entryHeld, nameOf, keyOf, tableNamed, entryOf, entryKeyed, noTable, noEntry}
+use Rattle.store.specs.Store.{tableHeld, entryHeld, nameOf, keyOf, tableNamed, entryOf, entryKeyed, countsOf, noTable, noEntry}
 use Rattle.store.specs.Shape.{TableShape, EntryShape}
-use Rattle.store.specs.Sound.{nameLengthOk, namePlain, keyTypeOk, tableKeyLengthOk, tableTypesOk, timedOk, tableTests, soundTable, sameName, entryTableOk, entryTimedOk, entryKeyLengthOk, keyRestZero, valuesOk, entryTests, soundEntry, sameKey, soundStore}
+use Rattle.store.specs.Sound.{nameLengthOk, namePlain, keyTypeOk, tableKeyLengthOk, tableTypesOk, timedOk, tableTests, soundTable, sameName, entryTableOk, entryTimedOk, entryKeyLengthOk, keyRestZero, valuesOk, entryTests, soundEntry, sameKey, countsRight, soundStore}
 use Rattle.store.proofs.Rules.{key-length-most}
+use Rattle.store.proofs.Counting.{right-counts, counts-right}
 
 -- ---- facts
 
@@ -51,6 +52,7 @@ pub record SoundStore (s : Store) : Type 0 where
   pub entry : (i : ℕ) → i < length (s .entries) → entryHeld (getD (s .entries) i noEntry) ≡ true
       → EntryFacts (s .tables) (getD (s .entries) i noEntry)
   pub keys : (i j : ℕ) → i < j → j < length (s .entries) → sameKey (getD (s .entries) i noEntry) (getD (s .entries) j noEntry) ≡ false
+  pub counts : s .counts ≡ countsOf (s .entries)
 
 -- ---- a table
 
@@ -149,15 +151,20 @@ module _ (s : Store) where
   abbrev keys-ok : Bool
   keys-ok = distinct sameKey (s .entries)
 
+  abbrev counts-ok : Bool
+  counts-ok = countsRight s
+
   pub sound-facts : soundStore s ≡ true → SoundStore s
   unfolding soundStore
   sound-facts h =
-      let r1 = all-rest tables-ok (names-ok ∷ entries-ok ∷ keys-ok ∷ []) h in
-      let r2 = all-rest names-ok (entries-ok ∷ keys-ok ∷ []) r1 in
-      let ts = all-first tables-ok (names-ok ∷ entries-ok ∷ keys-ok ∷ []) h in
-      let ns = all-first names-ok (entries-ok ∷ keys-ok ∷ []) r1 in
-      let es = all-first entries-ok (keys-ok ∷ []) r2 in
-      let ks = all-first keys-ok [] (all-rest entries-ok (keys-ok ∷ []) r2) in
+      let r1 = all-rest tables-ok (names-ok ∷ entries-ok ∷ keys-ok ∷ counts-ok ∷ []) h in
+      let r2 = all-rest names-ok (entries-ok ∷ keys-ok ∷ counts-ok ∷ []) r1 in
+      let ts = all-first tables-ok (names-ok ∷ entries-ok ∷ keys-ok ∷ counts-ok ∷ []) h in
+      let ns = all-first names-ok (entries-ok ∷ keys-ok ∷ counts-ok ∷ []) r1 in
+      let es = all-first entries-ok (keys-ok ∷ counts-ok ∷ []) r2 in
+      let r3 = all-rest entries-ok (keys-ok ∷ counts-ok ∷ []) r2 in
+      let ks = all-first keys-ok (counts-ok ∷ []) r3 in
+      let cs = all-first counts-ok [] (all-rest keys-ok (counts-ok ∷ []) r3) in
       record {
         tableFlag = λ i l. table-flag (getD (s .tables) i noTable) (every-at soundTable (s .tables) noTable i ts l);
         table = λ i l. table-facts (getD (s .tables) i noTable) (every-at soundTable (s .tables) noTable i ts l);
@@ -165,18 +172,20 @@ module _ (s : Store) where
         entryFlag = λ i l. entry-flag (s .tables) (getD (s .entries) i noEntry) (every-at (soundEntry (s .tables)) (s .entries) noEntry i es l);
         entry = λ i l. entry-facts (s .tables) (getD (s .entries) i noEntry) (every-at (soundEntry (s .tables)) (s .entries) noEntry i es l);
         keys = λ i j l m. distinct-at sameKey (s .entries) noEntry i j ks l m;
+        counts = right-counts s cs;
       }
 
   pub facts-sound : SoundStore s → soundStore s ≡ true
   unfolding soundStore
   facts-sound r =
-      all-intro tables-ok (names-ok ∷ entries-ok ∷ keys-ok ∷ [])
+      all-intro tables-ok (names-ok ∷ entries-ok ∷ keys-ok ∷ counts-ok ∷ [])
       (every-from soundTable (s .tables) noTable (λ i l. facts-table (getD (s .tables) i noTable) (r .tableFlag i l) (r .table i l)))
-      (all-intro names-ok (entries-ok ∷ keys-ok ∷ []) (distinct-from sameName (s .tables) noTable (λ i j l m. r .names i j l m))
-      (all-intro entries-ok (keys-ok ∷ [])
+      (all-intro names-ok (entries-ok ∷ keys-ok ∷ counts-ok ∷ []) (distinct-from sameName (s .tables) noTable (λ i j l m. r .names i j l m))
+      (all-intro entries-ok (keys-ok ∷ counts-ok ∷ [])
       (every-from (soundEntry (s .tables)) (s .entries) noEntry
       (λ i l. facts-entry (s .tables) (getD (s .entries) i noEntry) (r .entryFlag i l) (r .entry i l)))
-      (all-intro keys-ok [] (distinct-from sameKey (s .entries) noEntry (λ i j l m. r .keys i j l m)) all-none)))
+      (all-intro keys-ok (counts-ok ∷ []) (distinct-from sameKey (s .entries) noEntry (λ i j l m. r .keys i j l m))
+      (all-intro counts-ok [] (counts-right s (r .counts)) all-none))))
 
 -- ---- names and keys as facts
 

@@ -5,7 +5,7 @@ use mathlib.Core.Path.{_≡_, sym, _∙_, subst}
 use mathlib.Core.Bool.{true, false}
 use mathlib.Core.Logic.{_⊎_, ⊎-elim}
 use mathlib.Core.List.{List}
-use lib.ListN.{length, getD, replicate, length-set, getD-replicate, length-replicate, List·getD-eq-default}
+use lib.ListN.{length, getD, set, replicate, length-set, getD-replicate, length-replicate, List·getD-eq-default}
 use lib.IntN.{ℤ}
 use lib.Dec.{eqb, lit<}
 use lib.Signed.{mag}
@@ -22,9 +22,10 @@ use Rattle.store.specs.declared.Entry.{Entry}
 use Rattle.store.specs.declared.Store.{Store}
 use Rattle.store.specs.declared.Definition.{Definition}
 use Rattle.store.specs.Limits.{keyMax, nameMax}
-use Rattle.store.specs.Store.{tableHeld, entryHeld, tableFree, entryFree, nameOf, keyOf, tableNamed, entryKeyed, findTable, findEntry, freeTable, freeEntry, timeLeft, makeEntry, makeTable, putTable, putEntry, noTable, noEntry, emptyStore}
+use Rattle.store.specs.Store.{tableHeld, entryHeld, tableFree, entryFree, nameOf, keyOf, tableNamed, entryKeyed, findTable, findEntry, freeTable, freeEntry, timeLeft, makeEntry, makeTable, withEntries, putTable, putEntry, noTable, noEntry, emptyStore}
 use Rattle.store.specs.Shape.{Cells, TableShape, EntryShape, StoreShape}
 use Rattle.store.specs.Sound.{sameName, sameKey}
+use Rattle.store.proofs.Counting.{counts-cells}
 use Rattle.store.proofs.Facts.{SoundStore, named-facts, keyed-facts}
 
 -- ---- what lookup and the search for a free place say
@@ -92,17 +93,19 @@ put-table-shape s place t h q =
     let n = length-set (s .tables) place t ∙ h .tables in
     record {
       tables = n;
+      counts = h .counts;
       entries = h .entries;
       table = λ i l. stored-each (s .tables) place t noTable TableShape q (λ k m. h .table k (omega (arith, h .tables))) i (omega (arith, n));
       entry = h .entry;
     }
 
 pub put-entry-shape : (s : Store) (place : ℕ) (e : Entry) → StoreShape s → EntryShape e → StoreShape (putEntry s place e)
-unfolding putEntry
+unfolding putEntry withEntries
 put-entry-shape s place e h q =
     let n = length-set (s .entries) place e ∙ h .entries in
     record {
       tables = h .tables;
+      counts = counts-cells (set (s .entries) place e) (omega (arith, n));
       entries = n;
       table = h .table;
       entry = λ i l. stored-each (s .entries) place e noEntry EntryShape q (λ k m. h .entry k (omega (arith, h .entries))) i (omega (arith, n));
@@ -213,6 +216,7 @@ unfolding emptyStore
 empty-shape =
     record {
       tables = length-replicate 8 noTable;
+      counts = zero-cells 8 32;
       entries = length-replicate 128 noEntry;
       table = λ i l. rw (getD-replicate 8 i noTable noTable l) table-zero;
       entry = λ i l. rw (getD-replicate 128 i noEntry noEntry l) entry-zero;

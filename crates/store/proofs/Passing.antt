@@ -14,11 +14,12 @@ use Rattle.lists.proofs.Maps.{mapped-at}
 use Rattle.store.specs.declared.Table.{Table}
 use Rattle.store.specs.declared.Entry.{Entry}
 use Rattle.store.specs.declared.Store.{Store}
-use Rattle.store.specs.Store.{entryHeld, entryOf, entryKeyed, keyOf, noEntry}
+use Rattle.store.specs.Store.{entryHeld, entryOf, entryKeyed, keyOf, withEntries, noEntry}
 use Rattle.store.specs.Shape.{EntryShape, StoreShape}
 use Rattle.store.specs.Sound.{entryKeyLengthOk, keyRestZero, valuesOk, sameKey, soundStore}
 use Rattle.store.specs.Time.{entryTimed, lowered, passEntry, passTime, passNumber, passStore, Passed, PassPromise, PassedTwice}
 use Rattle.store.proofs.Facts.{EntryFacts, SoundStore, sound-facts, facts-sound}
+use Rattle.store.proofs.Counting.{counts-cells}
 use Rattle.store.proofs.Kept.{entry-zero}
 
 -- ---- the cases of an entry
@@ -129,7 +130,7 @@ entries-add a b [] = refl
 entries-add a b (x ∷ xs) = rw (entry-add a b x, entries-add a b xs)
 
 pub pass-add : (a b : ℕ) (s : Store) → passTime b (passTime a s) ≡ passTime (a + b) s
-unfolding passTime
+unfolding passTime withEntries
 pass-add a b s = rw (entries-add a b (s .entries))
 
 -- ---- the shape
@@ -154,15 +155,16 @@ pub passed-at : (e : ℕ) (xs : List Entry) (i : ℕ) → i < length xs → getD
 passed-at e xs i l = mapped-at (passEntry e) xs i noEntry noEntry l
 
 pub entry-passes : (e : ℕ) (s : Store) (i : ℕ) → getD (passTime e s .entries) i noEntry ≡ passEntry e (getD (s .entries) i noEntry)
-unfolding passTime
+unfolding passTime withEntries
 entry-passes e s i =
     ap (getD (map (passEntry e) (s .entries)) i) (sym (pass-stays e noEntry no-entry-timed)) ∙ List·getD-map (passEntry e) (s .entries) i noEntry
 
 pub pass-shape : (e : ℕ) (s : Store) → StoreShape s → StoreShape (passTime e s)
-unfolding passTime
+unfolding passTime withEntries
 pass-shape e s h =
     record {
       tables = h .tables;
+      counts = counts-cells (map (passEntry e) (s .entries)) (omega (arith, length-map (s .entries) (passEntry e), h .entries));
       entries = length-map (s .entries) (passEntry e) ∙ h .entries;
       table = h .table;
       entry = λ i l.
@@ -171,12 +173,12 @@ pass-shape e s h =
     }
 
 pub pass-tables : (e : ℕ) (s : Store) → passTime e s .tables ≡ s .tables
-unfolding passTime
+unfolding passTime withEntries
 pass-tables e s = refl
 
 -- ---- a sound store stays sound
 
-no-entry-held : entryHeld noEntry ≡ false
+pub no-entry-held : entryHeld noEntry ≡ false
 unfolding entryHeld noEntry
 no-entry-held = refl
 
@@ -227,7 +229,7 @@ unfolding lowered
 lowered-flag e x h = h
 
 pub pass-facts : (e : ℕ) (s : Store) → SoundStore s → SoundStore (passTime e s)
-unfolding passTime
+unfolding passTime withEntries
 pass-facts e s r =
     record {
       tableFlag = r .tableFlag;
@@ -240,6 +242,7 @@ pass-facts e s r =
           (λ q. never q no-entry-held) (lowered-facts (s .tables) e (old i) (r .entry i (within i l))));
       keys = λ i j l m.
           rw (at i (omega arith), at j m) (keys-apart e (old i) (old j) (r .keys i j l (within j m)));
+      counts = refl;
     }
   where
     old : ℕ → Entry

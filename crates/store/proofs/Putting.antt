@@ -58,6 +58,6 @@ pub table-made : (name : List ℕ) (d : Definition) (bytes : List ℕ) → bytes
 unfolding makeTable
 table-made name d bytes e = rw e
 
-pub empty-is : (t : Table) (e : Entry) → t ≡ noTable → e ≡ noEntry → _≡_ {A = Store} (record { tables = replicate 8 t; entries = replicate 128 e }) emptyStore
+pub empty-is : (t : Table) (e : Entry) → t ≡ noTable → e ≡ noEntry → _≡_ {A = Store} (record { tables = replicate 8 t; counts = replicate 8 0; entries = replicate 128 e }) emptyStore
 unfolding emptyStore
 empty-is t e p q = rw (p, q)

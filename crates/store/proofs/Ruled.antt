@@ -10,7 +10,7 @@ use lib.Seq.{getD-set-same, getD-set-other}
 use lib.IntN.{ℤ}
 use lib.Dec.{leb, eqb}
 use borrow.Author.Tests.{eq-eqb}
-use Rattle.lists.specs.Lists.{allOf, every, distinct, isZero}
+use Rattle.lists.specs.Lists.{allOf, every, distinct, isZero, eqBytes, upTo}
 use Rattle.lists.proofs.Cases.{never, not-passed, and-first, and-second, and-false-second, eq-or-ne}
 use Rattle.lists.proofs.Stores.{stored-each, stored-apart}
 use Rattle.lists.proofs.Bytes.{pad-take, pad-drop, zeros-zero}
@@ -19,9 +19,9 @@ use Rattle.store.specs.declared.Entry.{Entry}
 use Rattle.store.specs.declared.Store.{Store}
 use Rattle.store.specs.declared.Definition.{Definition}
 use Rattle.store.specs.Limits.{keyMax, nameMax, plainName, keyKind, isString, slotTypes}
-use Rattle.store.specs.Store.{tableHeld, entryHeld, nameOf, keyOf, tableNamed, entryKeyed, makeEntry, makeTable, putTable, putEntry, noTable, noEntry, emptyStore}
+use Rattle.store.specs.Store.{tableHeld, entryHeld, nameOf, keyOf, tableNamed, entryKeyed, makeEntry, makeTable, withEntries, countsOf, countOf, ownedBy, putTable, putEntry, noTable, noEntry, emptyStore}
 use Rattle.store.specs.Shape.{TableShape, EntryShape, StoreShape}
-use Rattle.store.specs.Sound.{sameName, entryKeyLengthOk, keyRestZero, slotsOk, valuesOk, sameKey, soundStore, soundTable, soundEntry}
+use Rattle.store.specs.Sound.{sameName, entryKeyLengthOk, keyRestZero, slotsOk, valuesOk, sameKey, countsRight, soundStore, soundTable, soundEntry}
 use Rattle.store.proofs.Facts.{TableFacts, EntryFacts, SoundStore, named-facts, facts-named, keyed-facts, facts-keyed, name-size, key-size}
 
 -- ---- the rules
@@ -76,7 +76,7 @@ module _ (s : Store) (h : StoreShape s) (r : SoundStore s) where
       key-size (getD (s .tables) (e .table) noTable) e (owner-facts e f) (f .keyLength) (h .entry i (omega (arith, h .entries)))
 
   pub put-entry-facts : (place : ℕ) (e : Entry) → EntryRules s place e → SoundStore (putEntry s place e)
-  unfolding putEntry
+  unfolding putEntry withEntries
   put-entry-facts place e w =
       record {
         tableFlag = r .tableFlag;
@@ -88,6 +88,7 @@ module _ (s : Store) (h : StoreShape s) (r : SoundStore s) where
             (λ j l f.
             (keyed-first e (getD es j noEntry) (w .fresh j l f), keyed-second e (getD es j noEntry) (held-size j l) (w .fresh j l f)))
             (r .keys);
+        counts = refl;
       }
     where
       es : List Entry
@@ -181,6 +182,7 @@ module _ (s : Store) (h : StoreShape s) (r : SoundStore s) where
         entryFlag = r .entryFlag;
         entry = λ i l q. entry-stays ts place t (w .flag) (omega (arith, h .tables)) (w .keeps) (getD (s .entries) i noEntry) (r .entry i l q);
         keys = r .keys;
+        counts = r .counts;
       }
     where
       ts : List Table
@@ -208,5 +210,5 @@ made-plain name d l h = ap plainName (made-name name d l) ∙ h
 -- ---- the store without tables and entries
 
 pub empty-sound : soundStore emptyStore ≡ true
-unfolding soundStore emptyStore allOf every distinct soundTable soundEntry sameName sameKey noTable noEntry tableHeld entryHeld
+unfolding soundStore emptyStore allOf every distinct soundTable soundEntry sameName sameKey countsRight eqBytes countsOf countOf ownedBy upTo noTable noEntry tableHeld entryHeld
 empty-sound = refl

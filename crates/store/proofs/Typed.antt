@@ -60,11 +60,12 @@ pub store-shape : (s : Store) (vs : List Val) → Is (row store-type.the-type) s
 store-shape s vs p =
     record {
       tables = search (needs, length-mapped);
+      counts = record { size = search needs; small = λ i. let f : Fits w32 (getD (s .counts) i 0) = search needs in f .fits };
       entries = search (needs, length-mapped);
       table =
           each-in-field (table-type.the-field .row) (λ (t : Table). table-type.the-type .to t) TableShape (λ t us q. table-shape t us q) 8 (s .tables) _
           (p .1 .1 .0) noTable;
       entry =
           each-in-field (entry-type.the-field .row) (λ (e : Entry). entry-type.the-type .to e) EntryShape (λ e us q. entry-shape e us q) 128 (s .entries) _
-          (p .1 .1 .1 .0) noEntry;
+          (p .1 .1 .1 .1 .0) noEntry;
     }

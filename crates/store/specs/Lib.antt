@@ -5,3 +5,4 @@ pub mod Sound
 pub mod Examples
 pub mod Places
 pub mod Time
+pub mod Counts

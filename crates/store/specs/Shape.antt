@@ -38,6 +38,7 @@ pub record EntryShape (e : Entry) : Type 0 where
 
 pub record StoreShape (s : Store) : Type 0 where
   pub tables : length (s .tables) ≡ tablePlaces
+  pub counts : Cells tablePlaces 32 (s .counts)
   pub entries : length (s .entries) ≡ entryPlaces
   pub table : (i : ℕ) → i < tablePlaces → TableShape (getD (s .tables) i noTable)
   pub entry : (i : ℕ) → i < entryPlaces → EntryShape (getD (s .entries) i noEntry)

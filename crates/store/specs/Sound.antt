@@ -1,16 +1,17 @@
--- Soundness of a store: document 01's "Not sound means", as far as it concerns tables and entries, request 2's mark of a remaining time and
--- request 8's rule of names. Each kind of fault is a test of its own; free places aren't looked at, nor values that a table doesn't have.
+-- Soundness of a store: document 01's "Not sound means", as far as it concerns tables and entries, request 2's mark of a remaining time,
+-- request 8's rule of names and request 9's counts. Each kind of fault is a test of its own; free places aren't looked at (but a free table
+-- place has a count of 0), nor values that a table doesn't have.
 use Prim.Native.Nat.{ℕ, _^_}
 use mathlib.Core.List.{List, [], _∷_}
 use mathlib.Core.Bool.{Bool, true, cond, not, _&&_, _||_}
 use lib.ListN.{drop, getD}
 use lib.Dec.{ltb, leb, eqb}
-use Rattle.lists.specs.Lists.{allOf, every, distinct, isZero}
+use Rattle.lists.specs.Lists.{allOf, every, distinct, isZero, eqBytes}
 use Rattle.store.specs.declared.Table.{Table}
 use Rattle.store.specs.declared.Entry.{Entry}
 use Rattle.store.specs.declared.Store.{Store}
 use Rattle.store.specs.Limits.{nameMax, plainName, keyKind, isKnown, isString, keyLengthOk, dataTypesOk, present, isWide, slotTypes, tablePlaces}
-use Rattle.store.specs.Store.{tableHeld, entryHeld, tableNamed, entryKeyed, nameOf, keyOf, noTable}
+use Rattle.store.specs.Store.{tableHeld, entryHeld, tableNamed, entryKeyed, nameOf, keyOf, countsOf, noTable}
 
 -- ---- a table: "a count, length, place, field or value outside the limits here"
 
@@ -89,12 +90,17 @@ sameKey e f = entryHeld e && entryKeyed (e .table) (keyOf e) f
 
 -- ---- a store
 
+-- request 9: "In a sound store it equals the number found by walking it, 0 at a free place, which is looked at for this"
+unfoldable pub countsRight : Store → Bool
+countsRight s = eqBytes (s .counts) (countsOf (s .entries))
+
 abbrev pub storeTests : Store → List Bool
 storeTests s =
     every soundTable (s .tables)
     ∷ distinct sameName (s .tables)
     ∷ every (soundEntry (s .tables)) (s .entries)
     ∷ distinct sameKey (s .entries)
+    ∷ countsRight s
     ∷ []
 
 unfoldable pub soundStore : Store → Bool

@@ -1,12 +1,12 @@
--- Tables and entries: what is held, lookup, the lowest free place, and what putting one makes.
-use Prim.Native.Nat.{ℕ}
-use mathlib.Core.List.{List}
+-- Tables, counts and entries: what is held, lookup, the lowest free place, how many entries each table has, and what putting one makes.
+use Prim.Native.Nat.{ℕ, _+_, _%_, _^_}
+use mathlib.Core.List.{List, [], _∷_, map}
 use mathlib.Core.Bool.{Bool, cond, _&&_}
-use lib.ListN.{length, take, set, replicate}
+use lib.ListN.{length, getD, take, set, replicate}
 use lib.IntN.{ℤ, pos}
 use lib.Dec.{eqb}
 use Rattle.lists.specs.declared.Found.{Found}
-use Rattle.lists.specs.Lists.{firstPlace, eqBytes, padTo}
+use Rattle.lists.specs.Lists.{firstPlace, upTo, eqBytes, padTo}
 use Rattle.store.specs.declared.Table.{Table}
 use Rattle.store.specs.declared.Entry.{Entry}
 use Rattle.store.specs.declared.Store.{Store}
@@ -63,6 +63,35 @@ freeTable s = firstPlace tableFree (s .tables)
 unfoldable pub freeEntry : Store → Found
 freeEntry s = firstPlace entryFree (s .entries)
 
+-- ---- request 9: the number of entries of each table
+
+-- a held entry of the table at this place
+unfoldable pub ownedBy : ℕ → Entry → Bool
+ownedBy table e = entryHeld e && eqb (e .table) table
+
+-- how many there are
+unfoldable pub countOf : ℕ → List Entry → ℕ
+countOf table [] = 0
+countOf table (e ∷ es) = cond (ownedBy table e) 1 0 + countOf table es
+
+-- "Keep beside each table the number of its entries": of each table place, of a free one too
+unfoldable pub countsOf : List Entry → List ℕ
+countsOf entries = map (λ table. countOf table entries) (upTo tablePlaces)
+
+-- "kept right by every call on a sound store": the store with these entries, and with the counts that they have
+unfoldable pub withEntries : Store → List Entry → Store
+withEntries s entries = record { tables = s .tables; counts = countsOf entries; entries = entries }
+
+-- ---- counts, one entry after another
+
+-- counts with one more at a table's place, as 32 bits hold it; past the last place there is none
+unfoldable pub raised : ℕ → List ℕ → List ℕ
+raised table counts = set counts table ((getD counts table 0 + 1) % 2 ^ 32)
+
+-- with one more entry, which may be held
+unfoldable pub counted : ℕ → ℕ → List ℕ → List ℕ
+counted held table counts = cond (eqb held 1) (raised table counts) counts
+
 -- ---- putting a table or an entry at a place
 
 -- request 2: an entry has a remaining time in milliseconds, marked by 1, or none, marked by 0; where there is none, 0 is written
@@ -97,10 +126,10 @@ makeTable name d = record {
 }
 
 unfoldable pub putTable : Store → ℕ → Table → Store
-putTable s place t = record { tables = set (s .tables) place t; entries = s .entries }
+putTable s place t = record { tables = set (s .tables) place t; counts = s .counts; entries = s .entries }
 
 unfoldable pub putEntry : Store → ℕ → Entry → Store
-putEntry s place e = record { tables = s .tables; entries = set (s .entries) place e }
+putEntry s place e = withEntries s (set (s .entries) place e)
 
 -- ---- the empty store, and what its places hold
 
@@ -130,4 +159,4 @@ noEntry = record {
 }
 
 unfoldable pub emptyStore : Store
-emptyStore = record { tables = replicate tablePlaces noTable; entries = replicate entryPlaces noEntry }
+emptyStore = record { tables = replicate tablePlaces noTable; counts = replicate tablePlaces 0; entries = replicate entryPlaces noEntry }

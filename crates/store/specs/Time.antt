@@ -9,7 +9,7 @@ use Rattle.lists.specs.declared.Found.the-variants as found
 use Rattle.lists.specs.Lists.{firstPlace, firstFrom, padTo}
 use Rattle.store.specs.declared.Entry.{Entry}
 use Rattle.store.specs.declared.Store.{Store}
-use Rattle.store.specs.Store.{entryHeld, entryFree, timeLeft, makeEntry, noEntry}
+use Rattle.store.specs.Store.{entryHeld, entryFree, withEntries, timeLeft, makeEntry, noEntry}
 use Rattle.store.specs.Shape.{StoreShape}
 use Rattle.store.specs.Sound.{soundStore}
 
@@ -35,9 +35,9 @@ lowered e x = record {
 unfoldable pub passEntry : ℕ → Entry → Entry
 passEntry e x = cond (entryTimed x) (cond (leb (x .remaining) e) noEntry (lowered e x)) x
 
--- "A new call passes e milliseconds": of every entry; tables stay
+-- "A new call passes e milliseconds": of every entry; tables stay, counts are those of the entries that are left
 unfoldable pub passTime : ℕ → Store → Store
-passTime e s = record { tables = s .tables; entries = map (passEntry e) (s .entries) }
+passTime e s = withEntries s (map (passEntry e) (s .entries))
 
 -- ---- the call
 

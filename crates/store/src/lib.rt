@@ -1,5 +1,6 @@
 // The store of document 01: 8 table places and 128 entry places, as plain numbers.
 // The lender of a store can put any number anywhere; the tests of the crate `store_soundness` say whether the rules allow it.
+pub mod counts;
 pub mod entries;
 pub mod names;
 pub mod tables;
@@ -55,10 +56,11 @@ pub struct Entry {
     pub values: [u64; VALUES],
 }
 
-// Tables and entries, by place.
+// Tables, the number of held entries of each table, and entries, by place.
 #[repr(C)]
 pub struct Store {
     pub tables: [Table; TABLES],
+    pub counts: [u32; TABLES],
     pub entries: [Entry; ENTRIES],
 }
 
@@ -171,6 +173,7 @@ pub fn empty_store() -> Store
     let e = no_entry();
     Store {
         tables: [t; TABLES],
+        counts: [0u32; TABLES],
         entries: [e; ENTRIES],
     }
 }

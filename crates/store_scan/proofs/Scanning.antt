@@ -11,19 +11,20 @@ use borrow.Author.Tests.{eqb-true, not-true, not-false}
 use Rattle.lists.specs.declared.Found.{Found}
 use Rattle.lists.specs.declared.Found.the-variants as found
 use Rattle.lists.specs.Lists.{every, distinct, firstPlace, eqBytes}
-use Rattle.lists.proofs.Cases.{by-test, and-first, and-second, and-true, and-false}
+use Rattle.lists.proofs.Cases.{by-test, and-first, and-second, and-true, and-true-second, and-false, and-false-second, never}
 use Rattle.lists.proofs.Every.{every-at}
 use Rattle.lists.proofs.Bytes.{eq-bytes}
 use Rattle.lists.proofs.Places.{first-agree}
 use Rattle.store.specs.declared.Entry.{Entry}
+use Rattle.store.specs.declared.Store.{Store}
 use Rattle.store.specs.Store.{entryHeld, entryFree, entryOf, entryKeyed, keyOf, noEntry}
-use Rattle.store.specs.Sound.{soundEntry, sameKey}
+use Rattle.store.specs.Sound.{soundEntry, sameKey, countsRight}
 use Rattle.store.proofs.Lookup.{blankEntry}
 use Rattle.lists.proofs.Maps.{mapped-at}
 use Rattle.store_soundness.specs.Hashes.{hashEnd, hashKey, entryHash, sameHash}
 use Rattle.store_soundness.proofs.hashes.Hashing.{held-is, hashes-tell}
-use Rattle.store_soundness.specs.Codes.{entryCode, soundCode, isCode}
-use Rattle.store_soundness.proofs.codes.Coding.{codes-sound, codes-hashes, free-hashed}
+use Rattle.store_soundness.specs.Codes.{entryCode, storeCodes, soundCode, isCode}
+use Rattle.store_soundness.proofs.codes.Coding.{right-codes, wrong-codes, codes-sound, codes-hashes, free-hashed}
 use Rattle.store.specs.declared.entries.Place.{Place}
 use Rattle.store.specs.declared.entries.Place.the-variants as place
 use Rattle.store.specs.Places.{freeOf, placeOf}
@@ -98,6 +99,11 @@ keyed-hash table key e h =
 
 -- ---- what a scan promises
 
+-- of the entries alone, by their own codes
+record Tells (q : Query) (entries : List Entry) (r : Scanned) : Type 0 where
+  sound : r .sound ≡ (every (soundEntry (q .tables)) entries && distinct sameKey entries)
+  place : r .sound ≡ true → r .place ≡ goesTo entries (q .entry)
+
 module _ (q : Query) (entries : List Entry) (codes : List ℕ) (size : length codes ≡ 128) (ce : codes ≡ map (entryCode (q .tables)) entries) (g : KeyHashes) (gs : Hashed (q .entry) codes g)
     (f : Found) (fe : Coded (q .entry) (g .sought) codes entries → f ≡ firstPlace (keyedAs (q .entry)) entries) where
   many : length codes ≡ length entries
@@ -133,8 +139,8 @@ module _ (q : Query) (entries : List Entry) (codes : List ℕ) (size : length co
     unfolding goesTo
     goes-there = ap (λ (x : Found). placeOf x (firstPlace (isCode hashEnd) codes)) (fe coded) ∙ ap (placeOf (firstPlace (keyedAs (q .entry)) entries)) free-place
 
-  pub scan-by-keys : (r : Scanned) → ScansByKeys codes f entries r → Scans q entries r
-  scan-by-keys r x =
+  tell-by-keys : (r : Scanned) → ScansByKeys codes f entries r → Tells q entries r
+  tell-by-keys r x =
       let told = x .sound ∙ ap (λ (b : Bool). b && distinct sameKey entries) told-sound in
       record { sound = told; place = λ s. x .place ∙ goes-there (and-first (every (soundEntry (q .tables)) entries) (distinct sameKey entries) (sym told ∙ s)) }
 
@@ -142,11 +148,50 @@ module _ (q : Query) (entries : List Entry) (codes : List ℕ) (size : length co
     keys-apart : every (soundEntry (q .tables)) entries ≡ true → distinct sameKey entries ≡ true
     keys-apart all = hashes-tell entries (ap (distinct sameHash) (sym (hashes-are all)) ∙ not-false (distinct sameHash codes) (sym (gs .equal) ∙ nm))
 
-    pub scan-by-hashes : (r : Scanned) → ScansByHashes codes f r → Scans q entries r
-    scan-by-hashes r x =
+    tell-by-hashes : (r : Scanned) → ScansByHashes codes f r → Tells q entries r
+    tell-by-hashes r x =
         record {
           sound = by-test (every (soundEntry (q .tables)) entries)
               (λ h. x .sound ∙ told-sound ∙ sym (and-true (every (soundEntry (q .tables)) entries) (distinct sameKey entries) h ∙ (keys-apart h ∙ sym h)))
               (λ h. x .sound ∙ told-sound ∙ (h ∙ sym (and-false (every (soundEntry (q .tables)) entries) (distinct sameKey entries) h)));
           place = λ s. x .place ∙ goes-there (sym told-sound ∙ (sym (x .sound) ∙ s));
         }
+
+-- of a store: where its counts aren't right, no code is of a sound entry
+module _ (q : Query) (s : Store) where
+  abbrev whole : Bool
+  whole = every (soundEntry (q .tables)) (s .entries)
+
+  abbrev apart : Bool
+  apart = distinct sameKey (s .entries)
+
+  counted-scan : (r : Scanned) → countsRight s ≡ true → Tells q (s .entries) r → Scans q s r
+  counted-scan r h t =
+      record {
+        sound = t .sound ∙ ap (λ (b : Bool). whole && b) (sym (and-true-second apart (countsRight s) h));
+        place = t .place;
+      }
+
+  unsound-scan : (r : Scanned) → countsRight s ≡ false → r .sound ≡ false → Scans q s r
+  unsound-scan r h f =
+      record {
+        sound = f ∙ sym (and-false-second whole (apart && countsRight s) (and-false-second apart (countsRight s) h));
+        place = λ p. never p f;
+      }
+
+  module _ (codes : List ℕ) (size : length codes ≡ 128) (ce : codes ≡ storeCodes (q .tables) s) (g : KeyHashes) (gs : Hashed (q .entry) codes g)
+      (f : Found) (fe : Coded (q .entry) (g .sought) codes (s .entries) → f ≡ firstPlace (keyedAs (q .entry)) (s .entries)) where
+    none-sound : countsRight s ≡ false → every soundCode codes ≡ false
+    none-sound h = ap (every soundCode) ce ∙ wrong-codes (q .tables) s h
+
+    pub scan-by-keys : (r : Scanned) → ScansByKeys codes f (s .entries) r → Scans q s r
+    scan-by-keys r x =
+        by-test (countsRight s)
+        (λ h. counted-scan r h (tell-by-keys q (s .entries) codes size (ce ∙ right-codes (q .tables) s h) g gs f fe r x))
+        (λ h. unsound-scan r h (x .sound ∙ and-false (every soundCode codes) apart (none-sound h)))
+
+    pub scan-by-hashes : g .equal ≡ false → (r : Scanned) → ScansByHashes codes f r → Scans q s r
+    scan-by-hashes nm r x =
+        by-test (countsRight s)
+        (λ h. counted-scan r h (tell-by-hashes q (s .entries) codes size (ce ∙ right-codes (q .tables) s h) g gs f fe nm r x))
+        (λ h. unsound-scan r h (x .sound ∙ none-sound h))

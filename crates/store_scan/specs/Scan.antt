@@ -8,9 +8,10 @@ use lib.Dec.{leb}
 use Rattle.lists.specs.declared.Found.{Found}
 use Rattle.lists.specs.Lists.{every, distinct, firstPlace}
 use Rattle.store.specs.declared.Entry.{Entry}
+use Rattle.store.specs.declared.Store.{Store}
 use Rattle.store.specs.Limits.{entryPlaces, keyMax}
 use Rattle.store.specs.Store.{entryOf, keyOf, noEntry}
-use Rattle.store.specs.Sound.{soundEntry, sameKey}
+use Rattle.store.specs.Sound.{soundEntry, sameKey, countsRight}
 use Rattle.store_soundness.specs.Hashes.{hashEnd, hashKey, sameHash}
 use Rattle.store_soundness.specs.Codes.{soundCode, isCode}
 use Rattle.store.specs.Places.{placeOf}
@@ -19,10 +20,10 @@ use Rattle.store_scan.specs.declared.Query.{Query}
 use Rattle.store_scan.specs.declared.KeyHashes.{KeyHashes}
 use Rattle.store_scan.specs.declared.Scanned.{Scanned}
 
--- what a scan promises of a store's entries; where they aren't sound, the place is left free
-pub record Scans (q : Query) (entries : List Entry) (r : Scanned) : Type 0 where
-  pub sound : r .sound ≡ (every (soundEntry (q .tables)) entries && distinct sameKey entries)
-  pub place : r .sound ≡ true → r .place ≡ goesTo entries (q .entry)
+-- what a scan promises of a store's entries and counts; where they aren't sound, the place is left free
+pub record Scans (q : Query) (s : Store) (r : Scanned) : Type 0 where
+  pub sound : r .sound ≡ (every (soundEntry (q .tables)) (s .entries) && (distinct sameKey (s .entries) && countsRight s))
+  pub place : r .sound ≡ true → r .place ≡ goesTo (s .entries) (q .entry)
 
 -- ---- its steps, on the codes of the entries
 

@@ -6,20 +6,21 @@ use store::KEY_MAX;
 use store::Store;
 use store::TABLES;
 use store::Table;
+use store::counts::count_entry;
 use store::entries::Place;
 use store::tables::entry_of;
 use store_soundness::codes::all_sound;
 use store_soundness::codes::code_place;
+use store_soundness::codes::counted_codes;
 use store_soundness::codes::entry_code;
 use store_soundness::hashes::HASH_END;
 use store_soundness::hashes::hashes_distinct;
 use store_soundness::hashes::held_hash;
 use store_soundness::keys::keys_distinct;
 ghost use mathlib.Core.Path.{_≡_};
-ghost use mathlib.Core.List.{map};
 ghost use Rattle.lists.specs.Lists.{firstPlace};
 ghost use Rattle.store_soundness.specs.Hashes.{hashEnd};
-ghost use Rattle.store_soundness.specs.Codes.{entryCode, isCode};
+ghost use Rattle.store_soundness.specs.Codes.{storeCodes, isCode};
 ghost use Rattle.store.specs.Places.{freeOf, placeOf};
 ghost use Rattle.message.specs.Targets.{keyedAs};
 ghost use Rattle.store_scan.specs.Scan.{Scans, Hashed, mayEqual, Coded, ScansByHashes, ScansByKeys};
@@ -36,27 +37,30 @@ struct KeyHashes {
     sought: u32,
 }
 
-// Whether all entries are sound and no two have one table and key; and if so, where the sought entry goes.
+// Whether all entries are sound, no two have one table and key, and the counts are theirs; and if so, where the sought entry goes.
 pub struct Scanned {
     pub sound: bool,
     pub place: Place,
 }
 
-// The codes of all entries. The entry of a free place isn't copied.
+// The codes of all entries, which are counted in the same loop. The entry of a free place isn't copied.
 fn codes_of(store: &Store, tables: [Table; TABLES]) -> [u32; ENTRIES]
-    ensures { λ r. ⌜ r ≡ map (entryCode tables) (now (store .entry) .entries) ⌝ }
+    ensures { λ r. ⌜ r ≡ storeCodes tables (now (store .entry)) ⌝ }
 {
     let mut codes = [HASH_END; ENTRIES];
+    let mut found = [0u32; TABLES];
     let mut i = 0;
     while i < ENTRIES {
         let held = store.entries[i].held;
         if held != 0 {
             let e = store.entries[i];
+            found = count_entry(found, held, e.table);
             codes[i] = entry_code(tables, e);
         }
         i += 1;
     }
-    codes
+    let counts = store.counts;
+    counted_codes(codes, found, counts)
 }
 
 // Whether two hashes are equal, and the hash of the sought key.
@@ -158,9 +162,9 @@ fn by_keys(codes: [u32; ENTRIES], found: Found, entries: [Entry; ENTRIES]) -> Sc
     Scanned { sound, place }
 }
 
-// Tests all entries, and looks for the place of one.
+// Tests all entries and the counts, and looks for the place of one.
 pub fn scan(store: &Store, query: Query) -> Scanned
-    ensures { λ r. ⌜ Scans query (now (store .entry) .entries) r ⌝ }
+    ensures { λ r. ⌜ Scans query (now (store .entry)) r ⌝ }
 {
     let tables = query.tables;
     let codes = codes_of(store, tables);

@@ -7,9 +7,10 @@ use store::ENTRIES;
 use store::Entry;
 use store::TABLES;
 use store::Table;
+use store::counts::same_counts;
 ghost use mathlib.Core.Path.{_≡_};
 ghost use Rattle.lists.specs.Lists.{every, firstPlace};
-ghost use Rattle.store_soundness.specs.Codes.{entryCode, soundCode, isCode};
+ghost use Rattle.store_soundness.specs.Codes.{entryCode, countedCodes, soundCode, isCode};
 
 // The code of an entry that isn't sound.
 pub const UNSOUND_CODE: u32 = 2147483648;
@@ -48,6 +49,20 @@ pub fn all_sound(codes: [u32; ENTRIES]) -> bool
         i += 1;
     }
     sound
+}
+
+// The codes of entries with the counts that were found; where the store's counts are others, none is of a sound entry.
+pub fn counted_codes(
+    codes: [u32; ENTRIES],
+    found: [u32; TABLES],
+    counts: [u32; TABLES],
+) -> [u32; ENTRIES]
+    ensures { λ r. ⌜ r ≡ countedCodes codes found counts ⌝ }
+{
+    if !same_counts(counts, found) {
+        return [UNSOUND_CODE; ENTRIES];
+    }
+    codes
 }
 
 // The lowest place with the code.

@@ -85,7 +85,7 @@ listedEntries =
     })
 
 unfoldable pub listedStore : Store
-listedStore = record { tables = listedTables; entries = listedEntries }
+listedStore = record { tables = listedTables; counts = 1 ∷ 0 ∷ 0 ∷ 0 ∷ 0 ∷ 0 ∷ 0 ∷ 0 ∷ []; entries = listedEntries }
 
 -- the handshake is done; the table at place 0 is current, bound to ID 1, and its last update has ID 0
 unfoldable pub listedConnection : Connection

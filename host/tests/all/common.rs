@@ -1,6 +1,6 @@
 //! Messages to send, and sessions to send them to.
 
-use peers::layout::Entry;
+use peers::layout::{self, Entry, TABLES};
 use peers::{Answer, KeyType, Refusal, Session, Store, READING_ROOM};
 use std::time::Duration;
 
@@ -106,16 +106,26 @@ pub const FREE: Entry = Entry {
     values: [0; 34],
 };
 
-/// What passing time leaves of a place, by the rule.
-fn lowered(entry: Entry, milliseconds: u32) -> Entry {
-    match (entry.held, entry.timed) {
-        (1, 1) if entry.remaining <= milliseconds => FREE,
-        (1, 1) => Entry {
-            remaining: entry.remaining - milliseconds,
-            ..entry
-        },
-        _ => entry,
+/// Does what the rule says of time that passes to a sound store.
+fn lower(store: &mut layout::Store, milliseconds: u32) {
+    let timed = |entry: &&mut Entry| entry.held == 1 && entry.timed == 1;
+    for entry in store.entries.iter_mut().filter(timed) {
+        if entry.remaining > milliseconds {
+            entry.remaining -= milliseconds;
+        } else {
+            store.counts[entry.table] -= 1;
+            *entry = FREE;
+        }
     }
+}
+
+/// How many held entries each table place has, found by walking.
+pub fn walked(store: &layout::Store) -> [u32; TABLES] {
+    let mut counts = [0; TABLES];
+    for entry in store.entries.iter().filter(|entry| entry.held == 1) {
+        counts[entry.table] += 1;
+    }
+    counts
 }
 
 /// What one session and one store came to.
@@ -171,12 +181,16 @@ impl State {
         state
     }
 
-    /// One call; the room past the reply must stay.
+    /// One call; the room past the reply must stay, and a call that tested the store must leave counts that are right.
     pub fn call(&mut self, piece: &[u8]) -> (usize, Told) {
         let mut room = [FILL; READING_ROOM + 3];
         let step = self.session.read(&mut self.store, piece, &mut room);
         let (taken, told) = (step.taken, (step.answer, step.reply.to_vec()));
         assert!(room[told.1.len()..].iter().all(|&byte| byte == FILL));
+        if told.0 != refused(Refusal::Unsound) {
+            let store = self.store.layout();
+            assert_eq!(store.counts, walked(store), "{:?}", told.0);
+        }
         (taken, told)
     }
 
@@ -195,15 +209,14 @@ impl State {
         told
     }
 
-    /// Passes time, which leaves what the rule says: all as it was where it is refused.
+    /// Passes time, which leaves what the rule says, counts too: all as it was where it is refused.
     pub fn pass(&mut self, milliseconds: u32) -> Result<(), Refusal> {
         let mut expected = self.clone();
         let passed = self
             .store
             .pass_time(Duration::from_millis(milliseconds.into()));
         if passed.is_ok() {
-            let entries = &mut expected.store.layout_mut().entries;
-            *entries = entries.map(|entry| lowered(entry, milliseconds));
+            lower(expected.store.layout_mut(), milliseconds);
         }
         assert!(*self == expected, "passing {milliseconds}: {passed:?}");
         passed

@@ -30,6 +30,7 @@ fn an_entry() {
     assert!(state.store.free_entry(0));
     assert!(!state.store.free_entry(0) && !state.store.free_entry(128));
     assert_eq!(state.store.entries().count(), 0);
+    assert_eq!(state.store.entries_of(0), 0);
     let told = state.offer(&incremental());
     let committed = Answer::Update {
         table: 0,
@@ -40,6 +41,48 @@ fn an_entry() {
     assert_eq!(told[0].0, committed);
     let entry = state.store.entry(0).unwrap();
     assert_eq!(entry.value(DataType::Gpc0), Some(Value::Number(9)));
+    assert_eq!(state.store.entries_of(0), 1);
+}
+
+/// Reading and passing time are refused with 4, and change nothing.
+fn is_refused(state: &mut State) {
+    let before = state.clone();
+    let (taken, told) = state.call(&incremental());
+    assert_eq!((taken, told), (0, (refused(Refusal::Unsound), vec![])));
+    assert_eq!(state.pass(u32::MAX), Err(Refusal::Unsound));
+    assert!(*state == before);
+}
+
+/// A count that the host left, or lowered twice, is refused until it is right; then reading goes on.
+#[test]
+fn an_entry_without_its_count() {
+    let mut state = one_entry();
+    state.accept(&[update(2, b"keyu", &[5])]);
+    state.store.layout_mut().entries[0].held = 0;
+    is_refused(&mut state);
+    state.store.layout_mut().counts[0] = 0;
+    is_refused(&mut state);
+    // a count that was off stays off
+    assert!(state.store.free_entry(1));
+    is_refused(&mut state);
+    state.store.layout_mut().counts[0] = 0;
+    assert_eq!(state.pass(0), Ok(()));
+    let told = state.offer(&incremental());
+    assert!(matches!(told[0].0, Answer::Update { entry: 0, .. }));
+    assert_eq!(state.store.entries_of(0), 1);
+}
+
+/// A table that goes with its entries, but without its count.
+#[test]
+fn a_table_without_its_count() {
+    let mut state = one_entry();
+    state.session = Session::answerer(b"east", b"west").unwrap();
+    let store = state.store.layout_mut();
+    (store.tables[0].held, store.entries[0].held) = (0, 0);
+    is_refused(&mut state);
+    state.store.layout_mut().counts[0] = 0;
+    assert_eq!(state.pass(0), Ok(()));
+    assert_eq!(state.offer(HELLO).len(), 1);
 }
 
 /// A place that the host frees keeps what it held; one that time frees is an empty store's.
@@ -52,7 +95,9 @@ fn an_entry_by_the_host_and_one_by_time() {
     ]);
     let freed = state.store.layout().entries[2];
     assert!(state.store.free_entry(2));
+    assert_eq!(state.store.entries_of(0), 2);
     assert_eq!(state.pass(7), Ok(()));
+    assert_eq!(state.store.entries_of(0), 1);
     let entries = &state.store.layout().entries;
     assert_eq!((entries[0].held, entries[1]), (1, FREE));
     assert_eq!(entries[2], peers::layout::Entry { held: 0, ..freed });
@@ -93,6 +138,7 @@ fn a_table_that_no_record_uses() {
     assert!(state.store.free_table(0));
     let names: Vec<_> = state.store.entries().map(|e| e.table().name()).collect();
     assert_eq!(names, [b"u"]);
+    assert_eq!(state.store.layout().counts, [0, 1, 0, 0, 0, 0, 0, 0]);
     state.accept(&[
         define(1, b"v", KeyType::Integer, 4, 4, &[]),
         update(1, b"keyt", &[5]),
@@ -104,4 +150,5 @@ fn a_table_that_no_record_uses() {
         .map(|t| (t.place(), t.name()))
         .collect();
     assert_eq!(places, [(0, &b"v"[..]), (1, b"u")]);
+    assert_eq!(state.store.layout().counts, [1, 1, 0, 0, 0, 0, 0, 0]);
 }

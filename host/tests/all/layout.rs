@@ -23,7 +23,7 @@ fn sizes_and_offsets() {
     let mut text = String::new();
     describe!(text, "table", Table: held key_type timed data_types name_len key_len expiry periods name);
     describe!(text, "entry", Entry: held server_id timed remaining table key_len key values);
-    describe!(text, "store", Store: tables entries);
+    describe!(text, "store", Store: tables counts entries);
     describe!(text, "binding", Binding: bound updated id previous);
     describe!(text, "connection", Connection: phase closed number current local_len remote_len local remote bindings);
     describe!(text, "session", Session: connection len buffer);

@@ -69,6 +69,7 @@ fn the_store_afterwards() {
     let values: Vec<_> = entry.values().collect();
     assert_eq!(values, [(DataType::Gpc0, Value::Number(5))]);
     assert_eq!(entry.value(DataType::Gpc1), None);
+    assert_eq!(state.store.layout().counts, [1, 0, 0, 0, 0, 0, 0, 0]);
 }
 
 #[test]

@@ -2,6 +2,7 @@
 
 mod bytes;
 mod common;
+mod counts;
 mod definition;
 mod freeing;
 mod layout;

@@ -1,7 +1,7 @@
 //! Random bytes as record and store, and sound ones with some bytes changed: no call crashes, writes outside of what is lent, or
 //! changes anything where it refuses with 1, 2 or 4.
 
-use crate::common::{define, listing, message, refused, update, State, FILL};
+use crate::common::{define, listing, message, refused, update, walked, State, FILL};
 use peers::{KeyType, Refusal};
 use std::mem::size_of;
 
@@ -84,6 +84,9 @@ fn call(random: &mut Random, state: &mut State) {
     if unchanged.contains(&answer) {
         assert_eq!((taken, reply_len), (0, 0));
         assert!(*state == before, "a refused call changed something");
+    } else {
+        let store = state.store.layout();
+        assert_eq!(store.counts, walked(store), "{answer:?}");
     }
     // the helper looks at what is left
     let passed = state.pass(random.next() as u32);

@@ -1,8 +1,8 @@
 //! Each kind of fault of a record or a store, one at a time, and what stands next to it on the other side of its boundary.
 //! A fault is refused with 4; a call on either side that takes nothing leaves every byte as it was. Passing time looks at the store alone.
 
-use crate::common::{define, message, refused, update, State, KEY_LENGTHS, PLAIN};
-use peers::layout::{Entry, Session, Store, Table};
+use crate::common::{define, message, refused, update, walked, State, KEY_LENGTHS, PLAIN};
+use peers::layout::{Entry, Session, Store, Table, TABLES};
 use peers::{Answer, KeyType, Refusal};
 
 /// A change of the record and the store.
@@ -320,7 +320,26 @@ fn two_tables_with_one_name() {
     );
 }
 
-// ---- entries
+// ---- entries: a change that takes one from a table or adds one goes with the counts, so that the fault is the one that is named
+
+/// Frees an entry.
+fn free(store: &mut Store, place: usize) {
+    store.entries[place].held = 0;
+    store.counts[store.entries[place].table] -= 1;
+}
+
+/// Puts an entry to another table.
+fn shift(store: &mut Store, place: usize, table: usize) {
+    store.counts[store.entries[place].table] -= 1;
+    store.counts[table] += 1;
+    store.entries[place].table = table;
+}
+
+/// Holds a copy of an entry at another place.
+fn copy(store: &mut Store, from: usize, to: usize) {
+    store.entries[to] = store.entries[from];
+    store.counts[store.entries[to].table] += 1;
+}
 
 /// A free entry place with anything in it.
 fn garbage_entry(held: u32) -> Entry {
@@ -343,12 +362,14 @@ fn held_mark_of_an_entry() {
         &[
             |_, t| t.entries[7] = garbage_entry(0),
             |_, t| t.entries[127] = garbage_entry(0),
-            |_, t| t.entries[0].held = 0,
+            |_, t| free(t, 0),
         ],
     );
     faults(
         &eight_tables(),
         &[
+            |_, t| (t.entries[0].held, t.counts[0]) = (2, 1),
+            |_, t| (t.entries[7].held, t.counts[0]) = (2, 3),
             |_, t| t.entries[7].held = 2,
             |_, t| t.entries[127].held = 2,
             |_, t| t.entries[0].held = 2,
@@ -365,18 +386,19 @@ fn table_of_an_entry() {
     sound(
         &eight_tables(),
         &[
-            |_, t| t.entries[0].table = 4,
-            |_, t| t.entries[0].table = 6,
-            |_, t| t.entries[2].table = 7,
+            |_, t| shift(t, 0, 4),
+            |_, t| shift(t, 0, 6),
+            |_, t| shift(t, 2, 7),
         ],
     );
     faults(
         &eight_tables(),
         &[
             |_, t| t.entries[0].table = 8,
-            |_, t| t.entries[0].table = usize::MAX,
+            |_, t| (t.entries[0].table, t.counts[0]) = (8, 1),
+            |_, t| (t.entries[0].table, t.counts[0]) = (usize::MAX, 1),
             // another kind of key
-            |_, t| t.entries[0].table = 2,
+            |_, t| shift(t, 0, 2),
         ],
     );
     // the table isn't held, and the record marks it nowhere
@@ -389,16 +411,24 @@ fn table_of_an_entry() {
     faults(
         &base,
         &[
-            |_, t| t.entries[0].table = 1,
-            |_, t| t.entries[0].table = 7,
+            |_, t| shift(t, 0, 1),
+            |_, t| shift(t, 0, 7),
+            |_, t| (t.entries[0].table, t.counts[0]) = (1, 0),
+            |s, t| free_table(s, t),
             |s, t| {
-                t.tables[0].held = 0;
-                s.connection.current = 0;
-                s.connection.bindings[0].bound = 0;
-                s.connection.bindings[0].updated = 0;
+                free_table(s, t);
+                t.counts[0] = 0;
             },
         ],
     );
+}
+
+/// Frees table 0 alone, and leaves no mark of it in the record.
+fn free_table(session: &mut Session, store: &mut Store) {
+    store.tables[0].held = 0;
+    session.connection.current = 0;
+    session.connection.bindings[0].bound = 0;
+    session.connection.bindings[0].updated = 0;
 }
 
 #[test]
@@ -465,7 +495,10 @@ fn time_mark_of_an_entry() {
             |_, t| t.entries[7].timed = 2,
             |_, t| (t.entries[127].timed, t.entries[127].remaining) = (u32::MAX, u32::MAX),
             |_, t| (t.entries[7].timed, t.entries[7].remaining) = (1, 7),
-            |_, t| (t.entries[0].timed, t.entries[0].held) = (2, 0),
+            |_, t| {
+                t.entries[0].timed = 2;
+                free(t, 0);
+            },
         ],
     );
     faults(
@@ -541,17 +574,23 @@ fn two_entries_with_one_table_and_key() {
             // another last byte, a longer key whose added byte is zero, another table
             |_, t| t.entries[0].key[3] = 3,
             |_, t| (t.entries[3].key, t.entries[3].key_len) = (t.entries[2].key, 3),
-            |_, t| (t.entries[0].key, t.entries[0].table) = (t.entries[1].key, 4),
-            |_, t| (t.entries[0].key, t.entries[0].held) = (t.entries[1].key, 0),
+            |_, t| {
+                t.entries[0].key = t.entries[1].key;
+                shift(t, 0, 4);
+            },
+            |_, t| {
+                t.entries[0].key = t.entries[1].key;
+                free(t, 0);
+            },
         ],
     );
     faults(
         &eight_tables(),
         &[
             |_, t| t.entries[0].key = t.entries[1].key,
-            |_, t| t.entries[127] = t.entries[0],
+            |_, t| copy(t, 0, 127),
             |_, t| (t.entries[3].key, t.entries[3].key_len) = (t.entries[2].key, 2),
-            |_, t| t.entries[7] = t.entries[6],
+            |_, t| copy(t, 6, 7),
         ],
     );
     faults(
@@ -561,6 +600,98 @@ fn two_entries_with_one_table_and_key() {
             |_, t| t.entries[0].key = t.entries[1].key,
             |_, t| t.entries[127].key = t.entries[126].key,
             |_, t| t.entries[64].key = t.entries[63].key,
+        ],
+    );
+}
+
+// ---- counts
+
+/// Each count off by one and by more, at held and at free places, and two that make up for each other.
+#[test]
+fn counts() {
+    let mut one = State::established();
+    one.accept(&[
+        define(1, b"t", KeyType::Integer, 4, 0, &[]),
+        update(1, b"keys", &[]),
+    ]);
+    for base in [eight_tables(), one, full(), State::answerer()] {
+        let right = base.store.layout().counts;
+        assert_eq!(right, walked(base.store.layout()));
+        for (place, more) in (0..TABLES).flat_map(|place| OFF.map(|more| (place, more))) {
+            let mut state = base.clone();
+            let counts = &mut state.store.layout_mut().counts;
+            counts[place] = counts[place].wrapping_add(more);
+            faults(&state, &[|_, _| {}]);
+            let counts = &mut state.store.layout_mut().counts;
+            let other = &mut counts[(place + 1) % TABLES];
+            *other = other.wrapping_sub(more);
+            faults(&state, &[|_, _| {}]);
+        }
+    }
+}
+
+/// By how much a count is off: one more, one less, and numbers whose low bytes are none.
+const OFF: [u32; 7] = [1, u32::MAX, 2, 128, 256, 1 << 16, 1 << 31];
+
+/// An entry that goes, comes or is put to another table without its count.
+#[test]
+fn entries_without_counts() {
+    faults(
+        &eight_tables(),
+        &[
+            |_, t| t.entries[0].held = 0,
+            |_, t| t.entries[6].held = 0,
+            |_, t| t.entries[0].table = 4,
+            |_, t| t.entries[2].table = 7,
+            |_, t| (t.entries[7], t.entries[7].key[3]) = (t.entries[0], 9),
+            |_, t| (t.entries[127], t.entries[127].key[3]) = (t.entries[0], 9),
+        ],
+    );
+    sound(
+        &eight_tables(),
+        &[
+            |_, t| {
+                copy(t, 0, 7);
+                t.entries[7].key[3] = 9;
+            },
+            |_, t| {
+                copy(t, 0, 127);
+                t.entries[127].key[3] = 9;
+            },
+        ],
+    );
+}
+
+/// A free table place is looked at for its count.
+#[test]
+fn count_of_a_free_place() {
+    let mut base = State::established();
+    base.accept(&[
+        define(1, b"t", KeyType::Integer, 4, 0, &[]),
+        update(1, b"keys", &[]),
+    ]);
+    sound(
+        &base,
+        &[|s, t| {
+            free(t, 0);
+            free_table(s, t);
+        }],
+    );
+    faults(
+        &base,
+        &[
+            |s, t| {
+                free(t, 0);
+                free_table(s, t);
+                t.counts[0] = 1;
+            },
+            |s, t| {
+                free(t, 0);
+                free_table(s, t);
+                t.counts[7] = 1;
+            },
+            |_, t| t.counts[1] = 1,
+            |_, t| (t.tables[1], t.counts[1]) = (garbage_table(0), 1),
         ],
     );
 }

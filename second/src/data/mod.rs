@@ -1,5 +1,6 @@
 //! The data that other programs are compared with.
 
+mod counts;
 mod definitions;
 mod scripts;
 mod times;

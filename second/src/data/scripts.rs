@@ -1,6 +1,6 @@
 //! Scripts that go through the limits one by one.
 
-use super::{definitions, times};
+use super::{counts, definitions, times};
 use crate::datatype;
 use crate::generate::values::Shape;
 use crate::generate::wire::{self, table_message, Field, Message};
@@ -39,6 +39,7 @@ pub fn all() -> Vec<(&'static str, Vec<u8>)> {
         ("limits", limits()),
         ("full", full()),
         ("times", times::times()),
+        ("counts", counts::counts()),
     ];
     list.extend(ends());
     list

@@ -121,6 +121,12 @@ impl Session {
     }
 }
 
+/// Frees an entry place and lowers its table's count.
+pub fn free_entry(store: &mut Store, place: usize) {
+    let entry = store.entries[place].take().unwrap();
+    store.counts[entry.table] -= 1;
+}
+
 /// A table message.
 pub fn message(kind: u8, body: &[u8]) -> Vec<u8> {
     let mut bytes = vec![10, kind];

@@ -115,30 +115,63 @@ impl Seen {
         let mut record = Record::default();
         let mut store = Store::new();
         let mut rest = script;
+        let mut last = "";
         while let Some((command, after)) = command(rest) {
-            match command {
-                Command::Open(role) => {
-                    (record, store) = (session(role).0, Store::new());
-                    self.passing.open();
-                }
-                Command::Reconnect(role) => {
-                    record = session(role).0;
-                    self.reconnections += 1;
-                }
-                Command::Call { room, piece } => self.call(&mut record, &mut store, room, piece),
-                Command::Pass(time) => {
-                    self.passing.pass(&record, &store, time);
-                    assert_eq!(pass_time(&mut store, time), 0);
-                }
-                Command::Dump => {}
-            }
+            last = self.command(&mut record, &mut store, command, last);
+            let held = store.entries.iter().flatten().count();
+            assert_eq!(store.counts.iter().sum::<u64>(), held as u64);
             rest = after;
         }
         assert_eq!(rest, []);
     }
 
-    /// Makes a call and looks at it.
-    fn call(&mut self, record: &mut Record, store: &mut Store, room: u8, piece: &[u8]) {
+    /// Carries out a command and gives the name of what it did.
+    fn command(
+        &mut self,
+        record: &mut Record,
+        store: &mut Store,
+        command: Command,
+        last: &'static str,
+    ) -> &'static str {
+        match command {
+            Command::Open(role) => {
+                (*record, *store) = (session(role).0, Store::new());
+                self.passing.open();
+                "opening"
+            }
+            Command::Reconnect(role) => {
+                *record = session(role).0;
+                self.reconnections += 1;
+                "opening"
+            }
+            Command::Call { room, piece } => self.call(record, store, room, piece),
+            Command::Pass(time) => {
+                self.pass(record, store, time);
+                "passing"
+            }
+            Command::Dump => {
+                self.passing.dump(last, store);
+                last
+            }
+        }
+    }
+
+    /// Makes a passing call and looks at it.
+    fn pass(&mut self, record: &Record, store: &mut Store, time: u32) {
+        self.passing.pass(record, store, time);
+        let counts = store.counts;
+        assert_eq!(pass_time(store, time), 0);
+        self.passing.counts(counts, store.counts);
+    }
+
+    /// Makes a call, looks at it and gives the name of its answer.
+    fn call(
+        &mut self,
+        record: &mut Record,
+        store: &mut Store,
+        room: u8,
+        piece: &[u8],
+    ) -> &'static str {
         let before = record.clone();
         let times_before = times(store);
         let remaining_before = passing::times(store);
@@ -156,6 +189,7 @@ impl Seen {
             record,
             store,
         });
+        name(outcome.answer)
     }
 
     /// Looks at one call.

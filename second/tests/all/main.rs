@@ -3,6 +3,7 @@
 mod broken;
 mod calls;
 mod common;
+mod counts;
 mod data;
 mod generator;
 mod handshake;

@@ -1,7 +1,7 @@
 //! What the timed updates and the passing calls of some streams reach.
 
 use second::record::{Phase, Record};
-use second::store::Store;
+use second::store::{Store, TABLES};
 use std::collections::{BTreeMap, BTreeSet};
 
 /// The remaining time of each held entry, by place.
@@ -75,6 +75,32 @@ impl Passing {
         }
     }
 
+    /// Looks at the counts before and after some time.
+    pub fn counts(&mut self, before: [u64; TABLES], after: [u64; TABLES]) {
+        let pairs = || before.into_iter().zip(after);
+        let lowered = pairs().filter(|(before, after)| after < before).count();
+        if lowered > 0 {
+            self.reach("count lowered");
+        }
+        if lowered > 1 {
+            self.reach("counts of several tables lowered");
+        }
+        if pairs().any(|(before, after)| before > 1 && after == 0) {
+            self.reach("count lowered to 0");
+        }
+        if pairs().any(|(before, after)| before > after && after > 0) {
+            self.reach("count lowered in part");
+        }
+    }
+
+    /// Looks at a dump after an answer or a command.
+    pub fn dump(&mut self, last: &str, store: &Store) {
+        self.reach(&format!("dump after {last}"));
+        if store.counts.iter().filter(|&&count| count > 0).count() > 1 {
+            self.reach("dump with entries of several tables");
+        }
+    }
+
     /// Looks at an accepted update of a type, by the times before and after.
     pub fn update(&mut self, kind: u8, before: &Times, entry: usize, now: Option<u64>) {
         let old = before[entry];
@@ -100,36 +126,7 @@ impl Passing {
 
     /// Asserts that all is reached that a stream can reach.
     pub fn reaches_all(&self) {
-        let mut all: Vec<String> = [
-            "passing in the handshake",
-            "passing between messages",
-            "passing inside a message",
-            "passing on a closed session",
-            "no time",
-            "lowered",
-            "removed",
-            "one less than passes",
-            "as much as passes",
-            "one more than passes",
-            "0 removed by 0",
-            "place used again",
-        ]
-        .map(String::from)
-        .to_vec();
-        for kind in 128..=134 {
-            let ends: &[&str] = match kind {
-                128 | 129 => &["the expiry", "no time"],
-                133 | 134 => &["its time"],
-                _ => continue,
-            };
-            for (from, to) in ["new", "untimed", "timed"]
-                .iter()
-                .flat_map(|f| ends.iter().map(move |t| (f, t)))
-            {
-                all.push(format!("{kind}: {from} to {to}"));
-            }
-        }
-        for what in all {
+        for what in ALL.map(String::from).into_iter().chain(forms()) {
             let count = self.reached.get(&what).copied().unwrap_or_default();
             assert!(count >= 5, "{what}: {count}");
         }
@@ -137,4 +134,45 @@ impl Passing {
         let most = u64::from(u32::MAX);
         assert!([0, 1, most].iter().all(|n| self.remaining.contains(n)));
     }
+}
+
+/// What streams reach besides the forms of updates.
+const ALL: [&str; 23] = [
+    "passing in the handshake",
+    "passing between messages",
+    "passing inside a message",
+    "passing on a closed session",
+    "no time",
+    "lowered",
+    "removed",
+    "one less than passes",
+    "as much as passes",
+    "one more than passes",
+    "0 removed by 0",
+    "place used again",
+    "count lowered",
+    "count lowered in part",
+    "count lowered to 0",
+    "counts of several tables lowered",
+    "dump with entries of several tables",
+    "dump after new",
+    "dump after replaced",
+    "dump after refused",
+    "dump after table",
+    "dump after passing",
+    "dump after opening",
+];
+
+/// Each form of an update with what was at its place and what it leaves.
+fn forms() -> Vec<String> {
+    let ends = [
+        (128, "the expiry"),
+        (128, "no time"),
+        (129, "the expiry"),
+        (129, "no time"),
+        (133, "its time"),
+        (134, "its time"),
+    ];
+    let from = |start: &'static str| ends.map(|(kind, end)| format!("{kind}: {start} to {end}"));
+    ["new", "untimed", "timed"].map(from).concat()
 }

@@ -128,13 +128,14 @@ fn calls() {
 fn dumps_of_empty_sessions() {
     assert_eq!(
         text(b"O\0D"),
-        "open\nsession handshake\nunfinished -\ncurrent -\nend\n"
+        "open\nsession handshake\nunfinished -\ncurrent -\ncounts 0 0 0 0 0 0 0 0\nend\n"
     );
     let script = [&open()[..], b"D"].concat();
-    let expected = "session open\nunfinished -\ncurrent -\nend\n";
+    let expected = "session open\nunfinished -\ncurrent -\ncounts 0 0 0 0 0 0 0 0\nend\n";
     assert_eq!(text(&script), format!("{OPENED}{expected}"));
     let script = [&open()[..], &call(12, &[1, 0]), b"D"].concat();
-    let expected = "took 2\nerror 0\nsession closed 0\nunfinished -\ncurrent -\nend\n";
+    let expected =
+        "took 2\nerror 0\nsession closed 0\nunfinished -\ncurrent -\ncounts 0 0 0 0 0 0 0 0\nend\n";
     assert_eq!(text(&script), format!("{OPENED}{expected}"));
 }
 
@@ -175,6 +176,7 @@ previous 2 8
 table 0 61 2 4 8193 60000
 table 1 62 6 8 40 7 8 9
 table 2 63 7 2 0 -
+counts 1 2 1 0 0 0 0 0
 entry 0 0 0000002A T60000 -1 18446744073709551615
 entry 1 1 - T7 1 2 3 4 5 6
 entry 2 1 4142 T0 1 2 3 4 5 6
@@ -197,6 +199,7 @@ current 0
 bound 0 1
 previous 0 4294967295
 table 0 7431 2 4 4 60000
+counts 1 0 0 0 0 0 0 0
 entry 0 0 0000002A T60000 4660
 end
 ";
@@ -214,12 +217,13 @@ fn a_reconnection_keeps_the_store() {
 unfinished -
 current -
 table 0 7431 2 4 4 60000
+counts 1 0 0 0 0 0 0 0
 entry 0 0 0000002A T60000 4660
 end
 ";
     assert_eq!(last_dump(&script), expected);
     script.extend(b"O\0D");
-    let expected = "session handshake\nunfinished -\ncurrent -\nend\n";
+    let expected = "session handshake\nunfinished -\ncurrent -\ncounts 0 0 0 0 0 0 0 0\nend\n";
     assert_eq!(last_dump(&script), expected);
 }
 
@@ -237,10 +241,12 @@ fn passing_time() {
     };
     let rest = "session open\nunfinished -\ncurrent 0\nbound 0 1\nprevious 0 4294967295\n\
         table 0 7431 2 4 4 60000\n";
-    let expected = format!("passed 0\n{rest}entry 0 0 0000002A T1 4660\nend\n");
+    let entry = "counts 1 0 0 0 0 0 0 0\nentry 0 0 0000002A T1 4660";
+    let expected = format!("passed 0\n{rest}{entry}\nend\n");
     assert_eq!(dump(59_999), expected);
     for time in [60_000, 60_001, u32::MAX] {
-        assert_eq!(dump(time), format!("passed 0\n{rest}end\n"));
+        let expected = format!("passed 0\n{rest}counts 0 0 0 0 0 0 0 0\nend\n");
+        assert_eq!(dump(time), expected);
     }
 }
 

@@ -1,6 +1,6 @@
 //! Soundness, row by row and in both directions.
 
-use crate::common::{definition, table, timed, update, Session};
+use crate::common::{definition, free_entry, table, timed, update, Session};
 use second::record::{Phase, Record, Role};
 use second::sound::*;
 use second::store::{Entry, Store};
@@ -27,7 +27,7 @@ fn base() -> Session {
 
 type StoreRow = fn(&Store) -> bool;
 
-const STORE_ROWS: [(&str, StoreRow); 16] = [
+const STORE_ROWS: [(&str, StoreRow); 17] = [
     ("name length", names_are_within_limits),
     ("plain names", names_are_plain),
     ("key type", key_types_are_known),
@@ -44,6 +44,7 @@ const STORE_ROWS: [(&str, StoreRow); 16] = [
     ("value", values_are_within_range),
     ("remaining time", remaining_times_are_32_bit),
     ("distinct entries", entries_are_distinct),
+    ("counts", counts_match),
 ];
 
 /// Changes the store; exactly the named rows must fail, or none.
@@ -62,7 +63,7 @@ fn store_case(rows: &[&str], change: impl Fn(&mut Store)) {
 /// Changes the table at place 0 and frees its entry.
 fn table_case(rows: &[&str], change: impl Fn(&mut second::store::Table)) {
     store_case(rows, |store| {
-        store.entries[2] = None;
+        free_entry(store, 2);
         change(store.tables[0].as_mut().unwrap());
     });
 }
@@ -152,11 +153,50 @@ fn table_times() {
 
 #[test]
 fn entry_tables() {
-    entry_case(&["entry table"], 2, |entry| entry.table = 3);
-    entry_case(&["entry table"], 2, |entry| entry.table = 7);
-    entry_case(&["entry table"], 2, |entry| entry.table = 8);
-    entry_case(&["entry table"], 2, |entry| entry.table = usize::MAX);
-    store_case(&["entry table"], |store| store.tables[2] = None);
+    for place in [3, 7, 8, usize::MAX] {
+        let moved = |store: &mut Store| {
+            store.entries[2].as_mut().unwrap().table = place;
+            store.counts[0] -= 1;
+        };
+        store_case(&["entry table"], moved);
+        if let 3 | 7 = place {
+            store_case(&["entry table", "counts"], |store| {
+                moved(store);
+                store.counts[place] = 1;
+            });
+        }
+    }
+    store_case(&["entry table"], |store| {
+        store.tables[2] = None;
+        store.counts[2] = 0;
+    });
+}
+
+#[test]
+fn counts() {
+    for place in 0..8 {
+        for count in [0, 1, 2, 128, 1 << 32, u64::MAX] {
+            let right = count == u64::from(place < 3);
+            let rows: &[&str] = if right { &[] } else { &["counts"] };
+            store_case(rows, |store| store.counts[place] = count);
+        }
+    }
+    // A count that another one makes up for is off too.
+    store_case(&["counts"], |store| store.counts = [2, 0, 1, 0, 0, 0, 0, 0]);
+    store_case(&["counts"], |store| store.counts = [1, 1, 0, 1, 0, 0, 0, 0]);
+    // The places of entries and tables that are free.
+    store_case(&["counts"], |store| store.entries[0] = None);
+    store_case(&[], |store| free_entry(store, 0));
+    store_case(&["entry table", "counts"], |store| store.tables[2] = None);
+    let without = |store: &mut Store| {
+        free_entry(store, 0);
+        store.tables[2] = None;
+    };
+    store_case(&[], without);
+    store_case(&["counts"], |store| {
+        without(store);
+        store.counts[2] = 1;
+    });
 }
 
 #[test]
@@ -214,7 +254,7 @@ fn remaining_times() {
 
 #[test]
 fn distinct_entries() {
-    let copy = |store: &mut Store| store.entries[127] = store.entries[2].clone();
+    let copy = |store: &mut Store| store.add(127, store.entries[2].clone().unwrap());
     store_case(&["distinct entries"], copy);
     store_case(&["distinct entries"], |store| {
         copy(store);
@@ -225,11 +265,11 @@ fn distinct_entries() {
         store.entries[127].as_mut().unwrap().key[0] ^= 1;
     });
     store_case(&[], |store| {
-        store.entries[90] = Some(Entry::new(1, b"key\0", vec![0; 6]));
+        store.add(90, Entry::new(1, b"key\0", vec![0; 6]));
     });
     store_case(&[], |store| {
         store.tables[5] = Some(table(b"f", [2, 4, 0], None));
-        store.entries[127] = Some(Entry::new(5, &[1, 2, 3, 4], vec![]));
+        store.add(127, Entry::new(5, &[1, 2, 3, 4], vec![]));
     });
 }
 

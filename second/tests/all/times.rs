@@ -1,6 +1,6 @@
 //! Timed updates and passing time.
 
-use crate::common::{definition, message, refused, refused_at, start_of_cut, timed};
+use crate::common::{definition, free_entry, message, refused, refused_at, start_of_cut, timed};
 use crate::common::{timed_update, update, Session};
 use second::answer::{Answer, Commit};
 use second::call::pass_time;
@@ -178,10 +178,10 @@ fn passing_time_at_the_boundary() {
         }
         let mut expected = session.clone();
         for (place, time) in all.into_iter().enumerate() {
-            let entry = &mut expected.store.entries[place + 1];
-            match time.checked_sub(passed) {
-                None | Some(0) => *entry = None,
-                Some(left) => entry.as_mut().unwrap().remaining = Some(left.into()),
+            let left = time.checked_sub(passed).filter(|&left| left > 0);
+            match (left, &mut expected.store.entries[place + 1]) {
+                (Some(left), Some(entry)) => entry.remaining = Some(left.into()),
+                _ => free_entry(&mut expected.store, place + 1),
             }
         }
         assert_eq!(pass_time(&mut session.store, passed), 0);

@@ -1,6 +1,6 @@
 //! Updates and the entry store.
 
-use crate::common::{definition, message, powers, refused, refused_at};
+use crate::common::{definition, free_entry, message, powers, refused, refused_at};
 use crate::common::{start_of_cut, update, Session};
 use second::answer::{Answer, Commit};
 use second::integer::encode;
@@ -96,8 +96,8 @@ fn an_entry_takes_the_lowest_free_place() {
     for key in 0..4 {
         session.one(128, &update(key, &key.to_be_bytes(), &[]));
     }
-    session.store.entries[1] = None;
-    session.store.entries[2] = None;
+    free_entry(&mut session.store, 1);
+    free_entry(&mut session.store, 2);
     assert_eq!(session.one(129, b"next"), new(0, 4, 1));
     assert_eq!(session.one(129, b"last"), new(0, 5, 2));
     assert_eq!(session.one(129, b"more"), new(0, 6, 4));

@@ -181,8 +181,8 @@ module _ {M : Type 1} (𝓤 : URA M) (H : Heap 𝓤) (A : Atoms 𝓤) (W : Given
       owned ! Q.the-row (Is Q.the-row) (LL.makes Q.the-type Q′.the-plain 𝓤 H A) (asking h e) _ qis $ fjoin ! $ move ! (2 ∷ 0 ∷ []) $ fjoin ! $
       nothing ! $ move ! (2 ∷ 0 ∷ []) $ join ! $ move ! (0 ∷ 1 ∷ []) $ join ! $ frame ! $ nothing ! $ done !
 
-  looked : (e : Entry) (r : Scanned) → ent 𝓤 (ensured 𝓤 H A looking.ended (looking.clauses 𝓤 H A mem run) (κ, tt) (ref, (asking h e, tt)) tt r) (fact 𝓤 (Scans (asking h e) (h .entries) r))
-  looked e r = exE 𝓤 _ (λ ws. snd∗ 𝓤 (sem 𝓤 H A (lasts looking.ended (κ, tt) (ref, (asking h e, tt)) ws)) (fact 𝓤 (Scans (asking h e) (h .entries) r)))
+  looked : (e : Entry) (r : Scanned) → ent 𝓤 (ensured 𝓤 H A looking.ended (looking.clauses 𝓤 H A mem run) (κ, tt) (ref, (asking h e, tt)) tt r) (fact 𝓤 (Scans (asking h e) h r))
+  looked e r = exE 𝓤 _ (λ ws. snd∗ 𝓤 (sem 𝓤 H A (lasts looking.ended (κ, tt) (ref, (asking h e, tt)) ws)) (fact 𝓤 (Scans (asking h e) h r)))
 
   -- ---- the MIR, from the test of the tables' result on
   module _ (C : Calls 𝓤 H) (Λ : Loops 𝓤 H) (fm : FmC 𝓤 H (W .laws) C) (known-make : Triple 𝓤 (C #no-entry) (Make 𝓤 H A mem run)) (known-look : Triple 𝓤 (C #scan) (Look 𝓤 H A mem run))
@@ -219,7 +219,7 @@ module _ {M : Type 1} (𝓤 : URA M) (H : Heap 𝓤) (A : Atoms 𝓤) (W : Given
         drop ! $
         assigns ! (agg ! (and-then ! (load ! (from ! (stop !)) (look ! 12 refl)) (and-then ! (load ! (from ! (stop !)) (look ! 10 refl)) (no-more !)))) (from ! (stop !)) (init ! 8 refl (LL.lawful Q.the-type Q′.the-laws 𝓤 H A W .typed (asking h e) _ (asking-is h g e w₁ is₁) .0)) $
         use2 W (raw (Look 𝓤 H A mem run .pre (to-look e))) (goes-look e (asking-is h g e w₁ is₁)) $ calls-at ! fm (Look 𝓤 H A mem run) known-look (to-look e) (and-then ! (load ! (from ! (stop !)) (look ! 13 refl)) (and-then ! (load ! (from ! (stop !)) (look ! 7 refl)) (no-more !))) (λ w₂.
-        use1 W (later (some (λ (r : Scanned). ((‵ (flft κ q) ⊛ ‵ ftrue) ⊛ ‵ (Sc.the-row .own r (w₂ ∷ []))) ⊛ raw (ensured 𝓤 H A looking.ended (looking.clauses 𝓤 H A mem run) (κ, tt) (ref, (asking h e, tt)) tt r)))) (id⊢ 𝓤 _) $ await ! tt $ pick ! (λ r. split ! $ move ! (1 ∷ []) $ use1 W (raw (fact 𝓤 (Scans (asking h e) (h .entries) r))) (looked e r) $ heard ! (Scans (asking h e) (h .entries) r) (λ re.
+        use1 W (later (some (λ (r : Scanned). ((‵ (flft κ q) ⊛ ‵ ftrue) ⊛ ‵ (Sc.the-row .own r (w₂ ∷ []))) ⊛ raw (ensured 𝓤 H A looking.ended (looking.clauses 𝓤 H A mem run) (κ, tt) (ref, (asking h e, tt)) tt r)))) (id⊢ 𝓤 _) $ await ! tt $ pick ! (λ r. split ! $ move ! (1 ∷ []) $ use1 W (raw (fact 𝓤 (Scans (asking h e) h r))) (looked e r) $ heard ! (Scans (asking h e) h r) (λ re.
         split ! $ move ! (1 ∷ []) $ peeks ! Sc.the-row (Is Sc.the-row) (shows 𝓤 H A Sc.the-row) r (w₂ ∷ []) (λ is₂. drop ! $ land ! (from ! (stop !)) (init ! 5 refl (LL.lawful Sc.the-type Sc′.the-laws 𝓤 H A W .typed r _ is₂ .0)) $ rewrite ! 5 (λ (u : Val). ‵ (fat fullShare Sc′.mir l₅ 0 u)) (ap only (LL.tells Sc.the-type Sc′.the-laws r (w₂ ∷ []) is₂)) refl $
         split ! $ move ! (1 ∷ []) $ drop ! $
         assigns ! (of-opd ! (load ! (from ! (fld ! refl (stop !))) (look-in ! 5 (sub ! 0 refl (whole !))))) (from ! (stop !)) (init ! 15 refl (tt, tt)) $

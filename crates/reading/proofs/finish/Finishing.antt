@@ -16,9 +16,10 @@ use Rattle.store.specs.declared.Table.{Table}
 use Rattle.store.specs.declared.Entry.{Entry}
 use Rattle.store.specs.declared.Store.{Store}
 use Rattle.store.specs.Shape.{StoreShape}
-use Rattle.store.specs.Sound.{soundTable, soundEntry, sameName, sameKey, soundStore}
-use Rattle.store.specs.Store.{putTable, putEntry, noEntry}
+use Rattle.store.specs.Sound.{soundTable, soundEntry, sameName, sameKey, countsRight, soundStore}
+use Rattle.store.specs.Store.{countsOf, withEntries, putTable, putEntry, noEntry}
 use Rattle.store.proofs.Lookup.{blankEntry, Keys}
+use Rattle.store.proofs.Counting.{right-counts}
 use Rattle.lists.proofs.Every.{getD-any}
 use Rattle.session.specs.declared.Connection.{Connection}
 use Rattle.session.specs.declared.Session.{Session}
@@ -29,7 +30,7 @@ use Rattle.session_soundness.specs.Sound.{soundSession, sound}
 use Rattle.message.specs.declared.Effect.{Effect as EffectStruct}
 use Rattle.message.specs.declared.Asked.{Asked}
 use Rattle.message.specs.declared.Change.{Change}
-use Rattle.message.specs.Changes.{changed}
+use Rattle.message.specs.Changes.{changed, noChange}
 use Rattle.message.specs.Effects.{Asks}
 use Rattle.message.specs.Structs.{effectStruct, asked, finished}
 use Rattle.reassembly.specs.Judge.{judgeBytes, asksOf, effectOf, judge}
@@ -38,6 +39,8 @@ use Rattle.message.specs.Targets.{goesTo}
 use Rattle.message.proofs.commit.Targets.{finished-done}
 use Rattle.reading.specs.declared.results.StepChange.{StepChange}
 use Rattle.reading.specs.Results.{stays, waits, gives, replied}
+use Rattle.reading.specs.Counts.{answeredCounts}
+use Rattle.reading.proofs.counts.Answered.{judged-counts}
 use Rattle.reading.proofs.finish.Answering.{gives-made, gives-replied, done-effect}
 use Rattle.receiver.specs.Promise.{Made, Shaped, ReadPromise}
 use Rattle.reading.proofs.finish.Promising.{short-promise, unsound-promise, closed-promise, open-promise, is-closed, is-open}
@@ -53,15 +56,17 @@ use Rattle.reading.specs.Finish.{End, staying, waiting, answering, endOf
 
 -- ---- soundness in two parts: tables and record, then entries
 
-parted : (a b c d e : Bool) → ((a && (b && (c && (d && true)))) && e) ≡ (((a && b) && e) && (c && d))
-parted false b c d e = refl
-parted true false c d e = refl
-parted true true false d true = refl
-parted true true false d false = refl
-parted true true true false true = refl
-parted true true true false false = refl
-parted true true true true true = refl
-parted true true true true false = refl
+parted : (a b c d f e : Bool) → ((a && (b && (c && (d && (f && true))))) && e) ≡ (((a && b) && e) && (c && (d && f)))
+parted false b c d f e = refl
+parted true false c d f e = refl
+parted true true false d f true = refl
+parted true true false d f false = refl
+parted true true true false f true = refl
+parted true true true false f false = refl
+parted true true true true false true = refl
+parted true true true true false false = refl
+parted true true true true true true = refl
+parted true true true true true false = refl
 
 -- ---- each way to end
 
@@ -173,7 +178,7 @@ pub ruleset wait-rules = (needs, shorter-bytes, waits-taken)
 -- ---- on a store and a piece of which start and scan said this, the promise of `read` is kept
 
 module _ (s : Session) (x : Started) (y : Scanned) (room : List ℕ) (t : Store) (piece : List ℕ) (shape : StoreShape t) (st : Starts s (t .tables) piece x)
-    (sc : Scans (x .query) (t .entries) y) where
+    (sc : Scans (x .query) t y) where
   abbrev made : StepChange → List ℕ → Made
   made r final =
       record { piece = piece; room = room; outcome = r .outcome; session = r .session; store = changed t (r .change); final = final }
@@ -184,10 +189,17 @@ module _ (s : Session) (x : Started) (y : Scanned) (room : List ℕ) (t : Store)
   is-sound : sound s t ≡ (x .sound && y .sound)
   unfolding sound soundStore allOf
   is-sound =
-      parted (every soundTable (t .tables)) (distinct sameName (t .tables)) (every (soundEntry (t .tables)) (t .entries)) (distinct sameKey (t .entries)) (soundSession (t .tables) s)
-      ∙ ap (λ (b : Bool). b && (every (soundEntry (t .tables)) (t .entries) && distinct sameKey (t .entries))) (sym (st .sound))
+      parted (every soundTable (t .tables)) (distinct sameName (t .tables)) (every (soundEntry (t .tables)) (t .entries)) (distinct sameKey (t .entries)) (countsRight t)
+      (soundSession (t .tables) s)
+      ∙ ap (λ (b : Bool). b && (every (soundEntry (t .tables)) (t .entries) && (distinct sameKey (t .entries) && countsRight t))) (sym (st .sound))
       ∙ ap (λ (b : Bool). x .sound && b)
-      (sym (sc .sound ∙ ap (λ (q : Query). every (soundEntry (q .tables)) (t .entries) && distinct sameKey (t .entries)) (st .query)))
+      (sym (sc .sound ∙ ap (λ (q : Query). every (soundEntry (q .tables)) (t .entries) && (distinct sameKey (t .entries) && countsRight t)) (st .query)))
+
+  are-right : y .sound ≡ true → t .counts ≡ countsOf (t .entries)
+  are-right g =
+      right-counts t
+      (and-second (distinct sameKey (t .entries)) (countsRight t)
+      (and-second (every (soundEntry (x .query .tables)) (t .entries)) (distinct sameKey (t .entries) && countsRight t) (sym (sc .sound) ∙ g)))
 
   -- what is asked, done at the place that the scan told
   did : y .sound ≡ true
@@ -201,6 +213,26 @@ module _ (s : Session) (x : Started) (y : Scanned) (room : List ℕ) (t : Store)
     where
       asks : Asks
       asks = asksOf (s .connection) (judgeBytes (s .connection) (t .tables) (takenBytes (x .taken)))
+
+  -- the counts after each way to end are those of the store that it leaves
+  counts-as : (w : End) → EndAs s x y room w → answeredCounts (endStep s (x .taken) w .outcome .answer) (t .counts) ≡ changed t (endStep s (x .taken) w .change) .counts
+  unfolding endStep stays waits gives answeredCounts changed noChange
+  counts-as w (short l) = refl
+  counts-as w (unsound l f) = refl
+  counts-as w (closed l f c) = refl
+  counts-as w (empty k z) = refl
+  counts-as w (waits-on k n z) = refl
+  counts-as w (answers-now k n z) = answered-so (and-second (x .sound) (y .sound) (k .sound))
+    where
+      answered-so : y .sound ≡ true
+          → answeredCounts (finished (s .connection) (y .place) (x .asked) .answer) (t .counts) ≡ changed t (finished (s .connection) (y .place) (x .asked) .change) .counts
+      answered-so g =
+          subst (λ (e : EffectStruct). answeredCounts (e .answer) (t .counts) ≡ changed t (e .change) .counts) (sym (did g))
+          (unfold effectStruct in judged-counts t (shape .entries) (are-right g) (s .connection) (takenBytes (x .taken)))
+
+  pub counts-kept : answeredCounts (endStep s (x .taken) (endOf s x y (length room)) .outcome .answer) (t .counts)
+      ≡ changed t (endStep s (x .taken) (endOf s x y (length room)) .change) .counts
+  counts-kept = counts-as (endOf s x y (length room)) (end-as s x y room)
 
   same-room : (r : StepChange) (final : List ℕ) → final ≡ room → ReadPromise s t (made r room) → ReadPromise s t (made r final)
   same-room r final e h = subst (λ (l : List ℕ). ReadPromise s t (made r l)) (sym e) h
@@ -244,12 +276,15 @@ module _ (kind wanted i n : ℕ) where
   pub put-wanted : kind ≡ wanted → ltb i n ≡ (eqb kind wanted && ltb i n)
   put-wanted e = sym (and-true (eqb kind wanted) (ltb i n) (eq-eqb kind wanted e))
 
--- one element of an array written, as the call does in place
+-- the counts, or one element of an array written, as the call does in place
+abbrev pub withCounts : Store → List ℕ → Store
+withCounts t counts = record { tables = t .tables; counts = counts; entries = t .entries }
+
 abbrev pub withEntry : Store → ℕ → Entry → Store
-withEntry t i e = record { tables = t .tables; entries = set (t .entries) i e }
+withEntry t i e = record { tables = t .tables; counts = t .counts; entries = set (t .entries) i e }
 
 abbrev pub withTable : Store → ℕ → Table → Store
-withTable t i u = record { tables = set (t .tables) i u; entries = t .entries }
+withTable t i u = record { tables = set (t .tables) i u; counts = t .counts; entries = t .entries }
 
 abbrev pub entryWritten : Store → Finished → Store
 entryWritten t r = cond (r .«puts_entry») (withEntry t (r .place) (r .entry)) t
@@ -258,73 +293,81 @@ abbrev pub tableWritten : Store → Finished → Store
 tableWritten t r = cond (r .«puts_table») (withTable t (r .place) (r .table)) t
 
 abbrev pub storeWritten : Store → Finished → Store
-storeWritten t r = tableWritten (entryWritten t r) r
+storeWritten t r = tableWritten (entryWritten (withCounts t (r .counts)) r) r
 
-module _ (t : Store) (shape : StoreShape t) (c : Change) where
+module _ (t : Store) (shape : StoreShape t) (c : Change) (cs : List ℕ) where
   abbrev p : ℕ
   p = c .place
 
+  abbrev u : Store
+  u = withCounts t cs
+
   -- past the last place nothing is put
-  table-past : ltb p 8 ≡ false → withTable t p (c .table) ≡ t
+  table-past : ltb p 8 ≡ false → withTable u p (c .table) ≡ u
   table-past h = rw (set-out (t .tables) p (c .table) (omega (arith, ltb-false p 8 h, shape .tables)))
 
-  entry-past : ltb p 128 ≡ false → withEntry t p (c .entry) ≡ t
+  entry-past : ltb p 128 ≡ false → withEntry u p (c .entry) ≡ u
   entry-past h = rw (set-out (t .entries) p (c .entry) (omega (arith, ltb-false p 128 h, shape .entries)))
 
-  pick-table : (b : Bool) → b ≡ ltb p 8 → cond b (withTable t p (c .table)) t ≡ withTable t p (c .table)
+  pick-table : (b : Bool) → b ≡ ltb p 8 → cond b (withTable u p (c .table)) u ≡ withTable u p (c .table)
   pick-table true e = refl
   pick-table false e = sym (table-past (sym e))
 
-  pick-entry : (b : Bool) → b ≡ ltb p 128 → cond b (withEntry t p (c .entry)) t ≡ withEntry t p (c .entry)
+  pick-entry : (b : Bool) → b ≡ ltb p 128 → cond b (withEntry u p (c .entry)) u ≡ withEntry u p (c .entry)
   pick-entry true e = refl
   pick-entry false e = sym (entry-past (sym e))
 
   module _ (a b : Bool) (ae : a ≡ (eqb (c .kind) 2 && ltb p 128)) (be : b ≡ (eqb (c .kind) 1 && ltb p 8)) where
     abbrev put : Bool → Bool → Store
-    put x y = let u = cond x (withEntry t p (c .entry)) t in cond y (withTable u p (c .table)) u
+    put x y = let v = cond x (withEntry u p (c .entry)) u in cond y (withTable v p (c .table)) v
 
-    put-table : eqb (c .kind) 1 ≡ true → put a b ≡ changed t c
+    put-table : eqb (c .kind) 1 ≡ true → put a b ≡ withCounts (changed t c) cs
     unfolding changed putTable
     put-table h =
         let k = eqb-true (c .kind) 1 h in
         let none : a ≡ false = ae ∙ and-false (eqb (c .kind) 2) (ltb p 128) (ne-eqb (c .kind) 2 (λ z. omega (arith, k))) in
         ap (λ (x : Bool). put x b) none
         ∙ pick-table b (be ∙ and-true (eqb (c .kind) 1) (ltb p 8) h)
-        ∙ sym (cond-true (eqb (c .kind) 1) _ _ h)
+        ∙ ap (λ (v : Store). withCounts v cs) (sym (cond-true (eqb (c .kind) 1) (putTable t p (c .table)) _ h))
 
-    put-entry : eqb (c .kind) 1 ≡ false → put a b ≡ changed t c
-    unfolding changed putEntry
+    put-entry : eqb (c .kind) 1 ≡ false → put a b ≡ withCounts (changed t c) cs
+    unfolding changed putEntry withEntries
     put-entry h =
         let none : b ≡ false = be ∙ and-false (eqb (c .kind) 1) (ltb p 8) h in
         ap (λ (y : Bool). put a y) none
         ∙ by-test (eqb (c .kind) 2)
-        (λ g. pick-entry a (ae ∙ and-true (eqb (c .kind) 2) (ltb p 128) g) ∙ sym (cond-true (eqb (c .kind) 2) _ _ g))
-        (λ g. ap (λ (x : Bool). cond x (withEntry t p (c .entry)) t) (ae ∙ and-false (eqb (c .kind) 2) (ltb p 128) g) ∙ sym (cond-false (eqb (c .kind) 2) _ _ g))
-        ∙ sym (cond-false (eqb (c .kind) 1) _ _ h)
+        (λ g.
+        pick-entry a (ae ∙ and-true (eqb (c .kind) 2) (ltb p 128) g)
+        ∙ ap (λ (v : Store). withCounts v cs) (sym (cond-true (eqb (c .kind) 2) (putEntry t p (c .entry)) t g)))
+        (λ g.
+        ap (λ (x : Bool). cond x (withEntry u p (c .entry)) u) (ae ∙ and-false (eqb (c .kind) 2) (ltb p 128) g)
+        ∙ ap (λ (v : Store). withCounts v cs) (sym (cond-false (eqb (c .kind) 2) (putEntry t p (c .entry)) t g)))
+        ∙ ap (λ (v : Store). withCounts v cs) (sym (cond-false (eqb (c .kind) 1) (putTable t p (c .table)) _ h))
 
-    put-changed : put a b ≡ changed t c
-    put-changed = by-test (eqb (c .kind) 1) put-table put-entry
+    put-changed : cs ≡ changed t c .counts → put a b ≡ changed t c
+    put-changed e = by-test (eqb (c .kind) 1) put-table put-entry ∙ ap (withCounts (changed t c)) e
 
 -- ---- what the three parts of the reading call ensure gives its promise
 
-pub finished-as : (m : StepChange) (a b : Bool) → a ≡ (eqb (m .change .kind) 2 && ltb (m .change .place) 128) → b ≡ (eqb (m .change .kind) 1 && ltb (m .change .place) 8)
-    → _≡_ {A = Finished} (record { outcome = m .outcome; session = m .session; «puts_entry» = a; «puts_table» = b; place = m .change .place; entry = m .change .entry; table = m .change .table }) (finishedAs m)
+pub finished-as : (m : StepChange) (cs rs : List ℕ) (a b : Bool) → rs ≡ answeredCounts (m .outcome .answer) cs → a ≡ (eqb (m .change .kind) 2 && ltb (m .change .place) 128) → b ≡ (eqb (m .change .kind) 1 && ltb (m .change .place) 8)
+    → _≡_ {A = Finished} (record { outcome = m .outcome; session = m .session; counts = rs; «puts_entry» = a; «puts_table» = b; place = m .change .place; entry = m .change .entry; table = m .change .table }) (finishedAs cs m)
 unfolding finishedAs
-finished-as m a b p q = rw (p, q)
+finished-as m cs rs a b o p q = rw (o, p, q)
 
 -- where m is what `finish_change` returned
-pub ends-read : (s : Session) (x : Started) (y : Scanned) (room : List ℕ) (m : StepChange) (final : List ℕ) (a b : Bool)
+pub ends-read : (s : Session) (x : Started) (y : Scanned) (room : List ℕ) (m : StepChange) (final cs rs : List ℕ) (a b : Bool)
     → (m ≡ endStep s (x .taken) (endOf s x y (length room))) × (final ≡ endRoom room (endOf s x y (length room)))
-    → a ≡ (eqb (m .change .kind) 2 && ltb (m .change .place) 128) → b ≡ (eqb (m .change .kind) 1 && ltb (m .change .place) 8)
-    → (_≡_ {A = Finished} (record { outcome = m .outcome; session = m .session; «puts_entry» = a; «puts_table» = b; place = m .change .place; entry = m .change .entry; table = m .change .table })
-    (finishedAs (endStep s (x .taken) (endOf s x y (length room)))))
+    → rs ≡ answeredCounts (m .outcome .answer) cs → a ≡ (eqb (m .change .kind) 2 && ltb (m .change .place) 128)
+    → b ≡ (eqb (m .change .kind) 1 && ltb (m .change .place) 8)
+    → (_≡_ {A = Finished} (record { outcome = m .outcome; session = m .session; counts = rs; «puts_entry» = a; «puts_table» = b; place = m .change .place; entry = m .change .entry; table = m .change .table })
+    (finishedAs cs (endStep s (x .taken) (endOf s x y (length room)))))
     × (final ≡ endRoom room (endOf s x y (length room)))
-ends-read s x y room m final a b f p q = (finished-as m a b p q ∙ ap finishedAs (f .0), f .1)
+ends-read s x y room m final cs rs a b f o p q = (finished-as m cs rs a b o p q ∙ ap (finishedAs cs) (f .0), f .1)
 
 within : (b : Bool) (kind wanted i n : ℕ) → b ≡ (eqb kind wanted && ltb i n) → b ≡ true → i < n
 within b kind wanted i n e h = ltb-true i n (and-second (eqb kind wanted) (ltb i n) (sym e ∙ h))
 
-module _ (m : StepChange) {r : Finished} (f : r ≡ finishedAs m) where
+module _ (cs : List ℕ) (m : StepChange) {r : Finished} (f : r ≡ finishedAs cs m) where
   place-is : r .place ≡ m .change .place
   unfolding finishedAs
   place-is = ap (λ (k : Finished). k .place) f
@@ -341,13 +384,14 @@ module _ (m : StepChange) {r : Finished} (f : r ≡ finishedAs m) where
       subst (λ (i : ℕ). i < 8) (sym place-is)
       (within (r .«puts_table») (m .change .kind) 1 (m .change .place) 8 (ap (λ (k : Finished). k .«puts_table») f) h)
 
-written-change : (t : Store) → StoreShape t → (m : StepChange) → storeWritten t (finishedAs m) ≡ changed t (m .change)
+written-change : (t : Store) → StoreShape t → (m : StepChange) → answeredCounts (m .outcome .answer) (t .counts) ≡ changed t (m .change) .counts
+    → storeWritten t (finishedAs (t .counts) m) ≡ changed t (m .change)
 unfolding finishedAs
-written-change t shape m = put-changed t shape (m .change) _ _ refl refl
+written-change t shape m e = put-changed t shape (m .change) (answeredCounts (m .outcome .answer) (t .counts)) _ _ refl refl e
 
 pub promised : (s : Session) (t : Store) (piece : List ℕ) (x : Started) (y : Scanned) (room : List ℕ) (r : Finished) (h : Store) (final : List ℕ)
-    → h ≡ storeWritten t r → StoreShape t → Starts s (t .tables) piece x → Scans (x .query) (t .entries) y
-    → (r ≡ finishedAs (endStep s (x .taken) (endOf s x y (length room)))) × (final ≡ endRoom room (endOf s x y (length room)))
+    → h ≡ storeWritten t r → StoreShape t → Starts s (t .tables) piece x → Scans (x .query) t y
+    → (r ≡ finishedAs (t .counts) (endStep s (x .taken) (endOf s x y (length room)))) × (final ≡ endRoom room (endOf s x y (length room)))
     → ReadPromise s t (record { piece = piece; room = room; outcome = r .outcome; session = r .session; store = h; final = final })
 unfolding finishedAs
 promised s t piece x y room r h final he shape st sc f =
@@ -355,5 +399,5 @@ promised s t piece x y room r h final he shape st sc f =
     subst (λ (k : Finished). ReadPromise s t (record { piece = piece; room = room; outcome = k .outcome; session = k .session; store = h; final = final }))
     (sym (f .0))
     (subst (λ (u : Store). ReadPromise s t (record { piece = piece; room = room; outcome = m .outcome; session = m .session; store = u; final = final }))
-    (sym (he ∙ (ap (storeWritten t) (f .0) ∙ written-change t shape m)))
+    (sym (he ∙ (ap (storeWritten t) (f .0) ∙ written-change t shape m (counts-kept s x y room t piece shape st sc))))
     (kept s x y room t piece shape st sc m final (refl, f .1)))

@@ -171,7 +171,7 @@ entVs xs = map (LL.tuple-val N.the-type N′.the-laws) (map (N.the-type .to) xs)
 
 -- ---- relations
 arr-is : (h : Store) → Is T.the-row h (stoV h ∷ []) → Is (Array (Struct (shape N.the-type)) 128) (map (N.the-type .to) (h .entries)) (arrayVal (entVs (h .entries)) ∷ [])
-arr-is h g = LL.owed T.the-type T′.the-laws h (stoV h ∷ []) g .1 .0
+arr-is h g = LL.owed T.the-type T′.the-laws h (stoV h ∷ []) g .1 .1 .0
 
 abbrev EntryIs : Entry → Type 0
 EntryIs e = Is N.the-row e (entV e ∷ [])
@@ -450,7 +450,7 @@ module _ {M : Type 1} (𝓤 : URA M) (H : Heap 𝓤) (A : Atoms 𝓤) (W : Given
         assigns ! (bin ! (load ! (from ! (stop !)) (look ! 45 refl)) (lit ! tt) (record { fits = far i (inside i t) })) (from ! (stop !)) (init ! 25 refl (tt, record { fits = far i (inside i t) })) $
         assigns ! (addr ! (from ! (hop ! (look ! 59 refl) (fld ! refl (stop !))))) (from ! (stop !)) (init ! 23 refl (tt, tt)) $
         assigns ! (bin ! (load ! (from ! (stop !)) (look ! 23 refl)) (load ! (from ! (stop !)) (look ! 25 refl)) tt) (from ! (stop !)) (init ! 21 refl (tt, tt)) $
-        assigns ! (of-opd ! (load ! (from ! (hop ! (look ! 21 refl) (stop !))) (look-in ! 0 (unraw ! (elem ! (entVs xs) i _ (entV (one i)) (at-mul _ _ i) (inside i t) (vals-len N.the-type N′.the-laws 128 xs _ (arr-is h g)) (item-val N.the-type N′.the-laws 128 xs _ (arr-is h g) i noEntry (inside i t)) (sub ! 1 refl (whole !)))))))
+        assigns ! (of-opd ! (load ! (from ! (hop ! (look ! 21 refl) (stop !))) (look-in ! 0 (unraw ! (elem ! (entVs xs) i _ (entV (one i)) (at-mul _ _ i) (inside i t) (vals-len N.the-type N′.the-laws 128 xs _ (arr-is h g)) (item-val N.the-type N′.the-laws 128 xs _ (arr-is h g) i noEntry (inside i t)) (sub ! 2 refl (whole !)))))))
         (from ! (stop !)) (init ! 19 refl (entry-typed (one i) (one-is i (inside i t)) .0)) $
         assigns ! (of-opd ! (load ! (from ! (stop !)) (look ! 19 refl))) (from ! (stop !)) (init ! 43 refl (entry-typed (one i) (one-is i (inside i t)) .0)) $
         -- the call

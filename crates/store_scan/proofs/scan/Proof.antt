@@ -58,7 +58,7 @@ use Rattle.store.proofs.Entry as N
 use Rattle.store.proofs.Entry.Laws as N′
 use Rattle.store.proofs.Table as Tb
 use Rattle.store.proofs.Table.Laws as Tb′
-use Rattle.store_soundness.specs.Codes.{entryCode}
+use Rattle.store_soundness.specs.Codes.{storeCodes}
 use Rattle.message.specs.Targets.{keyedAs}
 use Rattle.store_scan.specs.declared.Query.{Query}
 use Rattle.store_scan.specs.declared.KeyHashes.{KeyHashes}
@@ -168,7 +168,7 @@ abbrev FoundIs : Found → Type 0
 FoundIs f = Is F.the-row f (fouV f ∷ [])
 
 all-is : (h : Store) → Is T.the-row h (stoV h ∷ []) → Is (Array N.the-row 128) (h .entries) (arrayVal (entVs (h .entries)) ∷ [])
-all-is h is = rows-is N.the-type 128 (h .entries) (arrayVal (entVs (h .entries)) ∷ []) (LL.owed T.the-type T′.the-laws h (stoV h ∷ []) is .1 .0)
+all-is h is = rows-is N.the-type 128 (h .entries) (arrayVal (entVs (h .entries)) ∷ []) (LL.owed T.the-type T′.the-laws h (stoV h ∷ []) is .1 .1 .0)
 
 tables-is : (q : Query) → Is Q.the-row q (qryV q ∷ []) → Is (Array Tb.the-row 8) (q .tables) (tabV (q .tables) ∷ [])
 tables-is q is = rows-is Tb.the-type 8 (q .tables) (tabV (q .tables) ∷ []) (LL.owed Q.the-type Q′.the-laws q (qryV q ∷ []) is .0)
@@ -205,7 +205,7 @@ module _ {M : Type 1} (𝓤 : URA M) (H : Heap 𝓤) (A : Atoms 𝓤) (W : Given
   abbrev Post : Val → SProp 𝓤
   Post = walkOf 𝓤 H A fn.ended stayed (fn.clauses 𝓤 H A mem run) .post (((κ, tt), (q, tt), tt, x, at), tt)
 
-  exits : (r : Scanned) → Is Sc.the-row r (scaV r ∷ []) → Scans query xs r → ent 𝓤 (⋆ 𝓤 H A (‵ (flft κ q) ∷ [])) (Post (scaV r))
+  exits : (r : Scanned) → Is Sc.the-row r (scaV r ∷ []) → Scans query h r → ent 𝓤 (⋆ 𝓤 H A (‵ (flft κ q) ∷ [])) (Post (scaV r))
   exits r is e =
       qed W (‵ (flft κ q) ∷ []) ∵
       suffices ! _ (ends-at 𝓤 H A fn.ended stayed (fn.clauses 𝓤 H A mem run) W (((κ, tt), (q, tt), tt, x, at), tt) (scaV r) r (tt, (tt, tt)) (tt, (tt, tt))) $ says ! e $
@@ -215,7 +215,7 @@ module _ {M : Type 1} (𝓤 : URA M) (H : Heap 𝓤) (A : Atoms 𝓤) (W : Given
 
   -- ---- what each callee's triple binds outside, how its `pre` is met, and of what it ensures the clause alone
   abbrev FromCodes : List ℕ → Type 0
-  FromCodes cs = cs ≡ map (entryCode (query .tables)) xs
+  FromCodes cs = cs ≡ storeCodes (query .tables) h
 
   abbrev to-codes : Codes 𝓤 H A mem run .Ghost
   to-codes = (((κ, tt), (q, tt), tt, (ref, (query .tables, tt)), (vptr b o ∷ [], (tabV (query .tables) ∷ [], tt))), tt)
@@ -309,14 +309,14 @@ module _ {M : Type 1} (𝓤 : URA M) (H : Heap 𝓤) (A : Atoms 𝓤) (W : Given
         -- two hashes are equal: the borrow is looked into, all entries are copied, and `by_keys` compares keys
         move ! (1 ∷ []) $ fsplit3 ! $ drop ! $ drop ! $ looks ! tt T.the-row (Is T.the-row) (shows 𝓤 H A T.the-row) (LL.vals T.the-type T′.the-laws) (LL.tells T.the-type T′.the-laws) (LL.copy T.the-type T′.the-copy 𝓤 H A W) h b o (λ q′ vs.
         spelt ! T.the-row (Is T.the-row) (shows 𝓤 H A T.the-row) (LL.vals T.the-type T′.the-laws) (LL.tells T.the-type T′.the-laws) q′ h vs b o $ move ! (1 ∷ []) $ peeks ! T.the-row (Is T.the-row) (shows 𝓤 H A T.the-row) h (stoV h ∷ []) (λ is-store. drop ! $ move ! (2 ∷ []) $ drop ! $
-        assigns ! (of-opd ! (load ! (from ! (hop ! (look ! 18 refl) (fld ! refl (stop !)))) (look-in ! 0 (unraw ! (sub ! 1 refl (whole !)))))) (from ! (stop !)) (init ! 4 refl (array-lawful 𝓤 H A W N.the-row (LL.lawful N.the-type N′.the-laws 𝓤 H A W) 128 .typed xs _ (all-is h is-store) .0)) $
+        assigns ! (of-opd ! (load ! (from ! (hop ! (look ! 18 refl) (fld ! refl (stop !)))) (look-in ! 0 (unraw ! (sub ! 2 refl (whole !)))))) (from ! (stop !)) (init ! 4 refl (array-lawful 𝓤 H A W N.the-row (LL.lawful N.the-type N′.the-laws 𝓤 H A W) 128 .typed xs _ (all-is h is-store) .0)) $
         use0 W (raw (Keys 𝓤 H A mem run .pre (to-keys cs f))) (goes-keys cs f cis fis is-store) $ calls-at ! fm (Keys 𝓤 H A mem run) known-keys (to-keys cs f) (and-then ! (load ! (from ! (stop !)) (look ! 13 refl)) (and-then ! (load ! (from ! (stop !)) (look ! 7 refl)) (and-then ! (load ! (from ! (stop !)) (look ! 5 refl)) (no-more !)))) (λ w.
         use1 W (later (some (λ (r : Scanned). (‵ ftrue ⊛ ‵ (Sc.the-row .own r (w ∷ []))) ⊛ raw (ensured 𝓤 H A keying.ended (keying.clauses 𝓤 H A mem run) tt (cs, (f, (xs, tt))) tt r)))) (id⊢ 𝓤 _) $ await ! tt $ pick ! (λ r. split ! $ move ! (1 ∷ []) $ use1 W (raw (fact 𝓤 (ScansByKeys cs f xs r))) (exacted cs f r) $ heard ! (ScansByKeys cs f xs r) (λ ex.
         split ! $ move ! (1 ∷ []) $ peeks ! Sc.the-row (Is Sc.the-row) (shows 𝓤 H A Sc.the-row) r (w ∷ []) (λ is. drop ! $ land ! (from ! (stop !)) (init ! 21 refl (LL.lawful Sc.the-type Sc′.the-laws 𝓤 H A W .typed r _ is .0)) $ rewrite ! 21 (λ (u : Val). ‵ (fat fullShare Sc′.mir l₀ 0 u)) (ap only (LL.tells Sc.the-type Sc′.the-laws r (w ∷ []) is)) refl $
         drop ! $ owned ! T.the-row (Is T.the-row) (LL.makes T.the-type T′.the-plain 𝓤 H A) h _ is-store $ move ! (1 ∷ 0 ∷ 2 ∷ []) $ shuts ! tt T.the-row q′ h (stoV h ∷ []) b o $
         -- [the token; the locals]
         returns-within ! Post refl (look ! 19 refl) $ forget ! 19 refl $ forget ! 17 refl $ forget ! 15 refl $ forget ! 13 refl $ forget ! 11 refl $ forget ! 9 refl $ forget ! 7 refl $ forget ! 5 refl $ forget ! 3 refl $ forget ! 1 refl $ move ! (19 ∷ 20 ∷ []) $ free1 ! $ move ! (17 ∷ 18 ∷ []) $ free1 ! $ move ! (15 ∷ 16 ∷ []) $ free1 ! $ move ! (13 ∷ 14 ∷ []) $ free1 ! $ move ! (11 ∷ 12 ∷ []) $ free1 ! $ move ! (9 ∷ 10 ∷ []) $ free1 ! $ move ! (7 ∷ 8 ∷ []) $ free1 ! $ move ! (5 ∷ 6 ∷ []) $ free1 ! $ move ! (3 ∷ 4 ∷ []) $ free1 ! $ move ! (1 ∷ 2 ∷ []) $ free1 ! $ free0 ! $
-        by ! (exits r (spelt-Sc r w is) (scan-by-keys query xs cs (codes-size cs cis) ce g ge f fe r ex)))))))))
+        by ! (exits r (spelt-Sc r w is) (scan-by-keys query h cs (codes-size cs cis) ce g ge f fe r ex)))))))))
         -- no two hashes are equal
         (λ t. skips ! $ exec ! C Λ En body.t-8 (atRet En Post) $
         use0 W (raw (Hashes 𝓤 H A mem run .pre (to-hashes cs f))) (goes-hashes cs f cis fis) $ calls-at ! fm (Hashes 𝓤 H A mem run) known-hashes (to-hashes cs f) (and-then ! (load ! (from ! (stop !)) (look ! 13 refl)) (and-then ! (load ! (from ! (stop !)) (look ! 7 refl)) (no-more !))) (λ w.
@@ -325,7 +325,7 @@ module _ {M : Type 1} (𝓤 : URA M) (H : Heap 𝓤) (A : Atoms 𝓤) (W : Given
         drop ! $ move ! (1 ∷ []) $ drop ! $
         -- [the token; the locals]
         returns ! (look ! 19 refl) $ forget ! 19 refl $ forget ! 17 refl $ forget ! 15 refl $ forget ! 13 refl $ forget ! 11 refl $ forget ! 9 refl $ forget ! 7 refl $ forget ! 5 refl $ forget ! 1 refl $ move ! (19 ∷ 20 ∷ []) $ free1 ! $ move ! (17 ∷ 18 ∷ []) $ free1 ! $ move ! (15 ∷ 16 ∷ []) $ free1 ! $ move ! (13 ∷ 14 ∷ []) $ free1 ! $ move ! (11 ∷ 12 ∷ []) $ free1 ! $ move ! (9 ∷ 10 ∷ []) $ free1 ! $ move ! (7 ∷ 8 ∷ []) $ free1 ! $ move ! (5 ∷ 6 ∷ []) $ free1 ! $ move ! (3 ∷ 4 ∷ []) $ free1 ! $ move ! (1 ∷ 2 ∷ []) $ free1 ! $ free0 ! $
-        by ! (exits r (spelt-Sc r w is) (scan-by-hashes query xs cs (codes-size cs cis) ce g ge f fe (fails (g .equal) t) r nr)))))))
+        by ! (exits r (spelt-Sc r w is) (scan-by-hashes query h cs (codes-size cs cis) ce g ge f fe (fails (g .equal) t) r nr)))))))
 
   -- ---- the MIR, up to there
   walk : (C : Calls 𝓤 H) (Λ : Loops 𝓤 H) → FmC 𝓤 H (W .laws) C → Triple 𝓤 (C #codes-of) (Codes 𝓤 H A mem run) → Triple 𝓤 (C #key-hashes) (Telling 𝓤 H A mem run) → Triple 𝓤 (C #held-place) (Lookup 𝓤 H A mem run) → Triple 𝓤 (C #by-hashes) (Hashes 𝓤 H A mem run) → Triple 𝓤 (C #by-keys) (Keys 𝓤 H A mem run)

@@ -4,12 +4,12 @@ use native.Mathlib.Omega.{arith}
 use mathlib.Core.Path.{_≡_, refl, sym, ap, _∙_, subst}
 use mathlib.Core.Bool.{Bool, true, false, not, _&&_}
 use mathlib.Core.List.{List, [], _∷_, map}
-use lib.ListN.{length, getD, length-map}
+use lib.ListN.{length, getD, replicate, length-map}
 use lib.Seq.{ext-getD}
 use lib.Dec.{eqb}
 use borrow.Author.Needs.{needs}
 use borrow.Author.Tests.{eq-eqb, ne-eqb, lt-ltb, le-ltb, not-true, not-false}
-use Rattle.lists.specs.Lists.{allOf, every, firstPlace}
+use Rattle.lists.specs.Lists.{allOf, every, firstPlace, eqBytes}
 use mathlib.Core.Logic.{⊎-elim}
 use Rattle.lists.proofs.Cases.{by-test, never, cond-true, cond-false, eq-or-ne}
 use Rattle.lists.proofs.Every.{every-at, every-agree}
@@ -17,14 +17,15 @@ use Rattle.lists.specs.declared.Found.the-variants as found
 use Rattle.lists.proofs.Searching.{Searching, search-start, search-here, search-next, search-end}
 use Rattle.store.specs.declared.Table.{Table}
 use Rattle.store.specs.declared.Entry.{Entry}
-use Rattle.store.specs.Store.{tableHeld, entryHeld, entryFree, keyOf}
-use Rattle.store.specs.Sound.{soundEntry, entryTimedOk, entryKeyLengthOk, keyRestZero, valuesOk}
+use Rattle.store.specs.declared.Store.{Store}
+use Rattle.store.specs.Store.{tableHeld, entryHeld, entryFree, keyOf, countsOf}
+use Rattle.store.specs.Sound.{soundEntry, entryTimedOk, entryKeyLengthOk, keyRestZero, valuesOk, countsRight}
 use Rattle.store.proofs.Lookup.{blankTable, blankEntry}
 use Rattle.lists.proofs.Maps.{length-mapped, mapped-at}
 use Rattle.store_soundness.proofs.entry.EntryTests.{free-entry-sound, entry-flag-unsound, place-unsound, rows-sound}
 use Rattle.store_soundness.specs.Hashes.{hashEnd, hashKey, entryHash}
 use Rattle.store_soundness.proofs.hashes.Hashing.{key-below, start-small, held-is}
-use Rattle.store_soundness.specs.Codes.{unsoundCode, entryCode, soundCode, isCode}
+use Rattle.store_soundness.specs.Codes.{unsoundCode, entryCode, countedCodes, storeCodes, soundCode, isCode}
 
 -- ---- one entry
 
@@ -66,6 +67,32 @@ module _ (tables : List Table) (e : Entry) where
     code-held t p = p ∙ sym (key-hash h) ∙ sym (sound-code (rows-sound tables e h _ b l n refl q ∙ not-false b t))
 
 pub ruleset coding = (needs, length-mapped, code-flag, code-place, code-rows, code-held)
+
+-- ---- the codes of a store whose counts are those found, or others
+
+module _ (codes found counts : List ℕ) where
+  pub codes-stay : {b : Bool} → b ≡ eqBytes counts found → not b ≡ false → codes ≡ countedCodes codes found counts
+  unfolding countedCodes
+  codes-stay {b} e h = sym (cond-true (eqBytes counts found) codes (replicate 128 unsoundCode) (sym e ∙ not-false b h))
+
+  pub codes-fall : {b : Bool} → b ≡ eqBytes counts found → not b ≡ true → replicate 128 2147483648 ≡ countedCodes codes found counts
+  unfolding countedCodes
+  codes-fall {b} e h = sym (cond-false (eqBytes counts found) codes (replicate 128 unsoundCode) (sym e ∙ not-true b h))
+
+pub ruleset recounting = (needs, codes-stay, codes-fall)
+
+module _ (tables : List Table) (s : Store) where
+  pub right-codes : countsRight s ≡ true → storeCodes tables s ≡ map (entryCode tables) (s .entries)
+  unfolding storeCodes countedCodes countsRight
+  right-codes h = cond-true (eqBytes (s .counts) (countsOf (s .entries))) (map (entryCode tables) (s .entries)) (replicate 128 unsoundCode) h
+
+  pub wrong-codes : countsRight s ≡ false → every soundCode (storeCodes tables s) ≡ false
+  unfolding storeCodes countedCodes countsRight
+  wrong-codes h =
+      ap (every soundCode) (cond-false (eqBytes (s .counts) (countsOf (s .entries))) (map (entryCode tables) (s .entries)) (replicate 128 unsoundCode) h) ∙ none-sound
+    where
+      none-sound : every soundCode (replicate 128 unsoundCode) ≡ false
+      none-sound = unfold every in refl
 
 -- a sound entry is free or held
 held-one : (tables : List Table) (e : Entry) → soundEntry tables e ≡ true → (e .held ≡ 0 → ⊥) → e .held ≡ 1

@@ -6,6 +6,9 @@ use Rattle.reading.proofs.finish.finish_read.Tie as tie
 finish-change-requires : tie.Need-finish-change-requires
 finish-change-requires c κs = search needs
 
+answered-counts-requires : tie.Need-answered-counts-requires
+answered-counts-requires c κs = search needs
+
 puts-requires : tie.Need-puts-requires
 puts-requires c κs = search needs
 
@@ -18,14 +21,16 @@ same-length c = search needs
 returns : tie.Need-returns
 returns c =
     let p = c .before in
-    let f = p .before .before .before .before .before .before .before .before in
-    ends-read _ _ _ _ _ _ _ _ (f .finish-change .ensures) (p .puts .ensures) (c .puts2 .ensures)
+    let a = p .before .before .before .before .before in
+    let f = a .before .before .before .before in
+    ends-read _ _ _ _ _ _ _ _ _ _ (f .finish-change .ensures) (a .answered-counts .ensures) (p .puts .ensures) (c .puts2 .ensures)
 
 pub finish-read-spec : {M : Type 1} → statement M
 finish-read-spec =
     tie.close
     (tie.spec
     finish-change-requires
+    answered-counts-requires
     puts-requires
     puts-requires-2
     same-length
