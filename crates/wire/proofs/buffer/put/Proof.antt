@@ -1,8 +1,8 @@
-use Rattle.text.proofs.Rooms.{putting, Putting}
+use Rattle.wire.proofs.buffer.Reach.{putting, Putting}
 use Prim.Native.Nat.{_-_}
 use lib.ListN.{length}
-use Rattle.text.proofs.put.Statement.{statement}
-use Rattle.text.proofs.put.Tie as tie
+use Rattle.wire.proofs.buffer.put.Statement.{statement}
+use Rattle.wire.proofs.buffer.put.Tie as tie
 
 abbrev Inv-loop : tie.InvT-loop
 Inv-loop room₀ at bytes next₀ i₀ room next i = Putting room₀ at bytes room next i
