@@ -66,16 +66,16 @@ use Rattle.store.proofs.no_entry as making
 use Rattle.store.proofs.no_entry.Symbol as making-def
 use Rattle.store.proofs.no_entry.Symbol.{name as #no-entry}
 use Rattle.store.proofs.no_entry.Met as making-thm
 use Rattle.store_scan.proofs.scan as looking
 use Rattle.store_scan.proofs.scan.Symbol as looking-def
 use Rattle.store_scan.proofs.scan.Symbol.{name as #scan}
 use Rattle.store_scan.proofs.scan.Met as looking-thm
-use Rattle.passing.proofs.Testing.{tablesSound, tables-fail, entries-tell}
-use Rattle.passing.proofs.store_ok.Key.{name as #fn}
-use Rattle.passing.proofs.store_ok as fn
-use Rattle.passing.proofs.store_ok.Statement as stated
-use Rattle.passing.proofs.store_ok.Code as code
-use Rattle.passing.proofs.store_ok.Code.Mir as body
+use Rattle.store_scan.proofs.Testing.{tablesSound, tables-fail, entries-tell}
+use Rattle.store_scan.proofs.store_ok.Key.{name as #fn}
+use Rattle.store_scan.proofs.store_ok as fn
+use Rattle.store_scan.proofs.store_ok.Statement as stated
+use Rattle.store_scan.proofs.store_ok.Code as code
+use Rattle.store_scan.proofs.store_ok.Code.Mir as body
 
 -- ---- truth values
 is-false : (t : Bool) → Tᵇ (not t) → t ≡ false
