@@ -1,16 +1,17 @@
 /*
- * libpeers: a receiver of stick tables over the HAProxy peers protocol, 2.1.
+ * libpeers: a receiver of stick tables over the HAProxy peers protocol, 2.1, that can teach its tables to another.
  *
  * The host owns sockets and timers. It keeps one struct peers_session for each connection and one struct peers_store, and lends
- * both to peers_read with the bytes that came. On its ticks it lends the store to peers_pass_time. Every call is defined on every content
- * of what is lent, ends, allocates nothing and keeps nothing between calls.
+ * both to peers_read with the bytes that came. On its ticks it lends the store to peers_pass_time. To teach a peer it lends both to
+ * peers_send_definition and peers_send_entry, a message at a time. Every call is defined on every content of what is lent, ends, allocates
+ * nothing and keeps nothing between calls.
  *
  * The host's duties: each pointer points to as much memory as its type or the length after it says (an empty one too points to
- * somewhere); what is lent to one call doesn't overlap; no other thread touches it during the call. A reading call takes 60 KB of
- * stack, passing time 52 KB, an empty store by value 140 KB.
+ * somewhere); what is lent to one call doesn't overlap; no other thread touches it during the call. A reading call takes 62 KB of
+ * stack, sending 54 KB, passing time 52 KB, an empty store by value 144 KB, opening 3 KB.
  *
- * No struct has padding: its bytes are those of its fields. So a record, a store, an outcome and what opening gives back can be compared
- * with memcmp, hashed, or saved as bytes and lent again to an archive of the same PEERS_VERSION and PEERS_LAYOUT. Bytes that have no
+ * No struct has padding: its bytes are those of its fields. So a record, a store, an outcome and what opening and sending give back can be
+ * compared with memcmp, hashed, or saved as bytes and lent again to an archive of the same PEERS_VERSION and PEERS_LAYOUT. Bytes that have no
  * meaning are compared too: calls write zeros there, but a place that the host freed keeps what it held.
  *
  * A store that was kept from an older archive may be refused with 4 in every call, or its keys may be taken for another type: start with an
@@ -28,8 +29,8 @@ extern "C" {
 
 /* ---- version */
 
-#define PEERS_VERSION 6 /* of the calls: their names, parameters, numbers and meaning */
-#define PEERS_LAYOUT 4  /* of the structs: their fields, order and sizes */
+#define PEERS_VERSION 7 /* of the calls: their names, parameters, numbers and meaning */
+#define PEERS_LAYOUT 5  /* of the structs: their fields, order and sizes */
 
 /* The archive's version times 65,536 plus its layout. */
 uint32_t peers_version(void);
@@ -49,6 +50,7 @@ static inline int peers_matches(void) { return peers_version() == PEERS_VERSION 
 #define PEERS_BUFFER 1032        /* bytes of a record's buffer: five more, so that the record has no padding */
 #define PEERS_OPENING_ROOM 101   /* room that opening asks for */
 #define PEERS_READING_ROOM 12    /* room that a reading call asks for */
+#define PEERS_SEND_ROOM 1036     /* room that a sending call asks for */
 
 /*
  * ---- the store: fields are read directly; a store of zeros is empty
@@ -63,11 +65,13 @@ static inline int peers_matches(void) { return peers_version() == PEERS_VERSION 
  *         store.counts[store.entries[place].table]--;
  *     }
  *
- * Where the count is left as it was, or is lowered for a place that isn't held, every later call is refused with 4. Entries whose time is over are freed by peers_pass_time, with their
- * counts. A table may be freed by its `held` only where none of its entries is held, so that its count is 0, and no record in use has it
- * bound or updated. Such a record would be refused with 4 while the place is free, and once another table takes the place its next update
- * would be committed there, to the wrong table, and acknowledged. So free the table's entries first, and give each connection that has it
- * bound or updated a new record before the next call.
+ * Where the count is left as it was, or is lowered for a place that isn't held, every later call is refused with 4. Entries whose time is
+ * over are freed by peers_pass_time, with their counts. A table may be freed by its `held` only where none of its entries is held, so that
+ * its count is 0, and no record in use has it bound or updated, or defined it last. Such a record would be refused with 4 while the place
+ * is free. Once another table takes the place, its next update would be committed there, to the wrong table, and acknowledged, and the
+ * other table's entries would be sent to the peer as those of the one that it was told of. So free the table's entries first, and give each
+ * connection that has it bound or updated, or defined it last (`bindings[place]`, and `sending.defined` of place plus 1), a new record
+ * before the next call.
  */
 
 /* The numbers that peers send, with the key lengths that a table of this type may have. */
@@ -194,12 +198,22 @@ struct peers_connection {
     struct peers_binding bindings[PEERS_TABLES];
 };
 
-/* The bytes of `buffer` past `len` aren't looked at, and a call that takes bytes leaves zeros there. The record of a refused opening is all
- * zeros but for `closed` and `number`; with another byte in its buffer it is refused with 4. */
+/* The sending state between two calls. A record whose `defined` names a table that isn't held, or is above PEERS_TABLES, or whose `sent` is
+ * above 1, is refused with 4; a last ID without a table defined last is allowed, and has no effect. */
+struct peers_sending {
+    size_t defined; /* 0 where no table was defined to the peer, else the place of the one defined last plus 1 */
+    uint32_t sent;  /* 1 where an entry was sent since that definition */
+    uint32_t last;  /* the last one's update ID */
+};
+
+/* Reading leaves `sending` as it is, and sending leaves all else. The bytes of `buffer` past `len` aren't looked at, and a call that takes
+ * bytes leaves zeros there. The record of a refused opening is all zeros but for `closed` and `number`; with another byte in its buffer or
+ * in `sending` it is refused with 4. */
 struct peers_session {
     struct peers_connection connection;
     size_t len; /* how many bytes of `buffer` are unfinished, at most PEERS_UNFINISHED_MAX */
     uint8_t buffer[PEERS_BUFFER];
+    struct peers_sending sending;
 };
 
 /* ---- answers */
@@ -233,7 +247,7 @@ enum peers_refusal {
     PEERS_REFUSED_CLOSED = 2,     /* the session is closed; nothing changed */
     PEERS_REFUSED_NAME = 3,       /* opening: a name outside the rule */
     PEERS_REFUSED_UNSOUND = 4,    /* record or store hold what the rules don't allow; nothing changed */
-    PEERS_REFUSED_HELLO = 10,     /* from here on the session is closed with this number */
+    PEERS_REFUSED_HELLO = 10,     /* from here to 30 the session is closed with this number */
     PEERS_REFUSED_VERSION = 11,
     PEERS_REFUSED_ADDRESSED = 12, /* the hello is for another peer */
     PEERS_REFUSED_SENDER = 13,    /* the hello is from another peer */
@@ -249,10 +263,13 @@ enum peers_refusal {
     PEERS_REFUSED_UNBOUND = 27,   /* no current table, or a switch to an unbound ID */
     PEERS_REFUSED_PREVIOUS = 28,  /* an incremental update without a previous ID */
     PEERS_REFUSED_ENTRIES = 29,   /* a new key, and all entry places are held */
-    PEERS_REFUSED_TABLE_NAME = 30 /* a table name with a byte that isn't a letter, a digit or one of . _ - / : */
+    PEERS_REFUSED_TABLE_NAME = 30, /* a table name with a byte that isn't a letter, a digit or one of . _ - / : */
+    PEERS_REFUSED_SEND_ROOM = 31, /* from here on only by sending, which closes nothing: too little room; nothing changed */
+    PEERS_REFUSED_PLACE = 32,     /* the table place isn't held, or the entry place isn't of the table defined last; nothing changed */
+    PEERS_REFUSED_HANDSHAKE = 34  /* the handshake is unfinished; nothing changed */
 };
 
-/* What a call gives back. */
+/* What opening and reading give back. */
 struct peers_outcome {
     size_t taken;       /* bytes of the piece that were taken */
     size_t reply_len;   /* bytes at the front of the room that go to the peer */
@@ -264,6 +281,12 @@ struct peers_outcome {
 struct peers_opened {
     struct peers_session session;
     struct peers_outcome outcome;
+};
+
+/* What a sending call gives back. */
+struct peers_sent {
+    uint32_t number; /* 0, or the refusal: enum peers_refusal */
+    uint32_t len;    /* bytes of the message at the front of the room, which go to the peer; 0 where it is refused */
 };
 
 /* ---- calls */
@@ -312,6 +335,27 @@ struct peers_outcome peers_read(struct peers_session *session, struct peers_stor
  */
 uint32_t peers_pass_time(struct peers_store *store, uint32_t milliseconds);
 
+/*
+ * Writes one whole message for the peer to the front of the room, PEERS_SEND_ROOM bytes or more; the rest of it stays as it is. Send it before
+ * the next call. peers_send_definition writes the definition of the table at a place, with its expiry and periods where it has them, under
+ * the table ID that the host gives. peers_send_entry writes the entry at a place, which is of the table defined last, under the update ID that
+ * the host gives, and with its remaining time, if it has one. The first entry after a definition goes with its ID; a later one goes without
+ * it where the ID is the last one's plus 1 (0 after 4294967295). A peer that reads the messages commits and acknowledges each entry
+ * (PEERS_ACKNOWLEDGEMENT, which needs no reply).
+ *
+ * Refused, in this order, with PEERS_REFUSED_UNSOUND, PEERS_REFUSED_CLOSED, PEERS_REFUSED_SEND_ROOM, PEERS_REFUSED_HANDSHAKE, and
+ * PEERS_REFUSED_PLACE: a table place that isn't held; an entry place that isn't held, or isn't of the table defined last, or where none
+ * was defined. A refused call writes nothing, changes nothing and closes nothing. Places and IDs may be any numbers.
+ *
+ * The store stays as it is, and of the record all but `sending`: a message that is read in part, the role and what was read don't matter.
+ * To teach a store: each held table, and after it its entries in the order of their places. No other call may change the store from the
+ * first message to the last.
+ */
+struct peers_sent peers_send_definition(struct peers_session *session, const struct peers_store *store, size_t place, uint32_t id,
+                                        uint8_t *room, size_t room_len);
+struct peers_sent peers_send_entry(struct peers_session *session, const struct peers_store *store, size_t place, uint32_t id,
+                                   uint8_t *room, size_t room_len);
+
 /* ---- text for numbers */
 
 /* What a refusal's number means, and the 0 that a session is closed with after the peer's error message. */
@@ -339,6 +383,9 @@ static inline const char *peers_refusal_text(uint32_t number) {
     case PEERS_REFUSED_PREVIOUS: return "an incremental update without a previous ID";
     case PEERS_REFUSED_ENTRIES: return "a new key, and all entry places are held";
     case PEERS_REFUSED_TABLE_NAME: return "a table name with a byte that isn't a letter, a digit or one of . _ - / :";
+    case PEERS_REFUSED_SEND_ROOM: return "too little room for a message";
+    case PEERS_REFUSED_PLACE: return "the table place isn't held, or the entry place isn't of the table defined last";
+    case PEERS_REFUSED_HANDSHAKE: return "the handshake is unfinished";
     default: return "no refusal has this number";
     }
 }

@@ -73,9 +73,9 @@ COUNTS_ROW = f'(Array u32 {COUNTS.length})'
 Field = namedtuple('Field', 'name index type offset')
 QUERY_FIELD = Field('query', 0, 'Qy′.mir', 0)
 STEP_FIELDS = {field.name: field for field in (
-    Field('outcome', 0, 'O′.mir', 0), Field('session', 1, 'S′.mir', 56), Field('counts', 2, 'tyArray (tyInt w32) 8', 1320),
-    Field('«puts_entry»', 3, 'tyBool', 1352), Field('«puts_table»', 4, 'tyBool', 1353), Field('place', 5, 'tyInt w64', 1360),
-    Field('entry', 6, 'N₀′.mir', 1368), Field('table', 7, 'N₁′.mir', 1736))}
+    Field('outcome', 0, 'O′.mir', 0), Field('session', 1, 'S′.mir', 56), Field('counts', 2, 'tyArray (tyInt w32) 8', 1336),
+    Field('«puts_entry»', 3, 'tyBool', 1368), Field('«puts_table»', 4, 'tyBool', 1369), Field('place', 5, 'tyInt w64', 1376),
+    Field('entry', 6, 'N₀′.mir', 1384), Field('table', 7, 'N₁′.mir', 1752))}
 
 # A put `if step.FLAG { store.ARRAY[step.place] = step.VALUE; }`: the store with the element, the store after the statement,
 # the law by which SAID bounds the place, and the statement's successor.

@@ -1,12 +1,13 @@
-//! Prints what a reading call costs, beside two other receivers on the same streams in the same run.
+//! Prints what a call costs, beside two other receivers on the same streams in the same run.
 
 #![forbid(unsafe_code)]
 
-use bench::measure::{beats_and_passes, calls, clock, in_turns, times, Load, MESSAGES};
+use bench::measure::{beats_and_passes, beats_and_sends, taught};
+use bench::measure::{calls, clock, in_turns, times, Load, MESSAGES};
 use bench::receivers::{Library, Plain, Second, ROOM};
 use bench::rows::{document, heading, heading_of_bytes, row, row_of_bytes, row_of_ratios};
 use bench::streams::{filling, long_filling, long_updates, message, update, updates};
-use bench::streams::{traffic_filling, traffic_updates, BY_LENGTH};
+use bench::streams::{traffic_filling, traffic_updates, BY_LENGTH, HELLO};
 use bench::{archive, machine, shares};
 
 /// Rounds of each measurement, of which the best counts.
@@ -48,6 +49,27 @@ fn passing() {
         row(&format!("{entries} entries, freeing all"), frees);
         row_of_ratios("freeing all to heartbeat", frees, beats);
     }
+}
+
+/// A definition and an entry sent, beside a heartbeat in the same rounds: the aim is at most 1.5 times as long.
+fn sending() {
+    heading("Sending, by entries held: a definition, and an entry whose ID follows the last");
+    for (level, entries) in [("1 entry", 1), ("64 entries", 64), ("128 entries", 128)] {
+        let [beats, definitions, updates] = beats_and_sends(filling(entries), entries, ROUNDS);
+        row(&format!("{level}, heartbeat"), beats);
+        row(&format!("{level}, a definition"), definitions);
+        row_of_ratios("a definition to heartbeat", definitions, beats);
+        row(&format!("{level}, an entry"), updates);
+        row_of_ratios("an entry to heartbeat", updates, beats);
+    }
+}
+
+/// A store taught to an empty one: a definition and 128 entries.
+fn teaching() {
+    heading("A store of 128 entries taught, per message of 129");
+    let [sent, read] = taught(filling(128), HELLO.to_vec(), 128, ROUNDS);
+    row("sent", sent);
+    row("sent and read by another", read);
 }
 
 /// Updates of keys that aren't held.
@@ -153,6 +175,8 @@ fn main() {
     println!("Best of {ROUNDS} rounds where no other number is told, receivers in turns.");
     let levels = store_levels();
     passing();
+    sending();
+    teaching();
     new_keys();
     lengths();
     value_lengths();

@@ -1,6 +1,6 @@
 //! Nanoseconds per message: the best of several rounds, in which all that is compared takes turns.
 
-use crate::receivers::{Library, Plain, Receiver, Role, Second};
+use crate::receivers::{Library, Part, Plain, Receiver, Role, Second, SEND_ROOM};
 use std::hint::black_box;
 use std::time::{Duration, Instant};
 
@@ -148,6 +148,100 @@ pub fn beats_and_passes(before: Vec<u8>, rounds: usize) -> [[f64; 3]; 3] {
         ],
     );
     [[a, b, c], [d, e, f], [g, h, i]]
+}
+
+/// Nanoseconds of sending the table at the first place again and again.
+fn definitions<R: Receiver>(start: &R) -> f64 {
+    let mut sender = start.clone();
+    let mut room = [0; SEND_ROOM];
+    repeated(|| _ = black_box(sender.send(black_box(Part::Table(0)), 1, &mut room)))
+}
+
+/// Nanoseconds of sending the first entries of that table again and again, each ID following the last.
+fn entries<R: Receiver>(start: &R, count: u32) -> f64 {
+    let mut sender = start.clone();
+    let mut room = [0; SEND_ROOM];
+    sender
+        .send(Part::Table(0), 1, &mut room)
+        .expect("the table is held");
+    let mut id = 0;
+    repeated(|| {
+        let place = (id % count) as usize;
+        let sent = sender.send(black_box(Part::Entry(place)), id, &mut room);
+        black_box(sent).expect("the entry is held");
+        id += 1;
+    })
+}
+
+/// Nanoseconds of a heartbeat, of sending the table's definition and of sending an entry, by turns, each of the library, the plain receiver
+/// and the second program's. So many entries are held.
+pub fn beats_and_sends(before: Vec<u8>, count: u32, rounds: usize) -> [[f64; 3]; 3] {
+    let load = Load::new(before, vec![vec![0, 4]; MESSAGES]);
+    let library: Library = load.receiver();
+    let plain: Plain = load.receiver();
+    let second: Second = load.receiver();
+    let [a, b, c, d, e, f, g, h, i] = in_turns(
+        rounds,
+        [
+            &mut || round(&library, &load),
+            &mut || round(&plain, &load),
+            &mut || round(&second, &load),
+            &mut || definitions(&library),
+            &mut || definitions(&plain),
+            &mut || definitions(&second),
+            &mut || entries(&library, count),
+            &mut || entries(&plain, count),
+            &mut || entries(&second, count),
+        ],
+    );
+    [[a, b, c], [d, e, f], [g, h, i]]
+}
+
+/// Sends a table and its first entries, and has another read each message, if it is there: the number of messages.
+fn teach<R: Receiver>(sender: &mut R, mut reader: Option<&mut R>, count: u32) -> u32 {
+    let mut room = [0; SEND_ROOM];
+    let entries = (0..count).map(|n| (Part::Entry(n as usize), n));
+    for (part, id) in [(Part::Table(0), 1)].into_iter().chain(entries) {
+        let sent = sender.send(black_box(part), id, &mut room);
+        let len = sent.expect("table and entries are held");
+        if let Some(reader) = &mut reader {
+            black_box(reader.take_all(&room[..len]));
+        }
+    }
+    1 + count
+}
+
+/// Nanoseconds per message of a whole store that is sent, and read too if another session is given, each time from the start.
+fn whole_stores<R: Receiver>(start: &R, reader: Option<&R>, count: u32) -> f64 {
+    let (mut spent, mut messages) = (Duration::ZERO, 0);
+    while spent < ROUND {
+        let (mut sender, mut reader) = (start.clone(), reader.cloned());
+        let began = Instant::now();
+        messages += teach(&mut sender, reader.as_mut(), count);
+        spent += began.elapsed();
+    }
+    spent.as_nanos() as f64 / f64::from(messages)
+}
+
+/// Nanoseconds per message of a store with so many entries that is taught: sent alone, and sent and read, by turns, each of the library, the
+/// plain receiver and the second program's.
+pub fn taught(before: Vec<u8>, empty: Vec<u8>, count: u32, rounds: usize) -> [[f64; 3]; 2] {
+    let (full, empty) = (Load::new(before, vec![]), Load::new(empty, vec![]));
+    let library: [Library; 2] = [full.receiver(), empty.receiver()];
+    let plain: [Plain; 2] = [full.receiver(), empty.receiver()];
+    let second: [Second; 2] = [full.receiver(), empty.receiver()];
+    let [a, b, c, d, e, f] = in_turns(
+        rounds,
+        [
+            &mut || whole_stores(&library[0], None, count),
+            &mut || whole_stores(&plain[0], None, count),
+            &mut || whole_stores(&second[0], None, count),
+            &mut || whole_stores(&library[0], Some(&library[1]), count),
+            &mut || whole_stores(&plain[0], Some(&plain[1]), count),
+            &mut || whole_stores(&second[0], Some(&second[1]), count),
+        ],
+    );
+    [[a, b, c], [d, e, f]]
 }
 
 /// Nanoseconds of a function that is called again and again.

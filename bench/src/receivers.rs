@@ -2,11 +2,12 @@
 
 use crate::layout;
 use crate::plain;
+pub use peers::{Part, SEND_ROOM};
 use second::record::Record;
 pub use second::record::Role;
 use std::time::Duration;
 
-/// The room of a call.
+/// The room of a reading call.
 pub const ROOM: usize = 12;
 
 /// What a call told: bytes taken, the answer's number and values, and the reply.
@@ -31,6 +32,9 @@ pub trait Receiver: Clone {
 
     /// One passing call: the number that it gives.
     fn pass(&mut self, milliseconds: u32) -> u32;
+
+    /// One sending call: the length of the message, or the refusal's number.
+    fn send(&mut self, part: Part, id: u32, room: &mut [u8]) -> Result<usize, u32>;
 
     /// Offers bytes until all are taken: the number of calls.
     fn take_all(&mut self, bytes: &[u8]) -> usize {
@@ -132,6 +136,16 @@ impl Receiver for Library {
             .pass_time(Duration::from_millis(milliseconds.into()));
         passed.map_or_else(|refusal| refusal.number().into(), |()| 0)
     }
+
+    fn send(&mut self, part: Part, id: u32, room: &mut [u8]) -> Result<usize, u32> {
+        let (session, store) = (&mut self.session, &self.store);
+        let sent = match part {
+            Part::Table(place) => session.send_definition(store, place, id, room),
+            Part::Entry(place) => session.send_entry(store, place, id, room),
+        };
+        let sent = sent.map(<[u8]>::len);
+        sent.map_err(|refusal| refusal.number().into())
+    }
 }
 
 /// The plain receiver.
@@ -170,6 +184,18 @@ impl Receiver for Plain {
 
     fn pass(&mut self, milliseconds: u32) -> u32 {
         plain::pass_time(&mut self.store, milliseconds)
+    }
+
+    fn send(&mut self, part: Part, id: u32, room: &mut [u8]) -> Result<usize, u32> {
+        let (session, store) = (&mut self.session, &self.store);
+        let sent = match part {
+            Part::Table(place) => plain::send_definition(session, store, place, id, room),
+            Part::Entry(place) => plain::send_entry(session, store, place, id, room),
+        };
+        match sent.number {
+            0 => Ok(sent.len as usize),
+            number => Err(number),
+        }
     }
 }
 
@@ -227,6 +253,8 @@ fn second_record(session: &peers::Session) -> Record {
         bound: std::array::from_fn(|place| session.bound_id(place).map(u64::from)),
         previous: std::array::from_fn(|place| session.last_update(place).map(u64::from)),
         current: session.current(),
+        defined: session.defined(),
+        sent: session.last_sent(),
     }
 }
 
@@ -324,5 +352,14 @@ impl Receiver for Second {
 
     fn pass(&mut self, milliseconds: u32) -> u32 {
         second::call::pass_time(&mut self.store, milliseconds).into()
+    }
+
+    fn send(&mut self, part: Part, id: u32, room: &mut [u8]) -> Result<usize, u32> {
+        let (record, store) = (&mut self.record, &self.store);
+        let sent = match part {
+            Part::Table(place) => second::send::send_definition(record, store, place, id, room),
+            Part::Entry(place) => second::send::send_entry(record, store, place, id, room),
+        };
+        sent.map_err(u32::from)
     }
 }

@@ -1,11 +1,12 @@
 //! The three receivers tell the same on the same calls, and leave the same record and store.
 
+use bench::layout;
 use bench::plain::mark;
-use bench::receivers::{Library, Plain, Receiver, Role, Second};
+use bench::receivers::{Library, Part, Plain, Receiver, Role, Second, SEND_ROOM};
 use bench::streams::{definition, timed_update, traffic_filling, traffic_updates, BY_LENGTH};
 use bench::streams::{filling, int, long_filling, long_updates, message, updates, HELLO};
 use second::generate;
-use second::replay::{command, Command};
+use second::replay::{command, Command, Item};
 
 /// The content of a room before a call.
 const FILL: u8 = 0xAA;
@@ -57,6 +58,22 @@ impl All {
         );
         assert_eq!(number, 0);
         self.states_agree();
+    }
+
+    /// One sending call of each: the message, or the refusal's number. What reading uses and the store stay.
+    fn send(&mut self, part: Part, id: u32, room: usize) -> Result<Vec<u8>, u32> {
+        let (before, store) = (self.plain.session, self.plain.store.clone());
+        let mut rooms = [vec![FILL; room], vec![FILL; room], vec![FILL; room]];
+        let [a, b, c] = &mut rooms;
+        let sent = self.library.send(part, id, a);
+        assert_eq!(sent, self.plain.send(part, id, b));
+        assert_eq!(sent, self.second.send(part, id, c));
+        assert!(rooms[0] == rooms[1] && rooms[0] == rooms[2]);
+        self.states_agree();
+        let sending = self.plain.session.sending;
+        assert!(self.plain.session == layout::Session { sending, ..before });
+        assert!(self.plain.store == store && (sent.is_ok() || sending == before.sending));
+        sent.map(|len| rooms[0][..len].to_vec())
     }
 
     /// Calls until all bytes are taken.
@@ -263,20 +280,109 @@ fn on_counts_of_a_full_store() {
     assert_eq!(all.plain.store.counts, [128, 0, 0, 0, 0, 0, 0, 0]);
 }
 
+/// Places and rooms on either side of their limits, in every phase, with and without a table defined last.
+#[test]
+fn on_sending_calls() {
+    let mut open = All::open(Role::Answerer);
+    open.take(&filling(3));
+    open.take(&definition(2));
+    open.take(&timed_update(9, 9, 9));
+    let mut defined = open.clone();
+    assert!(defined.send(Part::Table(0), 300, SEND_ROOM).is_ok());
+    let mut sent = defined.clone();
+    assert!(sent.send(Part::Entry(0), u32::MAX - 1, SEND_ROOM).is_ok());
+    let mut closed = sent.clone();
+    closed.take(&[0, 5]);
+    let mut waiting = open.clone();
+    waiting.reconnect(Role::Caller);
+    let mut refusals = Vec::new();
+    for base in [open, defined, sent, closed, waiting] {
+        let places = (0..10).chain([127, 128, 1 << 32, usize::MAX]);
+        for part in places.flat_map(|place| [Part::Table(place), Part::Entry(place)]) {
+            for (id, room) in [
+                (0, 1036),
+                (u32::MAX, 1036),
+                (u32::MAX - 1, 1035),
+                (7, 0),
+                (7, 2000),
+            ] {
+                let mut all = base.clone();
+                refusals.extend(all.send(part, id, room).err());
+                // and once more: the same ID doesn't follow itself
+                _ = all.send(part, id, room);
+                _ = all.send(part, id.wrapping_add(1), room);
+            }
+        }
+    }
+    refusals.sort_unstable();
+    refusals.dedup();
+    assert_eq!(refusals, [2, 31, 32, 34]);
+}
+
+/// A random number, as often as not a small one.
+fn draw(random: &mut u64) -> u64 {
+    *random ^= *random << 13;
+    *random ^= *random >> 7;
+    *random ^= *random << 17;
+    match *random % 2 {
+        0 => *random / 2,
+        _ => *random / 2 % 200,
+    }
+}
+
+/// Sends all tables and their entries, as the host's loop does, with random IDs.
+fn teach(all: &mut All, random: &mut u64) -> Vec<u8> {
+    let parts: Vec<_> = all.library.store.parts().collect();
+    let mut id = draw(random) as u32;
+    let mut messages = Vec::new();
+    for part in parts {
+        messages.extend(all.send(part, id, SEND_ROOM).expect("it is held"));
+        id = match draw(random) % 3 {
+            0 => draw(random) as u32,
+            _ => id.wrapping_add(1),
+        };
+    }
+    messages
+}
+
+/// A store is taught to three other receivers, which agree on it after each call.
+#[test]
+fn on_stores_that_are_taught() {
+    let mut random = 0x1234_5678_9ABC_DEF1;
+    for round in 0..20 {
+        let mut all = All::open(Role::Answerer);
+        all.take(HELLO);
+        for n in 0..14 + 6 * round {
+            let (table, time) = (n % (1 + round % 8), draw(&mut random) as u32);
+            all.take(&definition(table));
+            all.take(&timed_update(n, time, n));
+        }
+        all.pass(draw(&mut random) as u32 % 100);
+        let messages = teach(&mut all, &mut random);
+        let mut other = All::open(Role::Answerer);
+        other.take(HELLO);
+        for piece in messages.chunks(1 + draw(&mut random) as usize % 300) {
+            other.take(piece);
+        }
+        let held = |all: &All| all.plain.store.counts.iter().sum::<u32>();
+        assert_eq!(held(&all), held(&other));
+    }
+}
+
 #[test]
 fn on_generated_scripts() {
     let replayed = (1..=1700).map(|seed| replay(&generate::stream(seed)));
-    let (calls, passes) = replayed.fold((0, 0), |a, b| (a.0 + b.0, a.1 + b.1));
+    let [calls, passes, sends] = replayed.fold([0; 3], |a, b| [0, 1, 2].map(|n| a[n] + b[n]));
     assert!(
-        calls > 40_000 && passes > 1_500,
-        "{calls} calls, {passes} of them pass time"
+        calls > 40_000 && passes > 1_500 && sends > 1_500,
+        "{calls} calls, {passes} of them pass time, {sends} send"
     );
 }
 
-/// Makes the calls of a script: the number of them, and how many pass time.
-fn replay(script: &[u8]) -> (usize, usize) {
+/// Makes the calls of a script: the number of them, how many pass time, and how many send.
+fn replay(script: &[u8]) -> [usize; 3] {
     let mut all = All::open(Role::Answerer);
-    let (mut calls, mut passes) = (0, 0);
+    let (mut calls, mut passes, mut sends) = (0, 0, 0);
     let mut rest = script;
     while let Some((next, after)) = command(rest) {
         rest = after;
@@ -289,8 +395,16 @@ fn replay(script: &[u8]) -> (usize, usize) {
                 all.pass(milliseconds);
                 passes += 1;
             }
+            Command::Send(sending) => {
+                let part = match sending.item {
+                    Item::Definition => Part::Table,
+                    Item::Entry => Part::Entry,
+                };
+                _ = all.send(part(sending.place.into()), sending.id, sending.room.into());
+                sends += 1;
+            }
         }
         calls += 1;
     }
-    (calls, passes)
+    [calls, passes, sends]
 }

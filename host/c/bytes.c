@@ -83,6 +83,11 @@ __attribute__((noinline)) static void read_to(struct peers_outcome *to, struct s
     *to = peers_read(state.session, state.store, (const uint8_t *)piece->bytes, piece->len, room, sizeof room);
 }
 
+__attribute__((noinline)) static void send_to(struct peers_sent to[2], struct state state, uint32_t id, uint8_t *room) {
+    to[0] = peers_send_definition(state.session, state.store, 0, id, room, PEERS_SEND_ROOM);
+    to[1] = peers_send_entry(state.session, state.store, 0, id, room + PEERS_SEND_ROOM, PEERS_SEND_ROOM);
+}
+
 /* A new record and an empty store. */
 static void start_over(uint8_t fill, struct state state) {
     static struct peers_opened opened;
@@ -107,9 +112,27 @@ static void pass_over(uint8_t fill, struct peers_store *store, uint32_t time) {
     CHECK(number == 0);
 }
 
+/* A definition and an entry, each to a room of its own. */
+static void send_over(uint8_t fill, struct peers_sent to[2], struct state state, uint32_t number, uint8_t *room) {
+    memset(to, fill, 2 * sizeof *to);
+    memset(room, FILL, 2 * PEERS_SEND_ROOM);
+    fill_stack(fill);
+    send_to(to, state, 7, room);
+    CHECK(to[0].number == number && to[1].number == number);
+}
+
 static void check_equal(const struct state states[2]) {
     CHECK(memcmp(states[0].session, states[1].session, sizeof *states[0].session) == 0);
     CHECK(memcmp(states[0].store, states[1].store, sizeof *states[0].store) == 0);
+}
+
+/* Sends where the table and its entry are held, and where the handshake is unfinished. */
+static void test_sendings(struct state states[2], uint32_t number) {
+    struct peers_sent sent[2][2];
+    uint8_t rooms[2][2 * PEERS_SEND_ROOM];
+    for (size_t side = 0; side < 2; side++) send_over(fills[side], sent[side], states[side], number, rooms[side]);
+    CHECK(memcmp(sent[0], sent[1], sizeof sent[0]) == 0 && memcmp(rooms[0], rooms[1], sizeof rooms[0]) == 0);
+    check_equal(states);
 }
 
 static void test_readings(void) {
@@ -118,11 +141,14 @@ static void test_readings(void) {
     for (size_t side = 0; side < 2; side++) start_over(fills[side], states[side]);
     CHECK(all_zero(states[0].store, sizeof *states[0].store));
     check_equal(states);
+    test_sendings(states, PEERS_REFUSED_HANDSHAKE);
     for (size_t i = 0; i < sizeof pieces / sizeof *pieces; i++) {
         for (size_t side = 0; side < 2; side++) read_over(fills[side], &outcomes[side], states[side], &pieces[i]);
         CHECK(memcmp(&outcomes[0], &outcomes[1], sizeof *outcomes) == 0);
         check_equal(states);
+        if (pieces[i].number == PEERS_UPDATE) test_sendings(states, 0);
     }
+    test_sendings(states, PEERS_REFUSED_CLOSED);
     for (uint32_t time = 59999; time <= 60000; time++) {
         for (size_t side = 0; side < 2; side++) pass_over(fills[side], states[side].store, time);
         check_equal(states);

@@ -135,6 +135,29 @@ static void count_that_was_left(struct state state) {
     pass_time(state.store, 0, 0);
 }
 
+/* A record that defined the table last, and neither bound nor updated it: refused while the place is free; once another table takes it, that
+ * one's entries go to the peer as those of the table that it was told of: this is what the rule forbids. */
+static void defined_last(struct state state) {
+    uint8_t message[SENT_MAX], reply[12];
+    freed(state);
+    open_answerer_on(state);
+    state.session->connection.phase = PEERS_ESTABLISHED;
+    state.store->tables[0].held = 1;
+    CHECK(send_part(state, A_TABLE, 0, 7, PEERS_SEND_ROOM, message).number == 0);
+    state.store->tables[0].held = 0;
+    CHECK(call(state, (const uint8_t *)"\0\4", 2, 12, reply).number == PEERS_REFUSED_UNSOUND);
+    CHECK(send_part(state, A_TABLE, 0, 7, PEERS_SEND_ROOM, message).number == PEERS_REFUSED_UNSOUND);
+    CHECK(send_part(state, AN_ENTRY, 0, 7, PEERS_SEND_ROOM, message).number == PEERS_REFUSED_UNSOUND);
+    take_the_place(state);
+    define(state, 7, "other", PEERS_KEY_INTEGER, 4, 1u << PEERS_GPC0);
+    update(state, 1, "keyo", 4, (const uint64_t[]){5}, 1);
+    CHECK(send_part(state, AN_ENTRY, 0, 7, PEERS_SEND_ROOM, message).len == 12);
+    CHECK(memcmp(message, "\x0A\x80\x09\x00\x00\x00\x07keyo\x05", 12) == 0);
+    /* a new record has defined nothing */
+    open_answerer_on(state);
+    CHECK(call(state, (const uint8_t *)"H", 1, 12, reply).number == PEERS_MORE && state.session->sending.defined == 0);
+}
+
 /* The host frees one entry, time another: the next key takes the lower place. */
 static void by_the_host_and_by_time(struct state state) {
     establish(state);
@@ -159,6 +182,7 @@ void test_freeing(void) {
     new_record(state);
     entry_alone(state);
     count_that_was_left(state);
+    defined_last(state);
     by_the_host_and_by_time(state);
     give_back_state(state);
 }

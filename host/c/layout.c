@@ -21,10 +21,12 @@ static const struct line lines[] = {
     SIZE(connection), FIELD(connection, phase), FIELD(connection, closed), FIELD(connection, number),
     FIELD(connection, current), FIELD(connection, local_len), FIELD(connection, remote_len), FIELD(connection, local),
     FIELD(connection, remote), FIELD(connection, bindings),
-    SIZE(session), FIELD(session, connection), FIELD(session, len), FIELD(session, buffer),
+    SIZE(sending), FIELD(sending, defined), FIELD(sending, sent), FIELD(sending, last),
+    SIZE(session), FIELD(session, connection), FIELD(session, len), FIELD(session, buffer), FIELD(session, sending),
     SIZE(outcome), FIELD(outcome, taken), FIELD(outcome, reply_len), FIELD(outcome, number), FIELD(outcome, count),
     FIELD(outcome, values),
     SIZE(opened), FIELD(opened, session), FIELD(opened, outcome),
+    SIZE(sent), FIELD(sent, number), FIELD(sent, len),
 };
 
 void test_layout(const char *file) {

@@ -13,6 +13,7 @@ int main(int argc, char **argv) {
         test_offsets();
         test_times();
         test_counts();
+        test_sending();
         test_unsound();
         test_random();
         test_freeing();

@@ -28,3 +28,15 @@ uint32_t peers_pass_time(struct peers_store *store, uint32_t milliseconds) {
     (void)store, (void)milliseconds;
     abort();
 }
+
+struct peers_sent peers_send_definition(struct peers_session *session, const struct peers_store *store, size_t place, uint32_t id,
+                                        uint8_t *room, size_t room_len) {
+    (void)session, (void)store, (void)place, (void)id, (void)room, (void)room_len;
+    abort();
+}
+
+struct peers_sent peers_send_entry(struct peers_session *session, const struct peers_store *store, size_t place, uint32_t id,
+                                   uint8_t *room, size_t room_len) {
+    (void)session, (void)store, (void)place, (void)id, (void)room, (void)room_len;
+    abort();
+}

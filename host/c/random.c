@@ -1,15 +1,6 @@
 /* Random bytes as record and store: no crash, and nothing outside of what is lent is touched. */
 #include "test.h"
 
-static uint64_t seed = 0x123456789ABCDEF1;
-
-static uint64_t next(void) {
-    seed ^= seed << 13;
-    seed ^= seed >> 7;
-    seed ^= seed << 17;
-    return seed;
-}
-
 static void fill(void *memory, size_t size) {
     for (size_t i = 0; i < size; i++) ((uint8_t *)memory)[i] = (uint8_t)next();
 }
@@ -24,7 +15,17 @@ static void try_time(struct state state, struct peers_store *store) {
     CHECK(memcmp(store->tables, state.store->tables, sizeof store->tables) == 0);
 }
 
-/* One call with a random piece and room; a refusal with 1, 2 or 4 must change nothing. Then time passes. */
+/* Sends a random table and entry, with places and rooms on either side of their limits: the helper looks at what is left. */
+static void try_sending(struct state state) {
+    uint8_t message[SENT_MAX];
+    for (enum part part = A_TABLE; part <= AN_ENTRY; part++) {
+        size_t place = next() % 2 ? next() % 3 : next(), room = PEERS_SEND_ROOM - next() % 2;
+        send_part(state, part, place, (uint32_t)next(), room, message);
+    }
+}
+
+/* One call with a random piece and room; a refusal with 1, 2 or 4 must change nothing. Then a table and an entry are sent, and time
+ * passes. */
 static void try(struct state state, struct peers_session *session, struct peers_store *store) {
     uint8_t piece[40], reply[12];
     size_t len = next() % sizeof piece, room = next() % 30;
@@ -37,6 +38,7 @@ static void try(struct state state, struct peers_session *session, struct peers_
         CHECK(memcmp(session, state.session, sizeof *session) == 0);
         CHECK(memcmp(store, state.store, sizeof *store) == 0);
     }
+    try_sending(state);
     try_time(state, store);
 }
 
@@ -62,6 +64,7 @@ void test_random(void) {
         memcpy(state.session, &base, sizeof base);
         memcpy(state.store, &held, sizeof held);
         ((uint8_t *)state.session)[next() % sizeof(struct peers_connection)] = (uint8_t)next();
+        if (next() % 2) ((uint8_t *)&state.session->sending)[next() % sizeof(struct peers_sending)] = (uint8_t)(next() % 3);
         ((uint8_t *)state.store)[next() % 1200] = (uint8_t)next();
         try(state, &session, &store);
     }

@@ -31,6 +31,20 @@ static void *one_passing(void *argument) {
     return NULL;
 }
 
+/* A sending call. */
+struct sending {
+    struct state state;
+    struct peers_sent (*call)(struct peers_session *, const struct peers_store *, size_t, uint32_t, uint8_t *, size_t);
+    uint8_t room[PEERS_SEND_ROOM];
+};
+
+static void *one_sending(void *argument) {
+    struct sending *sending = argument;
+    struct state state = sending->state;
+    CHECK(sending->call(state.session, state.store, 0, 1, sending->room, sizeof sending->room).number == 0);
+    return NULL;
+}
+
 static void *one_opening(void *argument) {
     uint8_t room[PEERS_OPENING_ROOM];
     *(struct peers_opened *)argument =
@@ -77,6 +91,15 @@ static void print_readings(struct state state, size_t thread) {
            readings[at].name);
 }
 
+/* On the table and entry that the readings left. */
+static void print_sendings(struct state state, size_t thread) {
+    static struct sending definition, entry;
+    definition = (struct sending){state, peers_send_definition, {0}};
+    entry = (struct sending){state, peers_send_entry, {0}};
+    printf("stack of sending a definition: %zu bytes\n", stack_of(one_sending, &definition) - thread);
+    printf("stack of sending an entry: %zu bytes\n", stack_of(one_sending, &entry) - thread);
+}
+
 int main(void) {
     static struct peers_opened opened;
     edge = EDGE_BEFORE;
@@ -84,6 +107,7 @@ int main(void) {
     open_answerer(state);
     size_t thread = stack_of(nothing, NULL);
     print_readings(state, thread);
+    print_sendings(state, thread);
     printf("stack of passing time: %zu bytes\n", stack_of(one_passing, state.store) - thread);
     printf("stack of opening: %zu bytes\n", stack_of(one_opening, &opened) - thread);
     printf("stack of an empty store: %zu bytes\n", stack_of(one_store, state.store) - thread);

@@ -6,6 +6,14 @@
 
 enum edge edge;
 
+uint64_t next(void) {
+    static uint64_t seed = 0x123456789ABCDEF1;
+    seed ^= seed << 13;
+    seed ^= seed >> 7;
+    seed ^= seed << 17;
+    return seed;
+}
+
 static size_t pages(size_t size) {
     size_t page = (size_t)sysconf(_SC_PAGESIZE);
     return (size + page - 1) / page * page;
@@ -24,6 +32,12 @@ void give_back(void *memory, size_t size) {
     size_t page = (size_t)sysconf(_SC_PAGESIZE), inner = pages(size);
     uint8_t *start = edge == EDGE_AFTER ? (uint8_t *)memory + size - inner : memory;
     CHECK(munmap(start - page, inner + 2 * page) == 0);
+}
+
+void allow_writing(void *memory, size_t size, bool allowed) {
+    size_t inner = pages(size);
+    uint8_t *start = edge == EDGE_AFTER ? (uint8_t *)memory + size - inner : memory;
+    CHECK(mprotect(start, inner, allowed ? PROT_READ | PROT_WRITE : PROT_READ) == 0);
 }
 
 struct state lend_state(void) {
@@ -96,6 +110,7 @@ static bool has_offset(uint32_t number) {
 
 struct peers_outcome call(struct state state, const uint8_t *piece, size_t len, size_t room, uint8_t reply[12]) {
     uint8_t *lent_piece = lend(len), *lent_room = lend(room);
+    struct peers_sending sending = state.session->sending;
     memcpy(lent_piece, piece, len);
     memset(lent_room, FILL, room);
     struct peers_outcome outcome = peers_read(state.session, state.store, lent_piece, len, lent_room, room);
@@ -106,6 +121,7 @@ struct peers_outcome call(struct state state, const uint8_t *piece, size_t len, 
     if (outcome.number < PEERS_MORE) CHECK(outcome.count == (has_offset(outcome.number) ? 1 : 0) && outcome.values[0] <= 1024);
     for (size_t i = outcome.count; i < 4; i++) CHECK(outcome.values[i] == 0);
     if (was_sound(outcome.number)) CHECK(counts_are_right(state.store));
+    CHECK(memcmp(&sending, &state.session->sending, sizeof sending) == 0);
     give_back(lent_piece, len);
     give_back(lent_room, room);
     return outcome;
@@ -120,6 +136,36 @@ void offer(struct state state, const uint8_t *bytes, size_t len, void (*told)(co
         at += outcome.taken;
         if (outcome.number != PEERS_MORE) told(&outcome, reply);
     }
+}
+
+/* What the rule leaves of the record after a sending call. */
+static void note(struct peers_session *session, enum part part, size_t place, uint32_t id) {
+    if (part == A_TABLE) {
+        session->sending = (struct peers_sending){place + 1, 0, 0};
+    } else {
+        session->sending.sent = 1;
+        session->sending.last = id;
+    }
+}
+
+struct peers_sent send_part(struct state state, enum part part, size_t place, uint32_t id, size_t room, uint8_t message[SENT_MAX]) {
+    static struct peers_session session;
+    static struct peers_store store;
+    uint8_t *lent_room = lend(room);
+    memcpy(&session, state.session, sizeof session);
+    memcpy(&store, state.store, sizeof store);
+    memset(lent_room, FILL, room);
+    allow_writing(state.store, sizeof store, false);
+    struct peers_sent sent = part == A_TABLE ? peers_send_definition(state.session, state.store, place, id, lent_room, room)
+                                             : peers_send_entry(state.session, state.store, place, id, lent_room, room);
+    allow_writing(state.store, sizeof store, true);
+    CHECK(sent.number == 0 ? 0 < sent.len && sent.len <= SENT_MAX && room >= PEERS_SEND_ROOM : sent.len == 0);
+    memcpy(message, lent_room, sent.len);
+    for (size_t i = sent.len; i < room; i++) CHECK(lent_room[i] == FILL);
+    if (sent.number == 0) note(&session, part, place, id);
+    CHECK(memcmp(&session, state.session, sizeof session) == 0 && memcmp(&store, state.store, sizeof store) == 0);
+    give_back(lent_room, room);
+    return sent;
 }
 
 const struct key_lengths key_lengths[KEY_TYPES] = {

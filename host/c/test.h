@@ -26,6 +26,9 @@ extern enum edge edge;
 void *lend(size_t size);
 void give_back(void *memory, size_t size);
 
+/* Whether such memory may be written, or only be read. */
+void allow_writing(void *memory, size_t size, bool allowed);
+
 /* A session and a store in such memory. */
 struct state {
     struct peers_session *session;
@@ -36,6 +39,9 @@ struct state lend_state(void);
 void give_back_state(struct state state);
 
 bool all_zero(const void *memory, size_t size);
+
+/* A random number. */
+uint64_t next(void);
 
 /* Whether each count is the number of held entries that walking finds, and 0 at a free place. */
 bool counts_are_right(const struct peers_store *store);
@@ -49,8 +55,9 @@ void open_answerer_on(struct state state); /* the store stays */
 void open_caller(struct state state);
 void establish(struct state state);
 
-/* One call, with piece and room in such memory. The reply is left in `reply`, and the room past it must stay. A refusal must have a value
- * if it is one that says where the body broke, and no other may. A call that tested the store must leave counts that are right. */
+/* One call, with piece and room in such memory. The reply is left in `reply`, and the room past it must stay, and the sending state. A
+ * refusal must have a value if it is one that says where the body broke, and no other may. A call that tested the store must leave counts
+ * that are right. */
 struct peers_outcome call(struct state state, const uint8_t *piece, size_t len, size_t room, uint8_t reply[12]);
 
 /* Offers bytes until all are taken or the session is closed; every answer but "more wanted" goes to `told`. */
@@ -58,6 +65,16 @@ void offer(struct state state, const uint8_t *bytes, size_t len, void (*told)(co
 
 /* Passes time; the store must be left as the rule says, counts too, which is as it was where the number is 4. */
 void pass_time(struct peers_store *store, uint32_t milliseconds, uint32_t number);
+
+/* What a sending call sends. */
+enum part { A_TABLE, AN_ENTRY };
+
+/* The most bytes of a sent message. */
+#define SENT_MAX 267
+
+/* One sending call, with the room in such memory and the store in memory that can't be written. The message is left in `message`, and the
+ * room past it must stay. Of the record only the sending state may change, as the rule says; a refused call must leave all of it. */
+struct peers_sent send_part(struct state state, enum part part, size_t place, uint32_t id, size_t room, uint8_t message[SENT_MAX]);
 
 /* Each key type with its least and its greatest key length. */
 struct key_lengths {
@@ -91,6 +108,7 @@ void test_definition(void);
 void test_offsets(void);
 void test_times(void);
 void test_counts(void);
+void test_sending(void);
 void test_unsound(void);
 void test_random(void);
 void test_freeing(void);

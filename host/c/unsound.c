@@ -1,6 +1,7 @@
 /*
  * Each kind of fault of a record or a store, one at a time, and what stands next to it on the other side of its boundary. A fault is
- * refused with 4; a call on either side that takes nothing leaves every byte as it was. Passing time looks at the store alone.
+ * refused with 4, by reading and by sending; a call on either side that takes or sends nothing leaves every byte as it was. Passing time looks
+ * at the store alone.
  */
 #include "test.h"
 
@@ -49,8 +50,23 @@ static void passes(uint32_t number) {
     }
 }
 
+/* Both sending calls, with nothing at the place, which change nothing: 4, or what comes after it. */
+static bool sending_answers(uint32_t number) {
+    struct state state = {s, t};
+    uint8_t message[SENT_MAX];
+    return send_part(state, A_TABLE, SIZE_MAX, 7, PEERS_SEND_ROOM, message).number == number &&
+           send_part(state, AN_ENTRY, SIZE_MAX, 7, PEERS_SEND_ROOM, message).number == number;
+}
+
+/* What sending answers on a sound record, where nothing is at the place. */
+static uint32_t not_sent(void) {
+    if (s->connection.closed) return PEERS_REFUSED_CLOSED;
+    return s->connection.phase == PEERS_ESTABLISHED ? PEERS_REFUSED_PLACE : PEERS_REFUSED_HANDSHAKE;
+}
+
 static bool is_sound(void) {
     passes(0);
+    CHECK(sending_answers(not_sent()));
     uint32_t number = answer((const uint8_t *)"", 0);
     return number == (s->connection.closed ? PEERS_REFUSED_CLOSED : PEERS_MORE);
 }
@@ -59,6 +75,7 @@ static bool is_refused(void) {
     static const uint8_t heartbeat[] = {0, 4};
     /* where the store is the one that the case started from, the fault is the record's alone */
     passes(memcmp(&base_store, t, sizeof base_store) == 0 ? 0 : PEERS_REFUSED_UNSOUND);
+    CHECK(sending_answers(PEERS_REFUSED_UNSOUND));
     return answer((const uint8_t *)"", 0) == PEERS_REFUSED_UNSOUND && answer(heartbeat, 2) == PEERS_REFUSED_UNSOUND;
 }
 
@@ -367,6 +384,48 @@ static void bindings(void) {
     FAULT(b[7].bound = 0);
 }
 
+/* The table defined last among all 8, and the mark of a last ID, with such a table and without. */
+static void sending(void) {
+    struct peers_sending *x = &s->sending;
+    for (size_t defined = 0; defined <= PEERS_TABLES; defined++) {
+        SOUND(x->defined = defined);
+        for (uint32_t mark = 0; mark < 2; mark++) {
+            SOUND(x->defined = defined; x->sent = mark);
+            SOUND(x->defined = defined; x->sent = mark; x->last = 9);
+            SOUND(x->defined = defined; x->sent = mark; x->last = UINT32_MAX);
+        }
+        FAULT(x->defined = defined; x->sent = 2);
+        FAULT(x->defined = defined; x->sent = 1u << 8 | 1);
+        FAULT(x->defined = defined; x->sent = 1u << 16);
+        FAULT(x->defined = defined; x->sent = 1u << 31 | 1; x->last = 9);
+        FAULT(x->defined = defined; x->sent = UINT32_MAX);
+        FAULT(x->defined = defined + (size_t)PEERS_TABLES + 1);
+        FAULT(x->defined = defined + 256);
+        FAULT(x->defined = defined + ((size_t)1 << 32));
+        FAULT(x->defined = defined + ((size_t)1 << 63));
+        FAULT(x->defined = SIZE_MAX - defined);
+        /* a closed record */
+        SOUND(s->connection.closed = 1; x->defined = defined; x->sent = 1; x->last = 9);
+        FAULT(s->connection.closed = 1; x->defined = defined; x->sent = 2);
+    }
+    FAULT(s->connection.closed = 1; x->defined = 9);
+    SOUND(s->connection.phase = 0; x->defined = 8; x->sent = 1);
+    FAULT(s->connection.phase = 0; x->defined = 9);
+}
+
+/* With one table held, at place 0, and with none. */
+static void defined_not_held(bool held) {
+    if (held) SOUND(s->sending.defined = 1);
+    else FAULT(s->sending.defined = 1);
+    SOUND(s->sending.defined = 0; s->sending.sent = 1; s->sending.last = 9);
+    for (size_t place = 1; place < PEERS_TABLES; place++) {
+        FAULT(s->sending.defined = place + 1);
+        FAULT(s->sending.defined = place + 1; s->sending.sent = 1; s->sending.last = 9);
+        FAULT(s->sending.defined = place + 1; s->connection.closed = 1);
+    }
+    FAULT(s->sending.defined = PEERS_TABLES + 1);
+}
+
 /* Leaves no mark of table 0 in the record. */
 static void unused(void) {
     s->connection.current = s->connection.bindings[0].bound = s->connection.bindings[0].updated = 0;
@@ -479,6 +538,9 @@ static void refused_opening(void) {
     FAULT(hold("\0", 1));
     FAULT(s->buffer[PEERS_UNFINISHED_MAX] = 1);
     FAULT(s->buffer[PEERS_BUFFER - 1] = 1);
+    FAULT(s->sending.defined = 1);
+    FAULT(s->sending.sent = 1);
+    FAULT(s->sending.last = 1);
     FAULT(t->tables[0].held = 2);
 }
 
@@ -500,8 +562,10 @@ void test_unsound(void) {
     connection();
     peer_names();
     bindings();
+    sending();
     one_table(state);
     tables_not_held();
+    defined_not_held(true);
     counts();
     unfinished_message();
     full(state);
@@ -510,6 +574,7 @@ void test_unsound(void) {
     open_answerer(state);
     keep_base();
     counts();
+    defined_not_held(false);
     unfinished_hello();
     open_caller(state);
     keep_base();

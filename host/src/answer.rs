@@ -87,7 +87,8 @@ pub enum Answer {
 
 /// Why a call refused.
 ///
-/// The first four change nothing (opening gives no session); the others close the session.
+/// Those below 10 change nothing (opening gives no session), and neither do the last three, which sending alone gives; the others close the
+/// session.
 #[derive(Clone, Copy, Debug, PartialEq, Eq, Hash)]
 #[repr(u8)]
 pub enum Refusal {
@@ -133,11 +134,17 @@ pub enum Refusal {
     Entries = 29,
     /// A table name with a byte that isn't a letter, a digit or one of `.`, `_`, `-`, `/` and `:`.
     TableName = 30,
+    /// Sending: too little room for a message.
+    SendRoom = 31,
+    /// Sending: the table place isn't held, or the entry place isn't of the table defined last.
+    Place = 32,
+    /// Sending: the handshake is unfinished.
+    Handshake = 34,
 }
 
 impl Refusal {
     /// All refusals, ascending.
-    pub const ALL: [Refusal; 21] = [
+    pub const ALL: [Refusal; 24] = [
         Refusal::Room,
         Refusal::Closed,
         Refusal::Name,
@@ -159,6 +166,9 @@ impl Refusal {
         Refusal::Previous,
         Refusal::Entries,
         Refusal::TableName,
+        Refusal::SendRoom,
+        Refusal::Place,
+        Refusal::Handshake,
     ];
 
     /// Its number.
@@ -169,6 +179,12 @@ impl Refusal {
     /// The refusal of a number, if there is one.
     pub fn of(number: u8) -> Option<Refusal> {
         Refusal::ALL.into_iter().find(|r| r.number() == number)
+    }
+
+    /// The refusal of a number that a call gave. The library gives no others.
+    pub(crate) fn given(number: u32) -> Refusal {
+        let refusal = u8::try_from(number).ok().and_then(Refusal::of);
+        refusal.expect("the library gives no other number")
     }
 
     /// What it means, in the words of `peers_refusal_text`.
@@ -197,6 +213,11 @@ impl Refusal {
             Refusal::TableName => {
                 "a table name with a byte that isn't a letter, a digit or one of . _ - / :"
             }
+            Refusal::SendRoom => "too little room for a message",
+            Refusal::Place => {
+                "the table place isn't held, or the entry place isn't of the table defined last"
+            }
+            Refusal::Handshake => "the handshake is unfinished",
         }
     }
 }
@@ -313,9 +334,8 @@ impl Answer {
     }
 
     fn refused(number: u32, values: &[u64]) -> Answer {
-        let refusal = u8::try_from(number).ok().and_then(Refusal::of);
         Answer::Refused {
-            refusal: refusal.expect("the library gives no other number"),
+            refusal: Refusal::given(number),
             offset: values.first().map(|&offset| offset as usize),
         }
     }

@@ -4,7 +4,7 @@
 //! sound where its pointers come from references, and a slice's length goes with its pointer. That the archive has these structs is
 //! asked of it before the first call.
 
-use crate::layout::{Opened, Outcome, Session, Store};
+use crate::layout::{Opened, Outcome, Sent, Session, Store};
 use std::sync::Once;
 
 extern "C" {
@@ -36,12 +36,28 @@ extern "C" {
         room_len: usize,
     ) -> Outcome;
     fn peers_pass_time(store: *mut Store, milliseconds: u32) -> u32;
+    fn peers_send_definition(
+        session: *mut Session,
+        store: *const Store,
+        place: usize,
+        id: u32,
+        room: *mut u8,
+        room_len: usize,
+    ) -> Sent;
+    fn peers_send_entry(
+        session: *mut Session,
+        store: *const Store,
+        place: usize,
+        id: u32,
+        room: *mut u8,
+        room_len: usize,
+    ) -> Sent;
     fn peers_version() -> u32;
 }
 
 /// The version of the calls and that of the structs' layout, as in `include/peers.h`.
-pub const VERSION: u32 = 6;
-pub const LAYOUT: u32 = 4;
+pub const VERSION: u32 = 7;
+pub const LAYOUT: u32 = 5;
 
 /// The archive's version and layout.
 pub fn archive() -> (u32, u32) {
@@ -125,4 +141,28 @@ pub fn pass_time(store: &mut Store, milliseconds: u32) -> u32 {
     check();
     // SAFETY: the pointer is a reference's.
     unsafe { peers_pass_time(store, milliseconds) }
+}
+
+pub fn send_definition(
+    session: &mut Session,
+    store: &Store,
+    place: usize,
+    id: u32,
+    room: &mut [u8],
+) -> Sent {
+    check();
+    // SAFETY: each pointer is a reference's, the last with its slice's length; `&mut` ones overlap nothing, and the store is only read.
+    unsafe { peers_send_definition(session, store, place, id, room.as_mut_ptr(), room.len()) }
+}
+
+pub fn send_entry(
+    session: &mut Session,
+    store: &Store,
+    place: usize,
+    id: u32,
+    room: &mut [u8],
+) -> Sent {
+    check();
+    // SAFETY: as above.
+    unsafe { peers_send_entry(session, store, place, id, room.as_mut_ptr(), room.len()) }
 }

@@ -92,7 +92,7 @@ pub struct Binding {
     pub previous: u32,
 }
 
-/// The session record but for its unfinished bytes.
+/// The session record but for its unfinished bytes and the sending state.
 #[repr(C)]
 #[derive(Clone, Copy, Debug, PartialEq, Eq)]
 pub struct Connection {
@@ -116,20 +116,34 @@ pub struct Connection {
     pub bindings: [Binding; TABLES],
 }
 
-/// The session record.
+/// The sending state between two calls.
+#[repr(C)]
+#[derive(Clone, Copy, Debug, PartialEq, Eq)]
+pub struct Sending {
+    /// 0 where no table was defined to the peer, else the place of the one defined last plus 1.
+    pub defined: usize,
+    /// 1 where an entry was sent since that definition.
+    pub sent: u32,
+    /// The update ID of the entry sent last.
+    pub last: u32,
+}
+
+/// The session record. Reading leaves `sending` as it is, and sending leaves all else.
 #[repr(C)]
 #[derive(Clone, Copy, Debug, PartialEq, Eq)]
 pub struct Session {
-    /// All but the unfinished bytes.
+    /// All but the unfinished bytes and the sending state.
     pub connection: Connection,
     /// How many bytes of `buffer` are unfinished, at most [`UNFINISHED_MAX`].
     pub len: usize,
     /// The unfinished bytes, at the front. Those past them aren't looked at, but in the record of a refused opening, where all are 0; a call
     /// that takes bytes leaves zeros there.
     pub buffer: [u8; BUFFER],
+    /// The sending state.
+    pub sending: Sending,
 }
 
-/// What a call gives back.
+/// What opening and reading give back.
 #[repr(C)]
 #[derive(Clone, Copy, Debug, PartialEq, Eq)]
 pub struct Outcome {
@@ -153,4 +167,14 @@ pub struct Opened {
     pub session: Session,
     /// The outcome, with no bytes taken.
     pub outcome: Outcome,
+}
+
+/// What a sending call gives back.
+#[repr(C)]
+#[derive(Clone, Copy, Debug, PartialEq, Eq)]
+pub struct Sent {
+    /// 0, or the refusal's number.
+    pub number: u32,
+    /// The length of the message, 0 where it is refused.
+    pub len: u32,
 }

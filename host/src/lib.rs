@@ -1,4 +1,4 @@
-//! A receiver of stick tables over the HAProxy peers protocol, 2.1.
+//! A receiver of stick tables over the HAProxy peers protocol, 2.1, that can teach its tables to another.
 //!
 //! The host owns sockets and timers. It keeps one [`Session`] for each connection and one [`Store`], and gives
 //! [`Session::read`] the bytes as they come:
@@ -18,6 +18,14 @@
 //! On its ticks it gives [`Store::pass_time`] the time since the last one, which frees the entries whose time is over. A status page asks
 //! [`Store::entries_of`] how many entries a table has.
 //!
+//! [`Session::teach`] sends all that a store holds to a peer, a message at a time:
+//!
+//! ```ignore
+//! for message in session.teach(&store, peers::ids_from(1)) {
+//!     socket.write_all(&message?)?;
+//! }
+//! ```
+//!
 //! The work is done by the static library `libpeers.a`, each of whose functions is proved to meet its contract.
 //! Nothing is global: calls on different sessions and stores can run at the same time.
 //! The first call asks the archive for its version, and panics where it isn't this wrapper's.
@@ -32,11 +40,13 @@ mod ffi;
 pub mod layout;
 mod session;
 mod store;
+mod teaching;
 
 pub use answer::{Answer, Commit, Refusal};
 pub use data::{DataType, KeyType};
-pub use session::{Session, Step, OPENING_ROOM, READING_ROOM};
+pub use session::{Session, Step, OPENING_ROOM, READING_ROOM, SEND_ROOM};
 pub use store::{Entry, Store, Table, Value};
+pub use teaching::{ids_from, Part};
 
 /// The archive that was linked.
 pub const ARCHIVE: &str = env!("PEERS_ARCHIVE");

@@ -1,4 +1,4 @@
-//! The session record, opening and reading.
+//! The session record, opening, reading and sending.
 
 use crate::answer::{Answer, Refusal};
 use crate::ffi;
@@ -9,6 +9,8 @@ use crate::store::Store;
 pub const OPENING_ROOM: usize = 101;
 /// Room that a reading call asks for.
 pub const READING_ROOM: usize = 12;
+/// Room that a sending call asks for.
+pub const SEND_ROOM: usize = 1036;
 
 /// The record of one connection.
 #[derive(Clone, Debug, PartialEq, Eq)]
@@ -68,6 +70,48 @@ impl Session {
         }
     }
 
+    /// Writes the definition of the table at a place, under this ID, for the peer: one whole message, at the front of the room. Send it before
+    /// the next call. It is the table defined last from now on.
+    ///
+    /// The room is [`SEND_ROOM`] bytes or more; past the message it stays as it was. Of the record only the sending state changes
+    /// ([`Session::defined`], [`Session::last_sent`]): a message that is read in part and what was read don't matter.
+    ///
+    /// # Errors
+    ///
+    /// In this order: [`Refusal::Unsound`], [`Refusal::Closed`], [`Refusal::SendRoom`], [`Refusal::Handshake`], and [`Refusal::Place`] where
+    /// no table is held at the place. Nothing is then written or changed, and the session isn't closed by it.
+    pub fn send_definition<'a>(
+        &mut self,
+        store: &Store,
+        table: usize,
+        id: u32,
+        room: &'a mut [u8],
+    ) -> Result<&'a [u8], Refusal> {
+        let sent = ffi::send_definition(&mut self.record, store.layout(), table, id, room);
+        message(sent, room)
+    }
+
+    /// Writes the entry at a place, under this update ID, for the peer: one whole message, at the front of the room. It is an entry of the
+    /// table defined last. Send it before the next call. The peer acknowledges the ID
+    /// ([`Answer::Acknowledgement`], which needs no reply).
+    ///
+    /// The first entry after a definition goes with its ID; a later one goes without it where the ID is the last one's plus 1 (0 after
+    /// 4294967295). An entry with a remaining time goes with it. Room and record are as in [`Session::send_definition`].
+    ///
+    /// # Errors
+    ///
+    /// As [`Session::send_definition`], and [`Refusal::Place`] where no entry of the table defined last is held at the place.
+    pub fn send_entry<'a>(
+        &mut self,
+        store: &Store,
+        entry: usize,
+        id: u32,
+        room: &'a mut [u8],
+    ) -> Result<&'a [u8], Refusal> {
+        let sent = ffi::send_entry(&mut self.record, store.layout(), entry, id, room);
+        message(sent, room)
+    }
+
     /// What a closed session was closed with: 0 after the peer's error message, else a refusal's number.
     pub fn closed_with(&self) -> Option<u8> {
         let connection = &self.record.connection;
@@ -99,9 +143,22 @@ impl Session {
         (binding.updated == 1).then_some(binding.previous)
     }
 
-    /// Whether the table at a place is bound or was updated in this session. A closed session uses none.
+    /// The place of the table that was defined to the peer last.
+    pub fn defined(&self) -> Option<usize> {
+        self.record.sending.defined.checked_sub(1)
+    }
+
+    /// The update ID that was sent last, since that definition.
+    pub fn last_sent(&self) -> Option<u32> {
+        let sending = &self.record.sending;
+        (sending.sent == 1).then_some(sending.last)
+    }
+
+    /// Whether the table at a place is bound or was updated in this session, or is the one that was defined to the peer last. A closed
+    /// session uses none.
     pub fn uses(&self, place: usize) -> bool {
-        let used = self.bound_id(place).is_some() || self.last_update(place).is_some();
+        let read = self.bound_id(place).is_some() || self.last_update(place).is_some();
+        let used = read || self.defined() == Some(place);
         used && self.closed_with().is_none()
     }
 
@@ -124,6 +181,14 @@ impl Session {
 impl From<layout::Session> for Session {
     fn from(record: layout::Session) -> Session {
         Session { record }
+    }
+}
+
+/// The message at the front of the room, or the refusal.
+fn message(sent: layout::Sent, room: &[u8]) -> Result<&[u8], Refusal> {
+    match sent.number {
+        0 => Ok(&room[..sent.len as usize]),
+        number => Err(Refusal::given(number)),
     }
 }
 

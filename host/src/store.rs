@@ -136,8 +136,9 @@ impl Store {
     /// Frees the table at a place with its entries, so that its count is 0, and says whether one was held there.
     ///
     /// No session that goes on may use it ([`Session::uses`](crate::Session::uses)): such a session would be refused with
-    /// [`Refusal::Unsound`](crate::Refusal::Unsound) while the place is free, and once another table takes the place its next update would
-    /// be committed there, to the wrong table, and acknowledged. Give each such connection a new session first.
+    /// [`Refusal::Unsound`](crate::Refusal::Unsound) while the place is free. Once another table takes the place, its next update would be
+    /// committed there, to the wrong table, and acknowledged, and the other table's entries would be sent as those of the one that was
+    /// defined to the peer. Give each such connection a new session first.
     pub fn free_table(&mut self, place: usize) -> bool {
         if self.table(place).is_none() {
             return false;

@@ -70,10 +70,10 @@ fn unchanged(number: u8) -> Outcome {
     }
 }
 
-/// Writes a reply to the front of the room and gives its length.
-fn write(reply: &[u8], room: &mut [u8]) -> usize {
-    room[..reply.len()].copy_from_slice(reply);
-    reply.len()
+/// Writes some bytes to the front of the room and gives their number.
+pub(crate) fn write(bytes: &[u8], room: &mut [u8]) -> usize {
+    room[..bytes.len()].copy_from_slice(bytes);
+    bytes.len()
 }
 
 /// One reading call on a piece of the peer's bytes.

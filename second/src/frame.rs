@@ -1,6 +1,6 @@
-//! The header of a message and the length of its body.
+//! The header of a message and the length of its body, both ways.
 
-use crate::integer::{decode, Decoded};
+use crate::integer::{decode, encode, Decoded};
 use crate::refusal;
 
 /// The class of the table messages.
@@ -48,4 +48,12 @@ fn table(kind: u8, rest: &[u8]) -> Frame<'_> {
             body.map_or(Frame::Unfinished, |body| Frame::Table(kind, body))
         }
     }
+}
+
+/// A table message with this type and body.
+pub fn table_message(kind: u8, body: &[u8]) -> Vec<u8> {
+    let mut bytes = vec![TABLE_CLASS, kind];
+    bytes.extend(encode(body.len() as u64));
+    bytes.extend_from_slice(body);
+    bytes
 }

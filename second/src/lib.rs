@@ -25,5 +25,6 @@ pub mod model;
 pub mod record;
 pub mod refusal;
 pub mod replay;
+pub mod send;
 pub mod sound;
 pub mod store;

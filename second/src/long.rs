@@ -85,6 +85,8 @@ pub struct Figures {
     pub calls: u64,
     /// The number of passing calls.
     pub passes: u64,
+    /// The number of sending calls, by type of the message or by refusal.
+    pub sends: BTreeMap<String, u64>,
     /// The number of dumps.
     pub dumps: u64,
     /// The number of each answer, refusals by number.
@@ -102,6 +104,9 @@ impl Figures {
                 Some("session") => self.dumps += 1,
                 Some("passed") => self.passes += 1,
                 Some("took") => self.answer(lines.next().unwrap_or_default()),
+                // The line that follows it in a dump begins like that of a call.
+                Some("defined") => drop(lines.next()),
+                Some("sent" | "refused") => self.send(line),
                 _ => {}
             }
         }
@@ -121,6 +126,14 @@ impl Figures {
         *self.answers.entry(name).or_default() += 1;
     }
 
+    /// Counts a sending call: the type is the second byte of its message.
+    fn send(&mut self, line: &str) {
+        let digits = line.strip_prefix("sent ").and_then(|hex| hex.get(2..4));
+        let kind = digits.and_then(|digits| u8::from_str_radix(digits, 16).ok());
+        let name = kind.map_or(line.to_owned(), |kind| kind.to_string());
+        *self.sends.entry(name).or_default() += 1;
+    }
+
     /// Adds other figures.
     fn add(&mut self, other: Figures) {
         self.streams += other.streams;
@@ -132,9 +145,15 @@ impl Figures {
         self.calls += other.calls;
         self.passes += other.passes;
         self.dumps += other.dumps;
-        for (name, count) in other.answers {
-            *self.answers.entry(name).or_default() += count;
-        }
+        add_all(&mut self.sends, other.sends);
+        add_all(&mut self.answers, other.answers);
+    }
+}
+
+/// Adds counts to others by name.
+fn add_all(counts: &mut BTreeMap<String, u64>, others: BTreeMap<String, u64>) {
+    for (name, count) in others {
+        *counts.entry(name).or_default() += count;
     }
 }
 
@@ -149,6 +168,9 @@ impl fmt::Display for Figures {
         writeln!(f, "calls {}", self.calls)?;
         writeln!(f, "passing calls {}", self.passes)?;
         writeln!(f, "dumps {}", self.dumps)?;
+        for (name, count) in &self.sends {
+            writeln!(f, "sending calls {name}: {count}")?;
+        }
         for (name, count) in &self.answers {
             writeln!(f, "answers {name}: {count}")?;
         }

@@ -3,7 +3,7 @@
 use crate::answer::{Answer, Commit, Response};
 use crate::body;
 use crate::fields::Fields;
-use crate::frame::{Frame, TABLE_CLASS};
+use crate::frame::{self, Frame};
 use crate::integer::encode;
 use crate::record::{Phase, Record};
 use crate::refusal::{self, Refusal};
@@ -168,7 +168,5 @@ fn commit(store: &mut Store, entry: Entry) -> Result<(usize, Commit), Refusal> {
 fn acknowledge(bound: u64, id: u32) -> Vec<u8> {
     let mut body = encode(bound);
     body.extend_from_slice(&id.to_be_bytes());
-    let mut message = vec![TABLE_CLASS, ACKNOWLEDGEMENT, body.len() as u8];
-    message.extend(body);
-    message
+    frame::table_message(ACKNOWLEDGEMENT, &body)
 }

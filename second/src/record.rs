@@ -24,7 +24,8 @@ pub enum Phase {
     Closed(u8),
 }
 
-/// The session record.
+/// The session record. Reading leaves the last two fields, sending changes
+/// nothing else.
 #[derive(Clone, Debug, Default, PartialEq, Eq)]
 pub struct Record {
     /// How far the session is.
@@ -43,6 +44,10 @@ pub struct Record {
     pub previous: [Option<u64>; TABLES],
     /// The place of the current table.
     pub current: Option<usize>,
+    /// The place of the table that a sending call defined last.
+    pub defined: Option<usize>,
+    /// The update ID that was sent last since that definition.
+    pub sent: Option<u32>,
 }
 
 impl Record {

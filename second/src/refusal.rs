@@ -42,6 +42,13 @@ pub const PREVIOUS: u8 = 28;
 pub const ENTRIES: u8 = 29;
 /// A table name has a byte that isn't plain.
 pub const NOT_PLAIN: u8 = 30;
+/// Sending: the room is too small.
+pub const SENDING_ROOM: u8 = 31;
+/// Sending: the table place isn't held, or the entry place isn't of the table
+/// defined last.
+pub const NOT_THERE: u8 = 32;
+/// Sending: the handshake is unfinished.
+pub const HANDSHAKE: u8 = 34;
 
 /// A refusal.
 #[derive(Clone, Copy, Debug, PartialEq, Eq)]

@@ -5,9 +5,10 @@ use crate::call::{open, pass_time, read, Opening, OPENING_ROOM};
 use crate::datatype;
 use crate::listing::{add_line, add_reply, answer_line, hex, OUR_NAME, PEER_NAME};
 use crate::record::{Phase, Record, Role};
+use crate::send::{send_definition, send_entry};
 use crate::store::{Entry, Store, Table};
 
-/// The content of a reply buffer before a call.
+/// The content of a room before a call.
 pub const FILL: u8 = 0xAA;
 
 /// The process ID of our hello.
@@ -31,8 +32,56 @@ pub enum Command<'a> {
     },
     /// `T`: one passing call with this many milliseconds.
     Pass(u32),
+    /// `P` or `E`: one sending call.
+    Send(Sending),
     /// `D`: a dump.
     Dump,
+}
+
+/// What a sending call sends.
+#[derive(Clone, Copy, Debug, PartialEq, Eq)]
+pub enum Item {
+    /// `P`: the definition of a table.
+    Definition,
+    /// `E`: an entry.
+    Entry,
+}
+
+/// A sending call.
+#[derive(Clone, Copy, Debug, PartialEq, Eq)]
+pub struct Sending {
+    /// What it sends.
+    pub item: Item,
+    /// The place of the table or the entry.
+    pub place: u8,
+    /// The table ID or the update ID.
+    pub id: u32,
+    /// The room.
+    pub room: u16,
+}
+
+impl Sending {
+    /// Makes the call; gives its result and the room after it.
+    pub fn make(self, record: &mut Record, store: &Store) -> (Result<usize, u8>, Vec<u8>) {
+        let mut room = vec![FILL; self.room.into()];
+        let call = match self.item {
+            Item::Definition => send_definition,
+            Item::Entry => send_entry,
+        };
+        let result = call(record, store, self.place.into(), self.id, &mut room);
+        (result, room)
+    }
+
+    /// Adds the command to a script.
+    fn write(self, script: &mut Vec<u8>) {
+        let letter = match self.item {
+            Item::Definition => b'P',
+            Item::Entry => b'E',
+        };
+        script.extend([letter, self.place]);
+        script.extend(self.id.to_be_bytes());
+        script.extend(self.room.to_be_bytes());
+    }
 }
 
 impl Command<'_> {
@@ -50,6 +99,7 @@ impl Command<'_> {
                 script.push(b'T');
                 script.extend(milliseconds.to_be_bytes());
             }
+            Command::Send(sending) => sending.write(script),
             Command::Dump => script.push(b'D'),
         }
     }
@@ -83,6 +133,8 @@ pub fn command(script: &[u8]) -> Option<(Command<'_>, &[u8])> {
             let milliseconds = u32::from_be_bytes([*a, *b, *c, *d]);
             Some((Command::Pass(milliseconds), rest))
         }
+        [b'P', rest @ ..] => sending(Item::Definition, rest),
+        [b'E', rest @ ..] => sending(Item::Entry, rest),
         [b'C', room, high, low, rest @ ..] => {
             let length = usize::from(u16::from_be_bytes([*high, *low]));
             let piece = rest.get(..length)?;
@@ -90,6 +142,20 @@ pub fn command(script: &[u8]) -> Option<(Command<'_>, &[u8])> {
         }
         _ => None,
     }
+}
+
+/// A sending command without its letter, and what follows it.
+fn sending(item: Item, script: &[u8]) -> Option<(Command<'_>, &[u8])> {
+    let [place, a, b, c, d, high, low, rest @ ..] = script else {
+        return None;
+    };
+    let sending = Sending {
+        item,
+        place: *place,
+        id: u32::from_be_bytes([*a, *b, *c, *d]),
+        room: u16::from_be_bytes([*high, *low]),
+    };
+    Some((Command::Send(sending), rest))
 }
 
 /// Opens a session as the script's `O` and `N` do and gives the reply.
@@ -137,6 +203,7 @@ fn carry_out(command: Command, state: &mut Option<(Record, Store)>, output: &mut
             let number = pass_time(store, milliseconds);
             add_line(output, &format!("passed {number}"));
         }
+        Command::Send(sending) => send(record, store, sending, output),
         Command::Dump => dump(record, store, output),
     }
     true
@@ -161,7 +228,23 @@ fn call(record: &mut Record, store: &mut Store, room: u8, piece: &[u8], output: 
     add_line(output, &format!("took {taken}"));
     add_line(output, &answer_line(answer, record, store));
     add_reply(output, &buffer[..reply]);
-    if buffer[reply..].iter().any(|&byte| byte != FILL) {
+    add_spoiled(output, &buffer[reply..]);
+}
+
+/// Makes one sending call and prints it.
+fn send(record: &mut Record, store: &Store, sending: Sending, output: &mut Vec<u8>) {
+    let (result, room) = sending.make(record, store);
+    let line = match result {
+        Ok(length) => format!("sent {}", hex(&room[..length])),
+        Err(number) => format!("refused {number}"),
+    };
+    add_line(output, &line);
+    add_spoiled(output, &room[result.unwrap_or(0)..]);
+}
+
+/// Adds a line if a call changed the part of a room that it must leave.
+fn add_spoiled(output: &mut Vec<u8>, rest: &[u8]) {
+    if rest.iter().any(|&byte| byte != FILL) {
         add_line(output, "spoiled");
     }
 }
@@ -171,8 +254,15 @@ pub fn dump(record: &Record, store: &Store, output: &mut Vec<u8>) {
     add_line(output, &phase_line(record.phase));
     let unfinished = hex_or_dash(&record.unfinished);
     add_line(output, &format!("unfinished {unfinished}"));
-    let current = record.current.map_or("-".into(), |place| place.to_string());
-    add_line(output, &format!("current {current}"));
+    add_line(
+        output,
+        &format!("current {}", number_or_dash(record.current)),
+    );
+    add_line(
+        output,
+        &format!("defined {}", number_or_dash(record.defined)),
+    );
+    add_line(output, &format!("sent {}", number_or_dash(record.sent)));
     dump_ids(record, output);
     for (place, table) in held(&store.tables) {
         add_line(output, &table_line(place, table));
@@ -204,6 +294,11 @@ fn hex_or_dash(bytes: &[u8]) -> String {
         [] => "-".into(),
         _ => hex(bytes),
     }
+}
+
+/// A number in decimal, or `-` if there is none.
+fn number_or_dash(number: Option<impl ToString>) -> String {
+    number.map_or("-".into(), |number| number.to_string())
 }
 
 /// Prints bound and previous IDs by place.

@@ -49,6 +49,7 @@ pub fn record_is_sound(record: &Record, store: &Store) -> bool {
             && current_table_is_held(record, store)
             && current_table_is_bound(record)
             && bound_ids_are_distinct(record)
+            && defined_table_is_held(record, store)
             && closed_has_no_unfinished(record)
             && unfinished_shows_nothing(record))
 }
@@ -265,6 +266,13 @@ pub fn current_table_is_bound(record: &Record) -> bool {
 /// No ID is bound to two tables.
 pub fn bound_ids_are_distinct(record: &Record) -> bool {
     are_distinct(record.bound.iter().flatten(), |one, other| one == other)
+}
+
+/// The place of the table defined last is below 8 and held.
+pub fn defined_table_is_held(record: &Record, store: &Store) -> bool {
+    record
+        .defined
+        .is_none_or(|place| store.table(place).is_some())
 }
 
 /// A closed record has no unfinished bytes.

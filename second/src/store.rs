@@ -162,6 +162,11 @@ impl Store {
         self.tables.get(place)?.as_ref()
     }
 
+    /// The held entry at a place.
+    pub fn entry(&self, place: usize) -> Option<&Entry> {
+        self.entries.get(place)?.as_ref()
+    }
+
     /// The place of the table with this name.
     pub fn named(&self, name: &[u8]) -> Option<usize> {
         place_of(&self.tables, |table| table.name == name)

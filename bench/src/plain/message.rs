@@ -7,13 +7,13 @@ use super::{Judged, Refusal, Settled};
 use crate::layout::{Binding, Connection, Entry, Store, Table, KEY_MAX, NAME_MAX, RATES, VALUES};
 
 /// Types of stick table messages.
-const UPDATE: u8 = 128;
-const INCREMENTAL: u8 = 129;
-const DEFINITION: u8 = 130;
+pub const UPDATE: u8 = 128;
+pub const INCREMENTAL: u8 = 129;
+pub const DEFINITION: u8 = 130;
 const SWITCH: u8 = 131;
 const ACKNOWLEDGEMENT: u8 = 132;
-const TIMED: u8 = 133;
-const TIMED_INCREMENTAL: u8 = 134;
+pub const TIMED: u8 = 133;
+pub const TIMED_INCREMENTAL: u8 = 134;
 
 /// The rate types, ascending.
 pub const RATE_TYPES: [u8; RATES] = [3, 5, 8, 10, 12, 14, 16, 18];

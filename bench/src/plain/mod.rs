@@ -1,16 +1,18 @@
-//! A receiver over the library's structs, by references and without proofs: the same rules and the same tests, written as one
+//! A receiver and sender over the library's structs, by references and without proofs: the same rules and the same tests, written as one
 //! would write them in Rust. The benchmark compares the library with it.
 
 mod frame;
 mod handshake;
 mod key_type;
 mod message;
+mod sending;
 mod sound;
 mod time;
 mod wire;
 
 use crate::layout::{Connection, Outcome, Session, Store, UNFINISHED_MAX};
 
+pub use sending::{send_definition, send_entry};
 use sound::is_sound;
 pub use sound::mark;
 pub use time::pass_time;

@@ -6,7 +6,7 @@ use super::key_type::KeyType;
 use super::message::{has, is_wide, SLOT_TYPES};
 use super::wire::is_plain;
 use crate::layout::{
-    Binding, Connection, Entry, Session, Store, Table, BUFFER, ENTRIES, NAME_MAX, TABLES,
+    Binding, Connection, Entry, Sending, Session, Store, Table, BUFFER, ENTRIES, NAME_MAX, TABLES,
     UNFINISHED_MAX,
 };
 
@@ -134,7 +134,14 @@ fn is_refused_opening(session: &Session) -> bool {
         && c.remote == [0; NAME_MAX]
         && c.bindings.iter().all(empty)
         && session.buffer == [0; BUFFER]
+        && session.sending == NOTHING_SENT
 }
+
+const NOTHING_SENT: Sending = Sending {
+    defined: 0,
+    sent: 0,
+    last: 0,
+};
 
 fn record_is_sound(session: &Session, store: &Store) -> bool {
     let c = &session.connection;
@@ -145,6 +152,7 @@ fn record_is_sound(session: &Session, store: &Store) -> bool {
         && bindings_are_sound(&c.bindings, store)
         && current_is_sound(c, store)
         && unfinished_is_sound(session)
+        && sending_is_sound(&session.sending, store)
 }
 
 fn number_fits(c: &Connection) -> bool {
@@ -174,6 +182,12 @@ fn current_is_sound(c: &Connection, store: &Store) -> bool {
     };
     let place = place as usize;
     place < TABLES && store.tables[place].held == 1 && c.bindings[place].bound == 1
+}
+
+/// The table defined last, if there is one, is held.
+fn sending_is_sound(sending: &Sending, store: &Store) -> bool {
+    let held = |place: usize| store.tables.get(place).is_some_and(|t| t.held == 1);
+    sending.sent <= 1 && sending.defined.checked_sub(1).is_none_or(held)
 }
 
 fn unfinished_is_sound(session: &Session) -> bool {

@@ -142,3 +142,36 @@ impl<'a> Reader<'a> {
         Ok(u32::from_be_bytes([bytes[0], bytes[1], bytes[2], bytes[3]]))
     }
 }
+
+/// A body that is written: the longest is a timed update with an ID, a string of 64 bytes and all data types.
+pub struct Writer {
+    bytes: [u8; 263],
+    len: usize,
+}
+
+impl Writer {
+    pub fn new() -> Writer {
+        Writer {
+            bytes: [0; 263],
+            len: 0,
+        }
+    }
+
+    pub fn int(&mut self, value: u64) {
+        self.len += write_int(&mut self.bytes[self.len..], value);
+    }
+
+    pub fn bytes(&mut self, bytes: &[u8]) {
+        self.bytes[self.len..self.len + bytes.len()].copy_from_slice(bytes);
+        self.len += bytes.len();
+    }
+
+    /// A 4-byte big-endian number.
+    pub fn number(&mut self, number: u32) {
+        self.bytes(&number.to_be_bytes());
+    }
+
+    pub fn body(&self) -> &[u8] {
+        &self.bytes[..self.len]
+    }
+}

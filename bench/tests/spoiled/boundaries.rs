@@ -154,6 +154,27 @@ const BOUNDARIES: &[(Change, Change)] = &[
     ),
     (|s, _| s.buffer[1031] = 1, |s, _| s.len = 1028),
     (|s, _| (s.len, s.buffer[0]) = (1, 10), |s, _| s.len = 2),
+    // the sending state
+    (|s, _| s.sending.defined = 0, |s, _| s.sending.defined = 9),
+    (|s, _| s.sending.defined = 5, |s, _| s.sending.defined = 6),
+    (
+        |s, _| s.sending.defined = 1,
+        |s, _| s.sending.defined = (1 << 32) + 1,
+    ),
+    (
+        |s, _| s.sending.defined = 5,
+        |s, _| s.sending.defined = usize::MAX,
+    ),
+    (|s, _| s.sending.sent = 1, |s, _| s.sending.sent = 2),
+    (|s, _| s.sending.last = 9, |s, _| s.sending.sent = 256),
+    (
+        |s, _| (s.sending.sent, s.sending.last) = (1, u32::MAX),
+        |s, _| s.sending.sent = u32::MAX,
+    ),
+    (
+        |s, _| (s.connection.closed, s.sending.defined) = (1, 5),
+        |s, _| (s.connection.closed, s.sending.defined) = (1, 8),
+    ),
 ];
 
 /// Puts the first entry to another table, with the counts of the tables that there are.
@@ -190,6 +211,9 @@ const OPENING_BOUNDARIES: &[(Change, Change)] = &[
     (NOTHING, |s, _| s.buffer[1026] = 1),
     (NOTHING, |s, _| s.buffer[1031] = 1),
     (NOTHING, |s, _| s.len = 1),
+    (NOTHING, |s, _| s.sending.defined = 1),
+    (NOTHING, |s, _| s.sending.sent = 1),
+    (NOTHING, |s, _| s.sending.last = 1),
 ];
 
 /// Whether a table with such keys may have this key length.

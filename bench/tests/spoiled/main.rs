@@ -6,7 +6,7 @@ mod random;
 mod unfinished;
 
 use bench::layout::{Session, Store, TABLES};
-use bench::receivers::{Library, Plain, Receiver, Role};
+use bench::receivers::{Library, Part, Plain, Receiver, Role, SEND_ROOM};
 use bench::streams::{filling, int, message, HELLO};
 use peers::KeyType;
 
@@ -58,7 +58,36 @@ impl Both {
         number
     }
 
-    /// Whether the state is unsound: calls with all pieces say the same. Passing calls agree on whether the store is.
+    /// One sending call of each: the message's length, or the refusal's number.
+    fn send(&mut self, part: Part, id: u32, room: usize) -> Result<usize, u32> {
+        let mut rooms = [vec![0xAA; room], vec![0xAA; room]];
+        let sent = self.library.send(part, id, &mut rooms[0]);
+        assert_eq!(sent, self.plain.send(part, id, &mut rooms[1]));
+        assert!(rooms[0] == rooms[1]);
+        assert!(*self.library.session.layout() == self.plain.session);
+        assert!(self.library.store.layout() == &*self.plain.store);
+        sent
+    }
+
+    /// Whether sending calls say that the state is unsound, all the same, whatever is asked for.
+    fn is_unsound_to_send(&self) -> bool {
+        let unsound = Err(UNSOUND);
+        let first = self.clone().send(Part::Table(0), 1, SEND_ROOM) == unsound;
+        let places = [0, 1, 4, 5, 7, 8, 127, usize::MAX];
+        for part in places
+            .map(|place| [Part::Table(place), Part::Entry(place)])
+            .concat()
+        {
+            let mut both = self.clone();
+            assert_eq!(both.send(part, 9, SEND_ROOM) == unsound, first);
+            assert_eq!(both.send(part, 10, SEND_ROOM - 1) == unsound, first);
+            assert_eq!(both.send(part, 10, SEND_ROOM) == unsound, first);
+        }
+        first
+    }
+
+    /// Whether the state is unsound: reading calls with all pieces and sending calls say the same. Passing calls agree on whether the store
+    /// is.
     fn is_unsound(&self) -> bool {
         let refused = self.clone().pass(0) == UNSOUND;
         for time in [0, 7, 60_000, u32::MAX] {
@@ -67,6 +96,7 @@ impl Both {
             assert_eq!(both.pass(1) == UNSOUND, refused);
         }
         let unsound = self.clone().call(b"", 12) == UNSOUND;
+        assert_eq!(self.is_unsound_to_send(), unsound);
         let pieces = [&[0, 4][..], &message(200, b"x"), &update(b"\x02ab", 35)];
         for piece in pieces {
             let mut both = self.clone();
@@ -141,6 +171,15 @@ fn refused_opening() -> Both {
     both
 }
 
+/// Five tables, of which the last was defined to the peer, and one of its entries sent.
+fn sending() -> Both {
+    let mut both = Both::after(Role::Answerer, &five_tables());
+    for part in [Part::Table(4), Part::Entry(4)] {
+        assert!(both.send(part, 9, SEND_ROOM).is_ok());
+    }
+    both
+}
+
 /// States of every phase, with and without unfinished bytes.
 fn states() -> Vec<Both> {
     let tables = five_tables();
@@ -154,6 +193,7 @@ fn states() -> Vec<Both> {
         Both::after(Role::Answerer, &unfinished),
         Both::after(Role::Answerer, &closed),
         Both::after(Role::Answerer, &filling(128)),
+        sending(),
         refused_opening(),
     ]
 }

@@ -2,6 +2,7 @@
 
 use crate::{count, states, update, Both, UNSOUND};
 use bench::layout::{Session, Store};
+use bench::receivers::{Part, SEND_ROOM};
 use bench::streams::message;
 
 /// A small generator (xorshift).
@@ -53,7 +54,7 @@ impl Random {
 fn spoil_record(random: &mut Random, record: &mut Session) {
     let c = &mut record.connection;
     let binding = &mut c.bindings[random.below(8)];
-    match random.below(14) {
+    match random.below(17) {
         0 => random.spoil_word(&mut c.phase),
         1 => random.spoil_word(&mut c.closed),
         2 => random.spoil_word(&mut c.number),
@@ -67,6 +68,9 @@ fn spoil_record(random: &mut Random, record: &mut Session) {
         10 => random.spoil_word(&mut binding.id),
         11 => random.spoil_word(&mut binding.previous),
         12 => random.spoil_size(&mut record.len),
+        13 => random.spoil_size(&mut record.sending.defined),
+        14 => random.spoil_word(&mut record.sending.sent),
+        15 => random.spoil_word(&mut record.sending.last),
         _ => random.spoil(&mut record.buffer[..40]),
     }
 }
@@ -117,6 +121,20 @@ fn spoil_counts(random: &mut Random, store: &mut Store) {
     }
 }
 
+/// Makes two sending calls, with places that are often held.
+fn sends_agree(random: &mut Random, both: &mut Both) {
+    for part in [Part::Table, Part::Entry] {
+        let place = match random.below(4) {
+            0 => [127, 128, 1 << 32, usize::MAX][random.below(4)],
+            _ => random.below(9),
+        };
+        // as often as not the ID follows the last
+        let last = both.plain.session.sending.last;
+        let id = last.wrapping_add(random.below(2) as u32);
+        _ = both.send(part(place), id, SEND_ROOM - random.below(8) / 7);
+    }
+}
+
 /// Makes calls on a spoiled state: whether it was unsound.
 fn calls_agree(random: &mut Random, both: &mut Both) -> bool {
     let pieces = [
@@ -131,6 +149,7 @@ fn calls_agree(random: &mut Random, both: &mut Both) -> bool {
     for _ in 0..2 {
         let room = [11, 12, 15][random.below(3)];
         both.call(&pieces[random.below(pieces.len())], room);
+        sends_agree(random, both);
         both.pass([0, 7, u32::MAX][random.below(3)]);
     }
     unsound

@@ -14,3 +14,7 @@ pub mod OneEncoding
 pub mod Breaking
 pub mod BreakingFields
 pub mod BodiesBreak
+pub mod Placed
+pub mod DefinitionBack
+pub mod UpdateBack
+pub mod Longest

@@ -1,5 +1,5 @@
 -- Bytes stand for one update or definition only: where the encodings of two, each with bytes behind it, are equal, so are their fields.
-use Prim.Native.Nat.{ℕ, suc, _^_, _<_, min, _≤_}
+use Prim.Native.Nat.{ℕ, _^_, _<_, min, _≤_}
 use native.Mathlib.Omega.{arith}
 use mathlib.Core.Path.{_≡_, refl, sym, ap, _∙_}
 use mathlib.Core.List.{List, [], _∷_, _++_, append-assoc}
@@ -29,7 +29,7 @@ use Rattle.store.specs.Store.{keyOf, nameOf}
 use Rattle.store.proofs.Rules.{slot-count, rate-count}
 use Rattle.body.specs.declared.update.Form.{Form}
 use Rattle.body.specs.Encodings.{messageBytes, eachBytes, keyBytes, serverBytes, valueBytes, dataBytes, entryBytes, numberIf, updateBytes, periodBytes, timesBytes, definitionBytes}
-use Rattle.body.proofs.Taken.{Along}
+use Rattle.body.proofs.Taken.{Along, along-from}
 
 -- ---- bytes before others
 
@@ -124,13 +124,6 @@ each-once encode Q one (t ∷ ts) (v ∷ vs) (w ∷ ws) p q a b e =
     let r = one t v w (xs ++ p) (ys ++ q) (a .0) (b .0) f in
     let k = each-once encode Q one ts vs ws p q (a .1) (b .1) (r .1) in
     (ap (λ (n : ℕ). n ∷ vs) (r .0) ∙ ap (λ (l : List ℕ). w ∷ l) (k .0), k .1)
-
-along-from : (Q : ℕ → ℕ → Type 0) (ts vs : List ℕ) → length vs ≡ length ts → ((i : ℕ) → i < length ts → Q (getD ts i 0) (getD vs i 0)) → Along Q ts vs
-unfolding Along
-along-from Q [] [] n h = tt
-along-from Q [] (v ∷ vs) n h = absurd (omega (arith, n))
-along-from Q (t ∷ ts) [] n h = absurd (omega (arith, n))
-along-from Q (t ∷ ts) (v ∷ vs) n h = (h 0 (omega arith), along-from Q ts vs (omega (arith, n)) (λ i l. h (suc i) (omega arith)))
 
 -- ---- an entry
 

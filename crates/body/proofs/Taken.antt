@@ -72,6 +72,13 @@ module _ (Q : ℕ → ℕ → Type 0) where
   along-at (t ∷ ts) (v ∷ vs) h zero l = h .0
   along-at (t ∷ ts) (v ∷ vs) h (suc i) l = along-at ts vs (h .1) i (omega arith)
 
+  pub along-from : (ts vs : List ℕ) → length vs ≡ length ts → ((i : ℕ) → i < length ts → Q (getD ts i 0) (getD vs i 0)) → Along Q ts vs
+  unfolding Along
+  along-from [] [] n h = tt
+  along-from [] (v ∷ vs) n h = absurd (omega (arith, n))
+  along-from (t ∷ ts) [] n h = absurd (omega (arith, n))
+  along-from (t ∷ ts) (v ∷ vs) n h = (h 0 (omega arith), along-from ts vs (omega (arith, n)) (λ i l. h (suc i) (omega arith)))
+
   pub along-cells : (n bits : ℕ) (ts vs : List ℕ) → length ts ≡ n → 0 < 2 ^ bits → ((t v : ℕ) → Q t v → v < 2 ^ bits) → Along Q ts vs → Cells n bits vs
   along-cells n bits ts vs e z f h = record {
     size = along-length ts vs h ∙ e;

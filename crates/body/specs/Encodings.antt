@@ -78,6 +78,14 @@ slotStart t e i =
 
 -- ---- definition
 
+-- the first part of a definition: the ID, and the name behind its length
+abbrev pub nameBytes : ℕ → Table → List ℕ
+nameBytes id t = encodeInt id ++ (encodeInt (length (nameOf t)) ++ nameOf t)
+
+-- the second: key type, key length and data types
+abbrev pub shapeBytes : Table → List ℕ
+shapeBytes t = encodeInt (t .«key_type») ++ (encodeInt (t .«key_len») ++ encodeInt (t .«data_types»))
+
 -- "a pair (data type number, period) for each rate type present, ascending"; no bytes where rate type t isn't present
 unfoldable pub periodBytes : ℕ → ℕ → ℕ → List ℕ
 periodBytes types t period = cond (present types t) (encodeInt t ++ encodeInt period) []

@@ -1,10 +1,12 @@
-// The bodies of stick table messages: fields, and the bodies of a switch and an acknowledgement, read from a lent slice.
+// The bodies of stick table messages: fields, and the bodies of a switch and an acknowledgement, read from a lent slice; definitions and
+// updates written.
 pub mod definition;
 pub mod shape;
 pub mod string_key;
 pub mod times;
 pub mod update;
 pub mod update_data;
+pub mod writing;
 
 ghost use mathlib.Core.Path.{_≡_};
 ghost use Rattle.body.specs.Fields.{integer, between, integerOf, bytes};

@@ -6,6 +6,7 @@ use lib.Dec.{eqb}
 use Rattle.handshake.specs.Bytes.{ascii, decimal}
 use Rattle.session.specs.declared.Binding.{Binding}
 use Rattle.session.specs.declared.Connection.{Connection}
+use Rattle.session.specs.declared.Sending.{Sending}
 use Rattle.session.specs.declared.Session.{Session}
 use Rattle.session.specs.Session.{isClosed, isBound, isUpdated, unfinished, established}
 use Rattle.text.specs.Text.{hexOrNone, line}
@@ -25,6 +26,16 @@ unfinishedLine s = line (ascii "unfinished") (hexOrNone (unfinished s) ∷ [])
 unfoldable pub currentLine : Connection → List ℕ
 currentLine c = line (ascii "current") (cond (eqb (c .current) 0) (ascii "-") (decimal (c .current - 1)) ∷ [])
 
+-- request 3: `defined P`, `-` where no table was defined; `sent ID`, `-` where no entry was sent since
+unfoldable pub definedLine : Sending → List ℕ
+definedLine x = line (ascii "defined") (cond (eqb (x .defined) 0) (ascii "-") (decimal (x .defined - 1)) ∷ [])
+
+unfoldable pub sentLine : Sending → List ℕ
+sentLine x = line (ascii "sent") (cond (eqb (x .sent) 1) (decimal (x .last)) (ascii "-") ∷ [])
+
+unfoldable pub sendingLines : Sending → List ℕ
+sendingLines x = definedLine x ++ sentLine x
+
 -- `bound P ID` and `previous P ID`, where the place has them
 unfoldable pub bindingLines : ℕ → Binding → List ℕ
 bindingLines place b =
@@ -38,4 +49,5 @@ bindingsLines place (b ∷ bs) = bindingLines place b ++ bindingsLines (place + 
 
 unfoldable pub recordLines : Session → List ℕ
 recordLines s =
-    phaseLine (s .connection) ++ (unfinishedLine s ++ (currentLine (s .connection) ++ bindingsLines 0 (s .connection .bindings)))
+    phaseLine (s .connection)
+    ++ (unfinishedLine s ++ (currentLine (s .connection) ++ (sendingLines (s .sending) ++ bindingsLines 0 (s .connection .bindings))))

@@ -6,4 +6,5 @@ pub mod lines;
 pub mod phase;
 pub mod present_words;
 pub mod record_lines;
+pub mod sending;
 pub mod table;

@@ -1,6 +1,7 @@
 // The lines of a session record.
 use crate::bound::bindings_lines;
 use crate::phase::phase_line;
+use crate::sending::sending_lines;
 use session::Connection;
 use session::Session;
 use session::unfinished_len;
@@ -49,6 +50,8 @@ pub fn put_record(room: &mut [u8], at: usize, session: Session) -> usize
     let a = phase_line(room, at, connection);
     let b = unfinished_line(room, a, session);
     let c = current_line(room, b, connection);
+    let sending = session.sending;
+    let d = sending_lines(room, c, sending);
     let bindings = connection.bindings;
-    bindings_lines(room, c, bindings)
+    bindings_lines(room, d, bindings)
 }

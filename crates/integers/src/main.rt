@@ -168,10 +168,10 @@ fn put(v: u64, at: usize) {
     decimal(at as u64);
     space();
     match r {
-        wire::buffer::Put::Next(next) => {
+        wire::buffer::Fit::Next(next) => {
             decimal(next as u64);
         }
-        wire::buffer::Put::NoRoom => {
+        wire::buffer::Fit::NoRoom => {
             io::write_all(1, b"full");
         }
     }

@@ -17,7 +17,7 @@ use Rattle.handshake.specs.Handshake.{nameOk, helloBytes}
 use Rattle.handshake.proofs.writing.Putting.{hello-most}
 use Rattle.session.specs.declared.Session.{Session}
 use Rattle.session.specs.declared.Answer.the-variants as answer
-use Rattle.session.specs.Session.{holding}
+use Rattle.session.specs.Session.{holding, nothingSent}
 use Rattle.session.proofs.Basics.{told}
 use Rattle.opening.specs.declared.Opened.{Opened}
 use Rattle.opening.specs.Opening.{Role, answerer, caller, openingReply, newConnection, opened, refusedOpening, refuseOpening, Opening, «open», openRoom, openedOf}
@@ -27,7 +27,7 @@ moreWith s k = record { session = s; outcome = record { taken = 0; «reply_len»
 
 -- ---- refusals
 
-pub refusal-made : (number : ℕ) (s : Session) → s ≡ holding (newConnection 0 1 number [] []) []
+pub refusal-made : (number : ℕ) (s : Session) → s ≡ holding nothingSent (newConnection 0 1 number [] []) []
     → _≡_ {A = Opened} (record { session = s; outcome = record { taken = 0; «reply_len» = 0; answer = answer.Refused number } })
     (openedOf (refuseOpening number))
 unfolding openedOf refusedOpening
@@ -83,7 +83,7 @@ module _ (role : Role) (local remote room : List ℕ) where
 -- ---- the answerer
 
 module _ (local remote room : List ℕ) (l : 101 ≤ length room) (n : true ≡ (nameOk local && nameOk remote)) where
-  pub answerer-result : (s : Session) (r : Opened) → s ≡ holding (newConnection 0 0 0 local remote) []
+  pub answerer-result : (s : Session) (r : Opened) → s ≡ holding nothingSent (newConnection 0 0 0 local remote) []
       → r ≡ moreWith s 0
       → r ≡ openedOf («open» answerer local remote (length room))
   unfolding opened
@@ -126,7 +126,7 @@ module _ (local remote room : List ℕ) (process relative : ℕ) (p : process < 
   written-length w k e f = let g = hello-written in cc
 
   pub caller-result : (w : Written) (k : ℕ) (s : Session) (r : Opened) → w ≡ writtenTo hello room → w ≡ written.Length k
-      → s ≡ holding (newConnection 1 0 0 local remote) [] → r ≡ moreWith s k
+      → s ≡ holding nothingSent (newConnection 1 0 0 local remote) [] → r ≡ moreWith s k
       → r ≡ openedOf («open» (caller process relative) local remote (length room))
   unfolding opened
   caller-result w k s r e f g h =

@@ -12,9 +12,9 @@ use Rattle.store.proofs.Kept.{pad-cells}
 use Rattle.handshake.specs.Bytes.{within}
 use Rattle.handshake.specs.Handshake.{nameOk}
 use Rattle.handshake.proofs.RoundTrip.{name-most, name-graphic}
-use Rattle.session.specs.Session.{noBinding, bindingAt, holding}
+use Rattle.session.specs.Session.{noBinding, bindingAt, holding, nothingSent}
 use Rattle.session.specs.Shape.{BindingShape, ConnectionShape, SessionShape}
-use Rattle.session.proofs.Shapes.{holding-shape}
+use Rattle.session.proofs.Shapes.{holding-shape, nothing-shape}
 use Rattle.opening.specs.Opening.{Role, answerer, caller, firstPhase, newConnection, opened, refusedOpening, Opening, «open»}
 use Rattle.opening.proofs.SoundOpening.{open-cases}
 
@@ -46,8 +46,8 @@ module _ (phase closed number : ℕ) (local remote : List ℕ) (p : phase < 2 ^ 
     binding = λ i l. subst BindingShape (sym (getD-replicate 8 i noBinding noBinding l)) none-shape;
   }
 
-  empty-holding : SessionShape (holding (newConnection phase closed number local remote) [])
-  empty-holding = holding-shape new-shape [] (omega arith) (λ i. lit< tt)
+  empty-holding : SessionShape (holding nothingSent (newConnection phase closed number local remote) [])
+  empty-holding = holding-shape new-shape nothing-shape [] (omega arith) (λ i. lit< tt)
 
 phase-small : (role : Role) → firstPhase role < 2 ^ 32
 phase-small answerer = lit< tt

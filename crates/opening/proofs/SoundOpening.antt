@@ -19,11 +19,11 @@ use Rattle.session.specs.declared.Binding.{Binding}
 use Rattle.session.specs.declared.Connection.{Connection}
 use Rattle.session.specs.declared.Session.{Session}
 use Rattle.session.specs.Shape.{SessionShape}
-use Rattle.session.specs.Session.{isClosed, localName, remoteName, isBound, isUpdated, boundTo, noBinding, bindingAt, holding}
+use Rattle.session.specs.Session.{isClosed, localName, remoteName, isBound, isUpdated, boundTo, noBinding, bindingAt, holding, nothingSent}
 use Rattle.session.proofs.Bindings.{past-last, unbound-past}
-use Rattle.session_soundness.specs.Sound.{refusesOpening, emptyBinding, emptyBuffer, isRefusedOpening, sound, soundSession}
+use Rattle.session_soundness.specs.Sound.{refusesOpening, emptyBinding, emptyBuffer, sentNothing, isRefusedOpening, sound, soundSession}
 use Rattle.session_soundness.proofs.Facts.{SoundConnection}
-use Rattle.session_soundness.proofs.Records.{sound-both, record-refused, empty-sound}
+use Rattle.session_soundness.proofs.Records.{sound-both, record-refused, empty-sound, nothing-sent-ok}
 use Rattle.opening.specs.Opening.{Role, answerer, caller, firstPhase, newConnection, opened, refusedOpening, refuseOpening, accept, Opening, «open»}
 use Rattle.opening.proofs.Making.{name-most}
 
@@ -98,12 +98,12 @@ first-phase (caller process relative) = omega arith
 pub opened-sound : (ts : List Table) (role : Role) (local remote : List ℕ) → nameOk local ≡ true → nameOk remote ≡ true
     → soundSession ts (opened role local remote) ≡ true
 unfolding opened
-opened-sound ts role local remote a b = empty-sound (new-facts (firstPhase role) local remote ts (first-phase role) a b)
+opened-sound ts role local remote a b = empty-sound (new-facts (firstPhase role) local remote ts (first-phase role) a b) nothingSent (nothing-sent-ok ts)
 
 -- ---- a refused one
 
 refused-is : (n : ℕ) → refusesOpening n ≡ true → isRefusedOpening (refusedOpening n) ≡ true
-unfolding isRefusedOpening refusedOpening holding newConnection allOf every padTo emptyBinding emptyBuffer noBinding
+unfolding isRefusedOpening refusedOpening holding nothingSent newConnection allOf every padTo emptyBinding emptyBuffer sentNothing noBinding
 refused-is n h = and-intro (refusesOpening n) true h refl
 
 -- and only its record passes that test
@@ -138,18 +138,24 @@ sized : (n : ℕ) (xs : List ℕ) → length xs ≡ n → every isZero xs ≡ tr
 sized n xs l h = all-zeros xs h ∙ ap (λ (k : ℕ). padTo k []) l
 
 pub refused-only : (s : Session) → SessionShape s → isRefusedOpening s ≡ true → s ≡ refusedOpening (s .connection .number)
-unfolding isRefusedOpening refusedOpening holding newConnection emptyBuffer
+unfolding isRefusedOpening refusedOpening holding nothingSent newConnection emptyBuffer sentNothing
 refused-only s sh h =
     let c = s .connection in
     let h₃ = all-rest _ _ (all-rest _ _ h) in
-    let b = all-first _ _ h₃ in
-    let z = all-first _ _ (all-rest _ _ h₃) in
+    let h₄ = all-rest _ _ h₃ in
+    let x = all-first _ _ h₃ in
+    let y = and-second (isZero (s .sending .defined)) _ x in
+    let b = all-first _ _ h₄ in
+    let z = all-first _ _ (all-rest _ _ h₄) in
     let z₃ = all-rest _ _ (all-rest _ _ z) in
     let n = all-first _ _ z₃ in
     let n₃ = all-rest _ _ (all-rest _ _ n) in
     let closed = eqb-true (c .closed) 1 (all-first _ _ h) in
     let len = eqb-true (s .len) 0 (and-first (isZero (s .len)) (every isZero (s .buffer)) b) in
     let buffer = sized 1032 (s .buffer) (sh .buffer .size) (and-second (isZero (s .len)) (every isZero (s .buffer)) b) in
+    let defined = eqb-true (s .sending .defined) 0 (and-first (isZero (s .sending .defined)) _ x) in
+    let sent = eqb-true (s .sending .sent) 0 (and-first (isZero (s .sending .sent)) _ y) in
+    let last = eqb-true (s .sending .last) 0 (and-second (isZero (s .sending .sent)) _ y) in
     let phase = eqb-true (c .phase) 0 (all-first _ _ z) in
     let current = eqb-true (c .current) 0 (all-first _ _ (all-rest _ _ z)) in
     let localLength = eqb-true (c .«local_len») 0 (all-first _ _ n) in
@@ -173,6 +179,7 @@ refused-only s sh h =
       };
       len = len i;
       buffer = buffer i;
+      sending = record { defined = defined i; sent = sent i; last = last i };
     }
 
 pub refused-sound : (ts : List Table) (n : ℕ) → refusesOpening n ≡ true → soundSession ts (refusedOpening n) ≡ true

@@ -10,8 +10,8 @@ use Rattle.handshake.specs.Bytes.{ascii, within}
 use Rattle.handshake.specs.Handshake.{nameOk}
 use Rattle.session.specs.declared.Answer.{Answer}
 use Rattle.session.specs.declared.Answer.the-variants as answer
-use Rattle.session.specs.Session.{noBinding, holding}
-use Rattle.session_soundness.specs.Sound.{refusesOpening, emptyBinding, emptyBuffer, isRefusedOpening, soundSession}
+use Rattle.session.specs.Session.{noBinding, holding, nothingSent}
+use Rattle.session_soundness.specs.Sound.{refusesOpening, emptyBinding, emptyBuffer, sentNothing, isRefusedOpening, soundSession}
 use Rattle.opening.specs.Opening.{answerer, newConnection, refusedOpening, «open»}
 
 -- `east` and `west`
@@ -49,5 +49,5 @@ order = refl
 
 -- the closed record of a refusal counts as sound
 refused : soundSession (emptyStore .tables) (refusedOpening 1) ∷ soundSession (emptyStore .tables) (refusedOpening 3) ∷ [] ≡ true ∷ true ∷ []
-unfolding soundSession isRefusedOpening refusedOpening newConnection holding refusesOpening allOf every padTo emptyBinding emptyBuffer noBinding
+unfolding soundSession isRefusedOpening refusedOpening newConnection holding nothingSent refusesOpening allOf every padTo emptyBinding emptyBuffer sentNothing noBinding
 refused = refl

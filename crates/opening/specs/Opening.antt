@@ -10,7 +10,7 @@ use Rattle.session.specs.declared.Session.{Session}
 use Rattle.session.specs.declared.Answer.{Answer}
 use Rattle.session.specs.declared.Answer.the-variants as answer
 use Rattle.opening.specs.declared.Opened.{Opened}
-use Rattle.session.specs.Session.{holding, awaitingHello, awaitingStatus}
+use Rattle.session.specs.Session.{holding, nothingSent, awaitingHello, awaitingStatus}
 -- a connection with these names: nothing bound, no current table
 unfoldable pub use Rattle.opening.specs.New.{newConnection}
 
@@ -27,13 +27,13 @@ abbrev pub firstPhase : Role → ℕ
 firstPhase answerer = awaitingHello
 firstPhase (caller process relative) = awaitingStatus
 
--- a new session with our name and the accepted peer's, nothing unfinished
+-- a new session with our name and the accepted peer's, nothing unfinished and nothing sent
 unfoldable pub opened : Role → List ℕ → List ℕ → Session
-opened role local remote = holding (newConnection (firstPhase role) 0 0 local remote) []
+opened role local remote = holding nothingSent (newConnection (firstPhase role) 0 0 local remote) []
 
 -- "1 and 3 in opening return a closed record with that number, all else empty or zero"
 unfoldable pub refusedOpening : ℕ → Session
-refusedOpening n = holding (newConnection awaitingHello 1 n [] []) []
+refusedOpening n = holding nothingSent (newConnection awaitingHello 1 n [] []) []
 
 -- "The caller's hello": the addressed peer is the accepted one
 abbrev pub openingReply : Role → List ℕ → List ℕ → List ℕ

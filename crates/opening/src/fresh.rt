@@ -1,4 +1,4 @@
-// The names given at opening tested, and a session record with them, nothing bound and nothing unfinished.
+// The names given at opening tested, and a session record with them, nothing bound, nothing unfinished and nothing sent.
 use handshake::PEER_NAME_MAX;
 use handshake::name_ok;
 use lists::pad;
@@ -6,13 +6,14 @@ use session::BUFFER;
 use session::Binding;
 use session::Connection;
 use session::Session;
+use session::nothing_sent;
 use store::TABLES;
 ghost use mathlib.Core.Path.{_≡_};
 ghost use mathlib.Core.Bool.{_&&_};
 ghost use mathlib.Core.List.{[]};
 ghost use Rattle.lists.specs.Lists.{padTo};
 ghost use Rattle.handshake.specs.Handshake.{nameOk, peerNameMax};
-ghost use Rattle.session.specs.Session.{holding};
+ghost use Rattle.session.specs.Session.{holding, nothingSent};
 ghost use Rattle.opening.specs.New.{newConnection};
 
 fn name_array(name: &[u8]) -> [u8; PEER_NAME_MAX]
@@ -23,9 +24,9 @@ fn name_array(name: &[u8]) -> [u8; PEER_NAME_MAX]
     bytes
 }
 
-// A session with these names, nothing bound and nothing unfinished.
+// A session with these names, nothing bound, nothing unfinished and nothing sent.
 pub fn new_session(phase: u32, closed: u32, number: u32, local: &[u8], remote: &[u8]) -> Session
-    ensures { λ r. ⌜ r ≡ holding (newConnection phase closed number (now (local .entry)) (now (remote .entry))) [] ⌝ }
+    ensures { λ r. ⌜ r ≡ holding nothingSent (newConnection phase closed number (now (local .entry)) (now (remote .entry))) [] ⌝ }
 {
     let ours = name_array(local);
     let theirs = name_array(remote);
@@ -46,10 +47,12 @@ pub fn new_session(phase: u32, closed: u32, number: u32, local: &[u8], remote: &
         remote: theirs,
         bindings: [free; TABLES],
     };
+    let sending = nothing_sent();
     Session {
         connection,
         len: 0,
         buffer: [0u8; BUFFER],
+        sending,
     }
 }
 

@@ -1,2 +1,1 @@
-mod Testing
 mod Promising

@@ -3,33 +3,15 @@ use store::ENTRIES;
 use store::Store;
 use store::TABLES;
 use store::counts::count_entry;
-use store::no_entry;
 use store::time::pass_entry;
-use store_scan::Query;
-use store_scan::scan;
-use store_soundness::table::tables_ok;
+use store_scan::store_ok;
 ghost use mathlib.Core.Path.{_≡_};
-ghost use Rattle.store.specs.Sound.{soundStore};
 ghost use Rattle.store.specs.Time.{passTime, PassPromise};
 
 // What passing time by value gives back: the number that the lent one returns, and the store that it leaves.
 pub struct Step {
     pub number: u32,
     pub store: Store,
-}
-
-// Whether a store is sound. No entry is sought.
-fn store_ok(store: &Store) -> bool
-    ensures { λ r. ⌜ r ≡ soundStore (now (store .entry)) ⌝ }
-{
-    let tables = store.tables;
-    if !tables_ok(tables) {
-        return false;
-    }
-    let entry = no_entry();
-    let query = Query { tables, entry };
-    let scanned = scan(store, query);
-    scanned.sound
 }
 
 // Every entry after so many milliseconds, and the counts of those that are left. The entry of a free place isn't copied.

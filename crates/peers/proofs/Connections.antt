@@ -1,13 +1,13 @@
 -- Several connections and one store, by induction on the steps: one reading call's laws are those of a list of one call.
-use Prim.Native.Nat.{ℕ}
+use Prim.Native.Nat.{ℕ, _^_}
 use native.Mathlib.Omega.{arith}
 use mathlib.Core.Path.{_≡_, refl, sym, ap, subst, _∙_}
 use mathlib.Core.Logic.{_⊎_, inl, inr, ⊎-elim}
 use mathlib.Core.Bool.{true, false, cond}
 use mathlib.Core.List.{List, [], _∷_, _++_, append-assoc}
 use lib.ListN.{length, take, getD}
-use lib.Dec.{eqb}
-use borrow.Author.Tests.{eqb-true, eq-eqb}
+use lib.Dec.{eqb, ltb}
+use borrow.Author.Tests.{eqb-true, eq-eqb, ltb-true}
 use Rattle.lists.specs.Lists.{front, every}
 use Rattle.lists.proofs.Cases.{by-test, and-first, and-second}
 use Rattle.store.specs.declared.Entry.{Entry}
@@ -15,17 +15,21 @@ use Rattle.store.specs.declared.Store.{Store}
 use Rattle.store.specs.Store.{noEntry, noTable, emptyStore}
 use Rattle.store.specs.Time.{Passed}
 use Rattle.store.proofs.Ruled.{empty-sound}
+use Rattle.session.specs.declared.Sending.{Sending}
 use Rattle.session.specs.declared.Session.{Session}
 use Rattle.session.specs.declared.Commit.{Commit}
 use Rattle.session.specs.declared.Answer.the-variants as answer
-use Rattle.session.specs.Session.{unfinished, isClosed}
+use Rattle.session.specs.Session.{unfinished, isClosed, withSending}
 use Rattle.session_soundness.specs.Sound.{sound}
+use Rattle.session.specs.declared.Connection.{Connection}
 use Rattle.opening.specs.Opening.{Role, «open», openedOf}
 use Rattle.opening.proofs.SoundOpening.{open-sound}
+use Rattle.sending.specs.Sending as send
+use Rattle.sending.specs.Sending.{Askable}
 use Rattle.streams.specs.Model.{bytesIn}
 use Rattle.streams.proofs.Timeline.{bytesIn-bytes}
 use Rattle.receiver.specs.Model.{isByte}
-use Rattle.receiver.specs.Promise.{Made, Shaped, callOf, outcomeOf, sessionOf}
+use Rattle.receiver.specs.Promise.{Shaped, callOf, outcomeOf, sessionOf}
 use Rattle.receiver.specs.Ledger.{Ledger, startLedger}
 use Rattle.receiver.specs.Demand3 as list
 use Rattle.receiver.specs.Demand3.{Called, AcknowledgedCalls}
@@ -46,10 +50,13 @@ use Rattle.peers.specs.Numbers.{rawOutcome, rawOpened}
 use Rattle.peers.specs.Reading.{RawMade, RawPromise}
 use Rattle.peers.specs.ExportedDemand3.{RawCalled, rawReads, rawPasses, RawChain, rawValues, rawTaken, rawLastSession, rawLastStore, RawEachCall, RawAcknowledgedCalls, RawNeverUnsound, ExportedDemand3}
 use Rattle.peers.specs.ExportedCorollaries.{rawMessage, ToldUpdate, answering, RawNoneUpdates, rawPassing, RawNeverUpdated, RawLastUpdate}
-use Rattle.peers.specs.Connections.{Records, HostStep, reads, passes, recordsAfter, storeAfter, KeptStep, Interleaved, lastRecords, sharedStore, ownCall, callsOf, SoundCall, OwnStep, ownAfter, EachOwnCall, EveryConnection, EveryOpenedConnection, Asked, toRead, toPass, askedBy, askable, InOrder, InAnyOrder, sharedEntry, UpdatesNot, NoStepUpdates, timesOf, NeverTouched, LastStep, BytesOfSharedEntries}
+use Rattle.peers.specs.Sending.{RawSendMade, RawSendPromise}
+use Rattle.peers.specs.Connections.{Records, HostStep, reads, sends, passes, recordsAfter, storeAfter, KeptStep, Interleaved, lastRecords, sharedStore, ownCall, callsOf, SoundCall, SoundSend, OwnStep, ownAfter, lastOwn, EachOwnCall, EveryConnection, EveryOpenedConnection, Asked, toRead, toSend, toPass, askedBy, askable, InOrder, InAnyOrder, sharedEntry, UpdatesNot, NoStepUpdates, timesOf, NeverTouched, LastStep, BytesOfSharedEntries}
 use Rattle.peers.proofs.AsMade.{madeBy, made-promised, made-same}
 use Rattle.peers.proofs.ExportedDemand3.{acknowledged-call, exported-demand-3}
 use Rattle.peers.proofs.ExportedCorollaries.{raw-other-records-sound, raw-bytes-of-every-entry}
+use Rattle.peers.proofs.ExportedSending.{read-sound}
+use Rattle.peers.proofs.SendingCalls.{sent-number, keeps-sound, sent-leaves, leaves-with, leaves-connection, leaves-unfinished, sent-shaped, sendOf, send-promised}
 
 -- ---- one call
 
@@ -65,10 +72,6 @@ module _ (s : Session) (t : Store) (m : RawMade) (p : RawPromise s t m) where
   unfolding RawEachCall RawNeverUnsound
   sound-call f = record { sound = f; model = demanded f .each .0; never-4 = demanded f .never-4 .0 }
 
-  sound-after : sound s t ≡ true → sound (m .session) (m .store) ≡ true
-  unfolding rawLastSession rawLastStore
-  sound-after f = demanded f .sound
-
   -- of the unfinished bytes and those taken, some are done with and the others are unfinished afterwards
   carries-on : (done : List ℕ) × (rawMessage s m ≡ done ++ unfinished (m .session))
   unfolding rawOutcome
@@ -76,12 +79,17 @@ module _ (s : Session) (t : Store) (m : RawMade) (p : RawPromise s t m) where
       subst (λ (x : RawMade). (done : List ℕ) × (rawMessage s x ≡ done ++ unfinished (x .session))) (sym (made-same s t m p))
       (carries s t (madeBy s t m) (made-promised s t m p))
 
+sound-send : (s : Session) (t : Store) (m : RawSendMade) → RawSendPromise s t m → sound s t ≡ true → SoundSend s t m
+sound-send s t m p f =
+    record { sound = f; session = sent-leaves s t m p; after = keeps-sound s t m p f; never-4 = λ e. sent-number s t m p f e }
+
 -- ---- one connection among the others
 
 -- the connection's record after a step is what the step left of it
 own-after : (records : Records) (i : ℕ) (p : HostStep) → recordsAfter records p i ≡ ownAfter i (records i) p
 unfolding recordsAfter ownAfter
 own-after records i (reads k m) = refl
+own-after records i (sends k m) = refl
 own-after records i (passes p) = refl
 
 own-sound : (records : Records) (t : Store) (i : ℕ) (p : HostStep) → KeptStep records t p → sound (records i) t ≡ true
@@ -89,8 +97,12 @@ own-sound : (records : Records) (t : Store) (i : ℕ) (p : HostStep) → KeptSte
 unfolding KeptStep recordsAfter storeAfter
 own-sound records t i (reads k m) p f =
     by-test (eqb k i)
-    (λ h. rw h (sound-after (records k) t m p (subst (λ (j : ℕ). sound (records j) t ≡ true) (sym (eqb-true k i h)) f)))
+    (λ h. rw h (read-sound (records k) t m p (subst (λ (j : ℕ). sound (records j) t ≡ true) (sym (eqb-true k i h)) f)))
     (λ h. rw h (raw-other-records-sound (records k) t m (records i) p f))
+own-sound records t i (sends k m) p f =
+    by-test (eqb k i)
+    (λ h. rw h (keeps-sound (records k) t m p (subst (λ (j : ℕ). sound (records j) t ≡ true) (sym (eqb-true k i h)) f)))
+    (λ h. rw h f)
 own-sound records t i (passes q) p f = passed-keeps-sound t q p (records i) f
 
 own-step : (records : Records) (t : Store) (i : ℕ) (p : HostStep) → KeptStep records t p → sound (records i) t ≡ true → OwnStep i (records i) t p
@@ -99,19 +111,40 @@ own-step records t i (reads k m) p f =
     by-test (eqb k i)
     (λ h. rw h (sound-call (records i) t m (subst (λ (j : ℕ). RawPromise (records j) t m) (eqb-true k i h) p) f))
     (λ h. rw h tt)
+own-step records t i (sends k m) p f =
+    by-test (eqb k i)
+    (λ h. rw h (sound-send (records i) t m (subst (λ (j : ℕ). RawSendPromise (records j) t m) (eqb-true k i h) p) f))
+    (λ h. rw h tt)
 own-step records t i (passes q) p f =
     record { model = passed-model t q p (records i) f; after = passed-keeps-sound t q p (records i) f; sound = f }
 
-own-last : (s : Session) (i : ℕ) (p : HostStep) (calls : List RawCalled) → rawLastSession (ownAfter i s p) calls ≡ rawLastSession s (ownCall i p calls)
-unfolding ownAfter ownCall rawLastSession
-own-last s i (reads k m) calls = by-test (eqb k i) (λ h. rw h) (λ h. rw h)
-own-last s i (passes p) calls = refl
+-- records that are equal but for `sending`, after the same calls
+alike-last : (x : Sending) (s z : Session) (calls : List RawCalled) → withSending s x ≡ withSending z x
+    → withSending (rawLastSession s calls) x ≡ withSending (rawLastSession z calls) x
+unfolding rawLastSession
+alike-last x s z [] e = e
+alike-last x s z (rawReads m ∷ calls) e = refl
+alike-last x s z (rawPasses p ∷ calls) e = alike-last x s z calls e
+
+own-last : (x : Sending) (records : Records) (t : Store) (i : ℕ) (p : HostStep) (calls : List RawCalled) → KeptStep records t p
+    → withSending (rawLastSession (ownAfter i (records i) p) calls) x ≡ withSending (rawLastSession (records i) (ownCall i p calls)) x
+unfolding KeptStep ownAfter ownCall rawLastSession
+own-last x records t i (reads k m) calls p = by-test (eqb k i) (λ h. rw h) (λ h. rw h)
+own-last x records t i (sends k m) calls p =
+    by-test (eqb k i)
+    (λ h.
+    rw h
+    (alike-last x (m .session) (records i) calls
+    (leaves-with (records i) t m (subst (λ (j : ℕ). RawSendPromise (records j) t m) (eqb-true k i h) p) x)))
+    (λ h. rw h)
+own-last x records t i (passes q) calls p = refl
 
 -- ---- the acknowledgements of one connection
 
 -- the connection's calls, with the answer enum
 ownMade : ℕ → Records → Store → HostStep → List Called → List Called
 ownMade i records t (reads k m) calls = cond (eqb k i) (list.reads (madeBy (records i) t m) ∷ calls) calls
+ownMade i records t (sends k m) calls = calls
 ownMade i records t (passes p) calls = list.passes p ∷ calls
 
 ownMades : ℕ → Records → Store → List HostStep → List Called
@@ -134,6 +167,13 @@ right-pass : (s : Session) (p : Passed) (calls : List Called) → RightAlong s c
 unfolding AcknowledgedCalls
 right-pass s p calls next l k u o = next l k u o
 
+-- what a sending call leaves is right along the same calls
+right-send : (s : Session) (t : Store) (m : RawSendMade) (calls : List Called) → RawSendPromise s t m → RightAlong (m .session) calls → RightAlong s calls
+right-send s t m calls p next l k u o =
+    let c = leaves-connection s t m p in
+    next l (subst (λ (x : Connection). Follows x l) (sym c) k) u
+    (λ e. o (ap isClosed (sym c) ∙ e) ∙ sym (leaves-unfinished s t m p))
+
 right-step : (records : Records) (t : Store) (i : ℕ) (p : HostStep) (calls : List Called) → KeptStep records t p → sound (records i) t ≡ true
     → RightAlong (recordsAfter records p i) calls → RightAlong (records i) (ownMade i records t p calls)
 unfolding KeptStep recordsAfter ownMade
@@ -143,6 +183,12 @@ right-step records t i (reads k m) calls p f next =
     let next′ : RightAlong (m .session) calls = rw h at next in
     rw h (right-call (records i) t m calls (subst (λ (j : ℕ). RawPromise (records j) t m) (eqb-true k i h) p) f next′))
     (λ h. let next′ : RightAlong (records i) calls = rw h at next in rw h next′)
+right-step records t i (sends k m) calls p f next =
+    by-test (eqb k i)
+    (λ h.
+    let next′ : RightAlong (m .session) calls = rw h at next in
+    right-send (records i) t m calls (subst (λ (j : ℕ). RawSendPromise (records j) t m) (eqb-true k i h) p) next′)
+    (λ h. let next′ : RightAlong (records i) calls = rw h at next in next′)
 right-step records t i (passes q) calls p f next = right-pass (records i) q calls next
 
 right-along : (records : Records) (t : Store) (i : ℕ) (steps : List HostStep) → Interleaved records t steps → sound (records i) t ≡ true
@@ -174,6 +220,7 @@ numbers-step records t i (reads k m) calls others p next =
     by-test (eqb k i)
     (λ h. rw h (numbers-call (records i) t m calls others (subst (λ (j : ℕ). RawPromise (records j) t m) (eqb-true k i h) p) next))
     (λ h. rw h next)
+numbers-step records t i (sends k m) calls others p next = next
 numbers-step records t i (passes q) calls others p next = numbers-pass q calls others next
 
 numbers-along : (records : Records) (t : Store) (i : ℕ) (steps : List HostStep) → Interleaved records t steps
@@ -203,12 +250,20 @@ own-calls records t i (p ∷ steps) c f = (
       (own-calls (recordsAfter records p) (storeAfter t p) i steps (c .1) (own-sound records t i p (c .0) f)),
 )
 
-own-record : (records : Records) (i : ℕ) (steps : List HostStep) → lastRecords records steps i ≡ rawLastSession (records i) (callsOf i steps)
-unfolding lastRecords callsOf rawLastSession
+own-record : (records : Records) (i : ℕ) (steps : List HostStep) → lastRecords records steps i ≡ lastOwn i (records i) steps
+unfolding lastRecords lastOwn
 own-record records i [] = refl
 own-record records i (p ∷ steps) =
-    own-record (recordsAfter records p) i steps
-    ∙ (ap (λ (x : Session). rawLastSession x (callsOf i steps)) (own-after records i p) ∙ own-last (records i) i p (callsOf i steps))
+    own-record (recordsAfter records p) i steps ∙ ap (λ (x : Session). lastOwn i x steps) (own-after records i p)
+
+read-last : (x : Sending) (records : Records) (t : Store) (i : ℕ) (steps : List HostStep) → Interleaved records t steps
+    → withSending (lastRecords records steps i) x ≡ withSending (rawLastSession (records i) (callsOf i steps)) x
+unfolding Interleaved lastRecords callsOf rawLastSession
+read-last x records t i [] c = refl
+read-last x records t i (p ∷ steps) c =
+    read-last x (recordsAfter records p) (storeAfter t p) i steps (c .1)
+    ∙ (ap (λ (z : Session). withSending (rawLastSession z (callsOf i steps)) x) (own-after records i p)
+    ∙ own-last x records t i p (callsOf i steps) (c .0))
 
 sound-last : (records : Records) (t : Store) (i : ℕ) (steps : List HostStep) → Interleaved records t steps → sound (records i) t ≡ true
     → sound (lastRecords records steps i) (sharedStore t steps) ≡ true
@@ -220,6 +275,7 @@ pub every-connection : EveryConnection
 every-connection records t steps i c f = record {
   each = own-calls records t i steps c f;
   own = own-record records i steps;
+  read-last = λ x. read-last x records t i steps c;
   acknowledged = acknowledged-along records t i steps c f;
   sound = sound-last records t i steps c f;
 }
@@ -264,6 +320,10 @@ all-shaped records t (reads k m) p sh f i =
     by-test (eqb k i)
     (λ h. rw h n)
     (λ h. rw h (record { session = sh i .session; store = n .store }))
+all-shaped records t (sends k m) p sh f i =
+    by-test (eqb k i)
+    (λ h. rw h (record { session = sent-shaped (records k) t m p; store = p .store-shape }))
+    (λ h. rw h (sh i))
 all-shaped records t (passes q) p sh f i = passed-shaped t q p (records i) (f i) (sh i .session)
 
 in-order : (records : Records) (t : Store) (a : Asked) (asked : List Asked) (p : HostStep) → KeptStep records t p → askedBy p ≡ a
@@ -278,12 +338,26 @@ in-order records t a asked p k e rest = record {
 -- what was asked, done
 doing : Records → Store → Asked → HostStep
 doing records t (toRead k piece room) = reads k (made (records k) t piece room)
+doing records t (toSend k a room) = sends k (sendOf (records k) t room a)
 doing records t (toPass e) = passes (spent t e)
+
+-- numbers of their types
+asked-fits : (k : ℕ) (a : send.Asked) (room : List ℕ) → askable (toSend k a room) ≡ true → Askable a
+unfolding askable Askable
+asked-fits k (send.definition place id) room q = (
+  ltb-true place (2 ^ 64) (and-first (ltb place (2 ^ 64)) (ltb id (2 ^ 32)) q),
+  ltb-true id (2 ^ 32) (and-second (ltb place (2 ^ 64)) (ltb id (2 ^ 32)) q),
+)
+asked-fits k (send.entry place id) room q = (
+  ltb-true place (2 ^ 64) (and-first (ltb place (2 ^ 64)) (ltb id (2 ^ 32)) q),
+  ltb-true id (2 ^ 32) (and-second (ltb place (2 ^ 64)) (ltb id (2 ^ 32)) q),
+)
 
 done : (records : Records) (t : Store) (a : Asked) → ((i : ℕ) → Shaped (records i) t) → askable a ≡ true
     → KeptStep records t (doing records t a) × (askedBy (doing records t a) ≡ a)
 unfolding doing KeptStep askedBy askable
 done records t (toRead k piece room) sh q = (promised (records k) t piece room (sh k) q, refl)
+done records t (toSend k a room) sh q = (send-promised (records k) t room a (sh k .session) (sh k .store) (asked-fits k a room q), refl)
 done records t (toPass e) sh q = (pass-promised t e (sh 0 .store) q, refl)
 
 pub in-any-order : InAnyOrder
@@ -378,6 +452,13 @@ stood-later records t (reads k m) i calls earlier rest p e =
           ∙ (ap (λ (l : List ℕ). c .0 ++ l) e′ ∙ sym (append-assoc (c .0) earlier rest))))),
     ))
     (λ h. let e′ : unfinished (records i) ++ bytesIn (rawTaken calls) ≡ earlier ++ rest = rw h at e in rw h (earlier, e′))
+stood-later records t (sends k m) i calls earlier rest p e =
+    by-test (eqb k i)
+    (λ h.
+    let u = leaves-unfinished (records i) t m (subst (λ (j : ℕ). RawSendPromise (records j) t m) (eqb-true k i h) p) in
+    let e′ : unfinished (m .session) ++ bytesIn (rawTaken calls) ≡ earlier ++ rest = rw h at e in
+    (earlier, ap (λ (l : List ℕ). l ++ bytesIn (rawTaken calls)) (sym u) ∙ e′))
+    (λ h. let e′ : unfinished (records i) ++ bytesIn (rawTaken calls) ≡ earlier ++ rest = rw h at e in (earlier, e′))
 stood-later records t (passes q) i calls earlier rest p e =
     (earlier, ap (λ (l : List ℕ). unfinished (records i) ++ l) (passed-in q calls) ∙ e)
 
@@ -441,6 +522,7 @@ first records t (reads k m) steps place p n =
       stood = own-bytes (records k) k m (callsOf k steps);
     }))
     (one-call (records k) t m p place)
+first records t (sends k m) steps place p n = inl (record { none = (tt, n .none); since = n .since })
 first records t (passes q) steps place p n =
     inl (record { none = (tt, n .none); since = passed-since t q place (timesOf steps) (sharedEntry (q .store) steps place) p (n .since) })
 

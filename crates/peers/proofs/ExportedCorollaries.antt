@@ -39,6 +39,7 @@ use Rattle.receiver.proofs.Sharing.{other-records-sound, refused-byte}
 use Rattle.reading.specs.Counts.{committedCounts, answeredCounts}
 use Rattle.reading.proofs.counts.Answered.{other-counts}
 use Rattle.reading.proofs.counts.Promised.{read-counts}
+use Rattle.receiver.proofs.Sending.{sending-stays}
 use Rattle.message_bytes.specs.MessageBytes.{UpdateMessage, DefinitionMessage, tableAt, entryAt}
 use Rattle.message_bytes.specs.LastUpdates.{lastEntry, NoneUpdates, passing, Since, NeverUpdated, LastUpdate}
 use Rattle.message_bytes.proofs.LastUpdates.{bytes-of-every-entry}
@@ -47,7 +48,7 @@ use Rattle.peers.specs.declared.numbers.RawOpened.{RawOpened}
 use Rattle.peers.specs.Numbers.{rawOutcome, rawOpened}
 use Rattle.peers.specs.Reading.{RawMade, RawPromise}
 use Rattle.peers.specs.ExportedDemand3.{RawCalled, rawReads, rawPasses, RawChain, rawValues, rawReply, rawTaken, rawLastSession, RawResult, rawCameTo, RawOffersTo}
-use Rattle.peers.specs.ExportedCorollaries.{RawSameByAnyDivision, RawAnyDivision, RawOfferedReachable, RawBytesOffered, RawBytesByReading, RawBytesRecord, RawReadingTakes, rawMessage, ToldUpdate, RawEntryHeld, RawHeldWhenAcknowledged, answering, rawLastEntry, RawNoneUpdates, rawPassing, RawNeverUpdated, RawLastUpdate, RawBytesOfEveryEntry, ToldTable, RawDefinition, RawBytesOfDefinition, RawNothingChanged, RawOnlyClosed, RawRefusedCall, RawRefusedUntouched, RawUntouched, RawOthersUntouched, rawCounts, RawCountsKept, RawRefusedOpening, RawRefusedOpeningUntouched, RawOtherRecordsSound, PassingCalls}
+use Rattle.peers.specs.ExportedCorollaries.{RawSameByAnyDivision, RawAnyDivision, RawOfferedReachable, RawBytesOffered, RawBytesByReading, RawBytesRecord, RawReadingTakes, rawMessage, ToldUpdate, RawEntryHeld, RawHeldWhenAcknowledged, answering, rawLastEntry, RawNoneUpdates, rawPassing, RawNeverUpdated, RawLastUpdate, RawBytesOfEveryEntry, ToldTable, RawDefinition, RawBytesOfDefinition, RawNothingChanged, RawOnlyClosed, RawRefusedCall, RawRefusedUntouched, RawUntouched, RawOthersUntouched, rawCounts, RawCountsKept, RawRefusedOpening, RawRefusedOpeningUntouched, RawOtherRecordsSound, PassingCalls, RawSendingStays}
 use Rattle.peers.proofs.AsMade.{rawOf, rawCalled, madeBy, made-promised, made-same, madesBy, mades-chain, mades-same, values-told, refused-is}
 use Rattle.peers.proofs.ExportedDemand3.{same-reply, same-taken, same-session, same-store, offered, offering, exported-demand-3}
 
@@ -122,7 +123,7 @@ module _ (s : Session) (t : Store) (m : Made) where
   only-closed : (n : ℕ) → answerNumber (m .outcome .answer) ≡ n → OnlyClosed s t m n → RawOnlyClosed s t (rawOf m)
   unfolding rawOutcome
   only-closed n e h = record {
-    session = h .session ∙ ap (λ (k : ℕ). holding (closedWith (s .connection) k) []) (sym e);
+    session = h .session ∙ ap (λ (k : ℕ). holding (s .sending) (closedWith (s .connection) k) []) (sym e);
     store = h .store;
     reply = same-reply m ∙ h .reply ∙ ap refusalReply (sym e);
     room = h .room;
@@ -432,3 +433,9 @@ raw-bytes-of-every-entry s t calls place c =
 
 pub passing-calls : PassingCalls
 passing-calls = record { refused = refused-pass-untouched; records = passed-records-sound; twice = passed-twice }
+
+-- ---- the sending state
+
+pub raw-sending-stays : RawSendingStays
+raw-sending-stays s t m p =
+    by-made (λ (x : RawMade). x .session .sending ≡ s .sending) s t m p (sending-stays s t (madeBy s t m) (made-promised s t m p))

@@ -7,6 +7,7 @@ use lib.ListN.{length}
 use lib.Dec.{eqb}
 use Rattle.lists.proofs.Cases.{cond-false}
 use Rattle.store.specs.Store.{emptyStore}
+use Rattle.session.specs.declared.Sending.{Sending}
 use Rattle.session.specs.declared.Session.{Session}
 use Rattle.session.specs.declared.Answer.{Answer}
 use Rattle.session.specs.Answers.{answerNumber, answerValues}
@@ -16,9 +17,9 @@ use Rattle.streams.specs.Model.{bytes}
 use Rattle.streams.specs.Calls.{Result}
 use Rattle.receiver.specs.Model.{State, heldBy}
 use Rattle.worked_cases.specs.Cases.{hello, east, west}
-use Rattle.worked_cases.specs.Listing.{listing, listed, listedResult, listedState}
+use Rattle.worked_cases.specs.Listing.{listing, listed, listedResult, listedConnection, listedState}
 use Rattle.worked_cases.proofs.ListingHolds.{listing-holds}
-use Rattle.worked_cases.proofs.ListingByCalls.{opening-accepted, listing-cut}
+use Rattle.worked_cases.proofs.ListingByCalls.{opening-accepted, start-sending, listing-cut}
 use Rattle.peers.specs.declared.numbers.RawOpened.{RawOpened}
 use Rattle.peers.specs.Numbers.{rawOpened}
 use Rattle.peers.specs.ExportedDemand3.{RawCalled, RawChain, RawResult, rawCameTo, inNumbers, RawOffersTo}
@@ -58,7 +59,8 @@ module _ (calls : List RawCalled) (d : Started start calls) (c : RawChain start 
     session =
         raw-bytes-record start emptyStore listing calls (d .sound) c o
         ∙ (cond-false (eqb (length listing) 0 || isClosed (start .connection)) _ _ open-start
-        ∙ ap (λ (r : Result State Answer). holding (r .state .connection) (r .state .unfinished)) listing-holds);
+        ∙ (ap (λ (r : Result State Answer). holding (start .sending) (r .state .connection) (r .state .unfinished)) listing-holds
+        ∙ ap (λ (x : Sending). holding x listedConnection []) start-sending));
     store = ap (λ (r : RawResult). r .state .store) came;
   }
 

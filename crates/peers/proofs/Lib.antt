@@ -4,4 +4,6 @@ pub mod ExportedDemand3
 pub mod ExportedCorollaries
 pub mod FromTheStart
 pub mod ExportedListing
+pub mod SendingCalls
+pub mod ExportedSending
 pub mod Connections

@@ -100,7 +100,7 @@ RawBytesRecord =
     (s : Session) (t : Store) (stream : List ℕ) (calls : List RawCalled) → sound s t ≡ true → RawChain s t calls → RawOffersTo s (bytes stream) calls
     → rawLastSession s calls
     ≡ (let end = modelRan s t (bytes stream) .state in
-    cond (eqb (length stream) 0 || isClosed (s .connection)) s (holding (end .connection) (end .unfinished)))
+    cond (eqb (length stream) 0 || isClosed (s .connection)) s (holding (s .sending) (end .connection) (end .unfinished)))
 
 -- the bytes that reading calls took are their timeline
 abbrev pub RawReadingTakes : Type 0
@@ -238,7 +238,7 @@ pub record RawNothingChanged (s : Session) (t : Store) (m : RawMade) : Type 0 wh
 
 -- "From 10 up the record is closed with that number and its unfinished bytes are dropped."
 pub record RawOnlyClosed (s : Session) (t : Store) (m : RawMade) : Type 0 where
-  pub session : m .session ≡ holding (closedWith (s .connection) (m .outcome .number)) []
+  pub session : m .session ≡ holding (s .sending) (closedWith (s .connection) (m .outcome .number)) []
   pub store : m .store ≡ t
   pub reply : rawReply m ≡ refusalReply (m .outcome .number)
   pub room : drop (m .outcome .«reply_len») (m .final) ≡ drop (m .outcome .«reply_len») (m .room)
@@ -304,3 +304,9 @@ pub record PassingCalls : Type 0 where
   pub records : PassedRecordsSound
   -- "Passing a and then b leaves what passing a + b leaves, where the sum fits 32 bits."
   pub twice : PassedTwice
+
+-- ---- request 3: the sending state
+
+-- "A reading call, also one that closes, leaves both new fields as they were.", on any record and store
+abbrev pub RawSendingStays : Type 0
+RawSendingStays = (s : Session) (t : Store) (m : RawMade) → RawPromise s t m → m .session .sending ≡ s .sending

@@ -6,7 +6,7 @@ use mathlib.Core.List.{List, [], _∷_, flatten}
 use lib.ListN.{length}
 use Rattle.store.specs.Store.{emptyStore}
 use Rattle.session.specs.declared.Session.{Session}
-use Rattle.session.specs.Session.{holding}
+use Rattle.session.specs.Session.{holding, nothingSent}
 use Rattle.opening.specs.Opening.{answerer, openingRoom, «open», openedOf}
 use Rattle.streams.specs.Model.{bytes}
 use Rattle.streams.specs.Calls.{pieces}
@@ -36,7 +36,7 @@ pub record RawListingCame (s : Session) (calls : List RawCalled) : Type 0 where
   pub responses : rawResponses calls ≡ listedNumbers
   -- a call that ends no message writes nothing
   pub replies : rawReplies calls ≡ listedResult .replies
-  pub session : rawLastSession s calls ≡ holding listedConnection []
+  pub session : rawLastSession s calls ≡ holding nothingSent listedConnection []
   pub store : rawLastStore emptyStore calls ≡ listedStore
 
 -- in any division, with any rooms

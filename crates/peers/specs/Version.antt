@@ -3,11 +3,11 @@ use Prim.Native.Nat.{ℕ, _+_, _*_}
 
 -- of the calls: their names, parameters, numbers and meaning
 unfoldable pub version : ℕ
-version = 6
+version = 7
 
 -- of the structs: their fields, order and sizes
 unfoldable pub layout : ℕ
-layout = 4
+layout = 5
 
 -- one number for both
 unfoldable pub archiveVersion : ℕ

@@ -1,13 +1,17 @@
-// The library for hosts in C and Rust: opening, reading, passing time and an empty store, each defined on every input.
+// The library for hosts in C and Rust: opening, reading, sending, passing time and an empty store, each defined on every input.
 // An enum can't cross the border to C, so an answer goes as its number and values.
 pub mod numbers;
 
 use crate::numbers::RawOpened;
 use crate::numbers::RawOutcome;
+use crate::numbers::RawSent;
 use crate::numbers::raw_opened;
 use crate::numbers::raw_outcome;
+use crate::numbers::raw_sent;
 use passing::pass_lent;
 use reading::read_lent;
+use sending::Ask;
+use sending::send_lent;
 use session::Session;
 use store::Store;
 ghost use mathlib.Core.Path.{_≡_};
@@ -17,12 +21,14 @@ ghost use Rattle.store.specs.Time.{PassPromise};
 ghost use Rattle.opening.specs.Opening.{answerer, caller, «open», openRoom, openedOf};
 ghost use Rattle.peers.specs.Numbers.{rawOpened};
 ghost use Rattle.peers.specs.Reading.{RawPromise};
+ghost use Rattle.sending.specs.Sending.{definition, entry};
+ghost use Rattle.peers.specs.Sending.{RawSendPromise};
 ghost use Rattle.peers.specs.Version.{archiveVersion};
 
 // The version of the calls, and that of the structs' layout.
-const VERSION: u32 = 6;
+const VERSION: u32 = 7;
 
-const LAYOUT: u32 = 4;
+const LAYOUT: u32 = 5;
 
 // What this archive was built as, so that a header or a wrapper of another version is noticed.
 #[no_mangle]
@@ -83,4 +89,42 @@ pub extern "C" fn peers_pass_time(store: &mut Store, milliseconds: u32) -> u32
     ensures { λ r. ⌜ PassPromise (now (store .entry)) (record { milliseconds = milliseconds; number = r; store = now (store .exit) }) ⌝ }
 {
     pass_lent(store, milliseconds)
+}
+
+// Writes the definition of the table at a place, with this ID, to the front of the room: 0 and its length, or the refusal's number and 0.
+#[no_mangle]
+pub extern "C" fn peers_send_definition(
+    session: &mut Session,
+    store: &Store,
+    place: usize,
+    id: u32,
+    room: &mut [u8],
+) -> RawSent
+    ensures { λ r. ⌜ RawSendPromise (now (session .entry)) (now (store .entry)) (record { asked = definition place id; room = now (room .entry); outcome = r; session = now (session .exit); final = now (room .exit) }) ⌝ }
+{
+    let ask = Ask {
+        entry: false,
+        id,
+        place,
+    };
+    raw_sent(send_lent(session, store, ask, room))
+}
+
+// Writes the entry at a place, with this update ID, to the front of the room: 0 and its length, or the refusal's number and 0.
+#[no_mangle]
+pub extern "C" fn peers_send_entry(
+    session: &mut Session,
+    store: &Store,
+    place: usize,
+    id: u32,
+    room: &mut [u8],
+) -> RawSent
+    ensures { λ r. ⌜ RawSendPromise (now (session .entry)) (now (store .entry)) (record { asked = entry place id; room = now (room .entry); outcome = r; session = now (session .exit); final = now (room .exit) }) ⌝ }
+{
+    let ask = Ask {
+        entry: true,
+        id,
+        place,
+    };
+    raw_sent(send_lent(session, store, ask, room))
 }

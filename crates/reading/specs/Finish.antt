@@ -41,8 +41,8 @@ endOf s x y room =
 -- what is returned
 unfoldable pub endStep : Session → Taken → End → StepChange
 endStep s x (staying a) = stays s a
-endStep s x waiting = waits (s .connection) (takenBytes x) (x .count)
-endStep s x (answering e) = gives (x .count) e
+endStep s x waiting = waits (s .sending) (s .connection) (takenBytes x) (x .count)
+endStep s x (answering e) = gives (s .sending) (x .count) e
 
 -- the final room
 unfoldable pub endRoom : List ℕ → End → List ℕ

@@ -7,6 +7,7 @@ use lib.ListN.{length, take}
 use Rattle.wire.specs.Room.{putRoom}
 use Rattle.store.specs.declared.Store.{Store}
 use Rattle.session.specs.declared.Connection.{Connection}
+use Rattle.session.specs.declared.Sending.{Sending}
 use Rattle.session.specs.declared.Session.{Session}
 use Rattle.session.specs.declared.Answer.{Answer}
 use Rattle.session.specs.declared.Answer.the-variants as answer
@@ -25,27 +26,27 @@ use Rattle.reading.specs.declared.results.StepChange.{StepChange}
 unfoldable pub stays : Session → Answer → StepChange
 stays s a = record { outcome = record { taken = 0; «reply_len» = 0; answer = a }; session = s; change = noChange }
 
--- the whole piece is taken, and more is wanted
-unfoldable pub waits : Connection → List ℕ → ℕ → StepChange
-waits c u count = record { outcome = record { taken = count; «reply_len» = 0; answer = answer.More }; session = holding c u; change = noChange }
+-- the whole piece is taken, and more is wanted; what sending knows stays, here and below
+unfoldable pub waits : Sending → Connection → List ℕ → ℕ → StepChange
+waits k c u count = record { outcome = record { taken = count; «reply_len» = 0; answer = answer.More }; session = holding k c u; change = noChange }
 
 -- the step on a store
 unfoldable pub applied : Store → StepChange → Step
 applied t r = record { outcome = r .outcome; session = r .session; store = changed t (r .change) }
 
 -- what a message did is answered, after so many bytes
-unfoldable pub gives : ℕ → EffectStruct → StepChange
-gives count x = record {
+unfoldable pub gives : Sending → ℕ → EffectStruct → StepChange
+gives k count x = record {
   outcome = record { taken = count; «reply_len» = x .reply .len; answer = x .answer };
-  session = holding (x .connection) [];
+  session = holding k (x .connection) [];
   change = x .change;
 }
 
 -- the same on a store
-unfoldable pub answers : ℕ → Store → Effect → Step
-answers count t e = record {
+unfoldable pub answers : Sending → ℕ → Store → Effect → Step
+answers k count t e = record {
   outcome = record { taken = count; «reply_len» = length (e .reply); answer = e .answer };
-  session = holding (e .connection) [];
+  session = holding k (e .connection) [];
   store = changed t (e .change);
 }
 

@@ -14,6 +14,7 @@ use reassembly::Taken;
 use session::Answer;
 use session::Connection;
 use session::Outcome;
+use session::Sending;
 use session::Session;
 use store::ENTRIES;
 use store::Entry;
@@ -44,12 +45,12 @@ pub struct Finished {
 }
 
 // More is wanted: the bytes that were taken stay unfinished.
-fn wait_taken(connection: Connection, taken: Taken) -> StepChange
-    ensures { λ r. ⌜ r ≡ waits connection (takenBytes taken) (taken .count) ⌝ }
+fn wait_taken(sending: Sending, connection: Connection, taken: Taken) -> StepChange
+    ensures { λ r. ⌜ r ≡ waits sending connection (takenBytes taken) (taken .count) ⌝ }
 {
     let bytes = taken.bytes;
     let n = shorter(taken.len, MESSAGE_MAX);
-    wait(connection, &bytes[..n], taken.count)
+    wait(sending, connection, &bytes[..n], taken.count)
 }
 
 // A reading call's end, by what its start and the scan of the entries said. The refusals are answered in the order 1, 4, 2.
@@ -79,12 +80,13 @@ fn finish_change(
     if count == 0 {
         return stay(session, Answer::More);
     }
+    let sending = session.sending;
     if taken.ended {
         let place = scanned.place;
         let asked = started.asked;
-        return give(finish_at(connection, place, asked), count, reply);
+        return give(sending, finish_at(connection, place, asked), count, reply);
     }
-    wait_taken(connection, taken)
+    wait_taken(sending, connection, taken)
 }
 
 // Whether a change is of the wanted kind, and its place is one of so many.

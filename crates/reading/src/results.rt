@@ -8,6 +8,7 @@ use session::BUFFER;
 use session::Connection;
 use session::Outcome;
 use session::Reply;
+use session::Sending;
 use session::Session;
 use store::Store;
 ghost use mathlib.Core.Path.{_≡_};
@@ -28,9 +29,9 @@ pub struct StepChange {
     pub change: Change,
 }
 
-// A record with unfinished bytes, zeros behind them.
-pub fn record_with(connection: Connection, bytes: &[u8]) -> Session
-    ensures { λ r. ⌜ r ≡ holding connection (now (bytes .entry)) ⌝ }
+// A record with what sending knows, a connection, and unfinished bytes, zeros behind them.
+pub fn record_with(sending: Sending, connection: Connection, bytes: &[u8]) -> Session
+    ensures { λ r. ⌜ r ≡ holding sending connection (now (bytes .entry)) ⌝ }
 {
     let mut buffer = [0u8; BUFFER];
     pad(&mut buffer, bytes);
@@ -39,6 +40,7 @@ pub fn record_with(connection: Connection, bytes: &[u8]) -> Session
         connection,
         len,
         buffer,
+        sending,
     }
 }
 
@@ -60,10 +62,10 @@ pub fn stay(session: Session, answer: Answer) -> StepChange
 }
 
 // The whole piece is taken, and more is wanted.
-pub fn wait(connection: Connection, bytes: &[u8], count: usize) -> StepChange
-    ensures { λ r. ⌜ r ≡ waits connection (now (bytes .entry)) count ⌝ }
+pub fn wait(sending: Sending, connection: Connection, bytes: &[u8], count: usize) -> StepChange
+    ensures { λ r. ⌜ r ≡ waits sending connection (now (bytes .entry)) count ⌝ }
 {
-    let session = record_with(connection, bytes);
+    let session = record_with(sending, connection, bytes);
     let answer = Answer::More;
     let outcome = Outcome {
         taken: count,
@@ -91,14 +93,14 @@ fn put_reply(room: &mut [u8], reply: Reply)
 }
 
 // What a message did is answered; its reply stands at the front of the room.
-pub fn give(effect: Effect, count: usize, reply: &mut [u8]) -> StepChange
-    ensures result { λ r. ⌜ r ≡ gives count effect ⌝ }
+pub fn give(sending: Sending, effect: Effect, count: usize, reply: &mut [u8]) -> StepChange
+    ensures result { λ r. ⌜ r ≡ gives sending count effect ⌝ }
     ensures content { λ _. ⌜ now (reply .exit) ≡ replied (effect .reply) (now (reply .entry)) ⌝ }
 {
     let written = effect.reply;
     put_reply(reply, written);
     let next = effect.connection;
-    let session = record_with(next, b"");
+    let session = record_with(sending, next, b"");
     let given = effect.answer;
     let outcome = Outcome {
         taken: count,

@@ -92,7 +92,7 @@ module _ (s : Session) (t : Store) (m : Made) (p : ReadPromise s t m) where
   closed n a e j q = record {
     session =
         record-holds s t m p (j .some)
-        ∙ (ap (λ (k : State). holding (k .connection) (k .unfinished)) (j .state) ∙ ap (λ (x : Effect). holding (x .connection) []) q);
+        ∙ (ap (λ (k : State). holding (s .sending) (k .connection) (k .unfinished)) (j .state) ∙ ap (λ (x : Effect). holding (s .sending) (x .connection) []) q);
     store = p .store ∙ (ap (λ (k : State). k .store) (j .state) ∙ ap (λ (x : Effect). changed t (x .change)) q);
     reply = reply-is s t m p ∙ (j .reply ∙ ap (λ (x : Effect). x .reply) q);
     room = room-past s t m p;

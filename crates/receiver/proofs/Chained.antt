@@ -14,6 +14,7 @@ use Rattle.lists.specs.Lists.{every}
 use Rattle.lists.proofs.Cases.{by-test, cond-true, cond-false}
 use Rattle.store.specs.declared.Store.{Store}
 use Rattle.store.specs.Time.{Passed}
+use Rattle.session.specs.declared.Sending.{Sending}
 use Rattle.session.specs.declared.Session.{Session}
 use Rattle.session.specs.Answers.{refusalOf}
 use Rattle.session.proofs.answers.Refusals.{of-refusal, no-number, same-number}
@@ -34,7 +35,7 @@ use Rattle.receiver.specs.Good.{Good}
 use Rattle.receiver.specs.Promise.{Made, Shaped, ReadPromise}
 use Rattle.receiver.specs.Demand3.{Called, reads, passes, Chain, takenBy, lastSession, lastStore, responsesOf, repliesOf, cameTo, callMade, OffersTo}
 use Rattle.receiver.proofs.Held.{sound-held, state-fits}
-use Rattle.receiver.proofs.OneRead.{modelCall, made-taken, made-state, made-sound, made-good, made-is, kept, taken-session}
+use Rattle.receiver.proofs.OneRead.{modelCall, made-taken, made-state, made-sound, made-good, made-is, kept, taken-session, sending-kept}
 use Rattle.receiver.proofs.OnePass.{passed-keeps-sound, passed-state, passed-good}
 
 -- the calls as steps of the model
@@ -239,17 +240,17 @@ module _ (law : Lawful peers Good) where
       none-taken s (p .store) cs (h .2) (passed-keeps-sound t p (h .1) s f) (passed-good t p (h .1) s f g) (sym (passed-length p cs) ∙ e)
 
   -- a record that holds its state with zeros behind the unfinished bytes
-  abbrev Held : Session → Type 0
-  Held s = s ≡ holding (s .connection) (unfinished s)
+  abbrev Held : Sending → Session → Type 0
+  Held x s = s ≡ holding x (s .connection) (unfinished s)
 
-  holding-held : (s : Session) (k : State) → soundState k ≡ true → s ≡ holding (k .connection) (k .unfinished) → Held s
-  holding-held s k f e =
-      let u = ap unfinished e ∙ unfinished-held (k .connection) (k .unfinished) (state-fits k f) in
+  holding-held : (x : Sending) (s : Session) (k : State) → soundState k ≡ true → s ≡ holding x (k .connection) (k .unfinished) → Held x s
+  holding-held x s k f e =
+      let u = ap unfinished e ∙ unfinished-held x (k .connection) (k .unfinished) (state-fits k f) in
       let c : s .connection ≡ k .connection = ap (λ (x : Session). x .connection) e ∙ unfold holding in refl in
       e ∙ rw (u, c) refl
 
   some-taken : (s : Session) (t : Store) (cs : List Called) → Chain s t cs → sound s t ≡ true → Good (heldBy s t)
-      → (length (bytesIn (takenBy cs)) ≡ 0 → ⊥) → Held (lastSession s cs)
+      → (length (bytesIn (takenBy cs)) ≡ 0 → ⊥) → Held (s .sending) (lastSession s cs)
   unfolding Chain lastSession
   some-taken s t [] h f g e = absurd (e (unfold takenBy bytesIn in refl))
   some-taken s t (reads m ∷ cs) h f g e =
@@ -262,13 +263,15 @@ module _ (law : Lawful peers Good) where
       let k : eqb (modelCall s t m .taken) 0 ≡ false = ne-eqb (modelCall s t m .taken) 0 (λ w. e (let v = made-taken s t m (h .0) f in omega arith)) in
       let q = call-good peers law (heldBy s t) (m .piece) (length (m .room)) g (h .0 .bytes) in
       rw (none-taken (m .session) (m .store) cs (h .1) f′ g′ y)
-      (holding-held (m .session) (modelCall s t m .state) (q .sound) (taken-session s t m (h .0) f k)))
-      (λ z. some-taken (m .session) (m .store) cs (h .1) f′ g′ (eqb-false (length (bytesIn (takenBy cs))) 0 z))
+      (holding-held (s .sending) (m .session) (modelCall s t m .state) (q .sound) (taken-session s t m (h .0) f k)))
+      (λ z.
+      subst (λ (x : Sending). Held x (lastSession (m .session) cs)) (sending-kept s t m (h .0))
+      (some-taken (m .session) (m .store) cs (h .1) f′ g′ (eqb-false (length (bytesIn (takenBy cs))) 0 z)))
   some-taken s t (passes p ∷ cs) h f g e =
       some-taken s (p .store) cs (h .2) (passed-keeps-sound t p (h .1) s f) (passed-good t p (h .1) s f g) (λ z. e (passed-length p cs ∙ z))
 
   pub ends-at : (s : Session) (t : Store) (cs : List Called) → Chain s t cs → sound s t ≡ true → Good (heldBy s t)
-      → lastSession s cs ≡ cond (eqb (length (bytesIn (takenBy cs))) 0) s (holding (lastSession s cs .connection) (unfinished (lastSession s cs)))
+      → lastSession s cs ≡ cond (eqb (length (bytesIn (takenBy cs))) 0) s (holding (s .sending) (lastSession s cs .connection) (unfinished (lastSession s cs)))
   ends-at s t cs h f g =
       by-test (eqb (length (bytesIn (takenBy cs))) 0)
       (λ z.

@@ -151,21 +151,21 @@ module _ (law : Lawful peers Good)
     end-state = ap (λ (r : Result State Answer). r .state) taken
 
     record-is : lastSession s cs
-        ≡ (let end = modelRan s t (takenBy cs) .state in cond (eqb (length (bytesIn (takenBy cs))) 0) s (holding (end .connection) (end .unfinished)))
+        ≡ (let end = modelRan s t (takenBy cs) .state in cond (eqb (length (bytesIn (takenBy cs))) 0) s (holding (s .sending) (end .connection) (end .unfinished)))
     record-is =
         ends-at law s t cs h f g
         ∙ (unfold heldBy in
-        ap (λ (k : State). cond (eqb (length (bytesIn (takenBy cs))) 0) s (holding (k .connection) (k .unfinished))) end-state)
+        ap (λ (k : State). cond (eqb (length (bytesIn (takenBy cs))) 0) s (holding (s .sending) (k .connection) (k .unfinished))) end-state)
 
     whole-record : (stream : List (Item Event)) → OffersTo s stream cs
         → lastSession s cs
         ≡ (let end = modelRan s t stream .state in
-        cond (eqb (length (bytesIn stream)) 0 || isClosed (s .connection)) s (holding (end .connection) (end .unfinished)))
+        cond (eqb (length (bytesIn stream)) 0 || isClosed (s .connection)) s (holding (s .sending) (end .connection) (end .unfinished)))
     whole-record stream o =
         record-is
-        ∙ (ap (λ (k : State). cond (eqb (length (bytesIn (takenBy cs))) 0) s (holding (k .connection) (k .unfinished)))
+        ∙ (ap (λ (k : State). cond (eqb (length (bytesIn (takenBy cs))) 0) s (holding (s .sending) (k .connection) (k .unfinished)))
         (ap (λ (r : Result State Answer). r .state) (sym taken ∙ whole stream o))
-        ∙ ap (λ (b : Bool). cond b s (holding (modelRan s t stream .state .connection) (modelRan s t stream .state .unfinished))) (none-test s t stream cs h o))
+        ∙ ap (λ (b : Bool). cond b s (holding (s .sending) (modelRan s t stream .state .connection) (modelRan s t stream .state .unfinished))) (none-test s t stream cs h o))
 
     bytes-taken : every isByte (bytesIn (takenBy cs)) ≡ true
     bytes-taken = rw (← takes law s t cs h f g) (taken-bytes peers law (heldBy s t) (stepsOf cs) (steps-bytes s t cs h))
@@ -194,7 +194,7 @@ module _ (law : Lawful peers Good)
   none-record : (s : Session) (t : Store) (stream : List (Item Event)) → OffersTo s stream []
       → s
       ≡ (let end = modelRan s t stream .state in
-      cond (eqb (length (bytesIn stream)) 0 || isClosed (s .connection)) s (holding (end .connection) (end .unfinished)))
+      cond (eqb (length (bytesIn stream)) 0 || isClosed (s .connection)) s (holding (s .sending) (end .connection) (end .unfinished)))
   none-record s t stream o =
       sym (cond-true (eqb (length (bytesIn stream)) 0 || isClosed (s .connection)) _ _ (sym (none-test s t stream [] (unfold Chain in tt) o) ∙ unfold takenBy bytesIn in refl))
 

@@ -101,7 +101,7 @@ pub bytes-record : BytesRecord
 bytes-record s t stream calls f c o =
     demand-3 s t calls f c .whole-record (bytes stream) o
     ∙ (let end = modelRan s t (bytes stream) .state in
-    ap (λ (xs : List ℕ). cond (eqb (length xs) 0 || isClosed (s .connection)) s (holding (end .connection) (end .unfinished))) (only-bytes Event stream))
+    ap (λ (xs : List ℕ). cond (eqb (length xs) 0 || isClosed (s .connection)) s (holding (s .sending) (end .connection) (end .unfinished))) (only-bytes Event stream))
 
 pub reading-takes : ReadingTakes
 unfolding takenBy flatten

@@ -20,3 +20,4 @@ pub mod Demand3
 pub mod Corollaries
 pub mod ReadBack
 pub mod Sharing
+pub mod Sending

@@ -81,7 +81,7 @@ module _ (law : Lawful peers Good) where
       record {
         session =
             rw (taken-session s t m p f e)
-            (holding-shape (n .connection) (k .unfinished) (state-fits k (n .sound)) (n .unfinished));
+            (holding-shape (n .connection) (p .shaped .session .sending) (k .unfinished) (state-fits k (n .sound)) (n .unfinished));
         store = rw (made-store s t m p f) (n .store);
       })
 

@@ -12,7 +12,7 @@ use Rattle.store.specs.Sound.{soundStore}
 use Rattle.store.specs.Time.{passTime, Passed, PassPromise}
 use Rattle.store.proofs.Passing.{pass-shape, pass-tables, pass-sound, store-passes, store-stays, number-sound, number-unsound}
 use Rattle.session.specs.declared.Session.{Session}
-use Rattle.session.specs.Session.{isClosed, holding}
+use Rattle.session.specs.Session.{isClosed, holding, nothingSent}
 use Rattle.session.specs.Shape.{SessionShape}
 use Rattle.session_soundness.specs.Sound.{sound, soundSession}
 use Rattle.session_soundness.proofs.Records.{sound-store, sound-session, sound-both}
@@ -24,7 +24,7 @@ use Rattle.receiver.specs.Corollaries.{PassedRecordsSound, PassedOrRefus
 
 -- ---- the model's step
 
-sound-passes : (e : ℕ) (s : Session) (t : Store) → sound s t ≡ true → sound s (passTime e t) ≡ true
+pub sound-passes : (e : ℕ) (s : Session) (t : Store) → sound s t ≡ true → sound s (passTime e t) ≡ true
 sound-passes e s t f =
     sound-both s (passTime e t) (pass-sound e t (sound-store s t f))
     (subst (λ (ts : List Table). soundSession ts s ≡ true) (sym (pass-tables e t)) (sound-session s t f))
@@ -36,7 +36,7 @@ pass-closed e s = refl
 pub pass-good : (e : ℕ) (s : State) → Good s → Good (pass e s)
 unfolding pass soundState
 pass-good e s g = record {
-  sound = sound-passes e (holding (s .connection) (s .unfinished)) (s .store) (g .sound);
+  sound = sound-passes e (holding nothingSent (s .connection) (s .unfinished)) (s .store) (g .sound);
   connection = g .connection;
   unfinished = g .unfinished;
   store = pass-shape e (s .store) (g .store);

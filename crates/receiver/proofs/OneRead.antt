@@ -1,9 +1,9 @@
 -- One reading call that kept its promise is the model's call on the state that record and store hold.
 use Prim.Native.Nat.{ℕ, _≤_}
 use native.Mathlib.Omega.{arith}
-use mathlib.Core.Path.{_≡_, sym, ap, _∙_}
+use mathlib.Core.Path.{_≡_, refl, sym, ap, _∙_}
 use mathlib.Core.List.{List, [], _∷_}
-use mathlib.Core.Bool.{true, false}
+use mathlib.Core.Bool.{Bool, true, false, cond}
 use lib.ListN.{length, drop}
 use lib.Dec.{eqb, ltb}
 use borrow.Author.Tests.{eqb-true, eq-eqb, ltb-true, ltb-false}
@@ -25,7 +25,8 @@ use Rattle.receiver.specs.Model.{State, heldBy, soundState, feed, peers}
 use Rattle.receiver.specs.Good.{Good}
 use Rattle.receiver.specs.Promise.{Made, ReadPromise, callOf, outcomeOf, sessionOf}
 use Rattle.receiver.specs.Demand3.{replyIn, callMade}
-use Rattle.receiver.proofs.Held.{held-holding, state-fits, sound-held}
+use Rattle.receiver.proofs.Held.{held-holding, state-fits, sound-held, sound-sending}
+use Rattle.receiver.proofs.Lawfully.{GoodWith, lawful-with}
 
 -- the model's call on what record and store hold
 abbrev pub modelCall : Session → Store → Made → Call State Answer
@@ -124,7 +125,7 @@ module _ (s : Session) (t : Store) (m : Made) (promise : ReadPromise s t m) (f :
 
   -- bytes taken: the record holds the model's state
   pub taken-session : eqb (modelCall s t m .taken) 0 ≡ false
-      → m .session ≡ holding (modelCall s t m .state .connection) (modelCall s t m .state .unfinished)
+      → m .session ≡ holding (s .sending) (modelCall s t m .state .connection) (modelCall s t m .state .unfinished)
   unfolding sessionOf
   taken-session e = made-session ∙ cond-false (eqb (modelCall s t m .taken) 0) _ _ e
 
@@ -139,17 +140,37 @@ module _ (s : Session) (t : Store) (m : Made) (promise : ReadPromise s t m) (f :
         let z = eqb-true (modelCall s t m .taken) 0 e in
         let k = kept (made-taken ∙ z) in
         rw (k .0, k .1) (sym (call-zero (heldBy s t) (m .piece) (length (m .room)) z)))
-        (λ e. rw (taken-session e, made-store) (held-holding _ _ _ (state-fits (modelCall s t m .state) (next-good .sound))))
+        (λ e. rw (taken-session e, made-store) (held-holding _ _ _ _ (state-fits (modelCall s t m .state) (next-good .sound))))
+
+    -- with what the record knows of sending
+    next-with : GoodWith (s .sending) (modelCall s t m .state)
+    unfolding heldBy
+    next-with =
+        call-good peers (lawful-with (s .sending)) (heldBy s t) (m .piece) (length (m .room))
+        (record { good = g; known = sound-sending s t (promise .shaped .session .buffer .size) f })
+        (promise .bytes)
 
     pub made-sound : sound (m .session) (m .store) ≡ true
-    unfolding soundState
     made-sound =
         by-test (eqb (modelCall s t m .taken) 0)
         (λ e. let k = kept (made-taken ∙ eqb-true (modelCall s t m .taken) 0 e) in rw (k .0, k .1) f)
-        (λ e. rw (taken-session e, made-store) (next-good .sound))
+        (λ e. rw (taken-session e, made-store) (next-with .known))
 
     pub made-good : Good (heldBy (m .session) (m .store))
     made-good = rw made-state next-good
 
     pub made-is : callMade m ≡ modelCall s t m
     made-is = λ i. record { taken = made-taken i; answer = made-answer i; reply = made-reply i; state = made-state i }
+
+-- ---- what sending knows
+
+either-keeps : (b : Bool) (s z : Session) → z .sending ≡ s .sending → cond b s z .sending ≡ s .sending
+either-keeps true s z e = refl
+either-keeps false s z e = e
+
+session-keeps : (s : Session) (c : Call State Answer) → sessionOf s c .sending ≡ s .sending
+unfolding sessionOf holding
+session-keeps s c = either-keeps (eqb (c .taken) 0) s (holding (s .sending) (c .state .connection) (c .state .unfinished)) refl
+
+pub sending-kept : (s : Session) (t : Store) (m : Made) → ReadPromise s t m → m .session .sending ≡ s .sending
+sending-kept s t m p = ap (λ (z : Session). z .sending) (p .session) ∙ session-keeps s (callOf s t (m .piece) (length (m .room)))

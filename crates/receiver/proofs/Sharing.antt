@@ -8,7 +8,7 @@ use mathlib.Core.List.{List}
 use lib.ListN.{length}
 use lib.Dec.{leb}
 use borrow.Author.Tests.{leb-true}
-use Rattle.lists.proofs.Cases.{by-test, and-first, and-second, and-intro, or-true, or-false}
+use Rattle.lists.proofs.Cases.{by-test, and-second, or-false}
 use Rattle.store.specs.declared.Table.{Table}
 use Rattle.store.specs.declared.Store.{Store}
 use Rattle.store.proofs.Facts.{facts-sound}
@@ -16,10 +16,10 @@ use Rattle.session.specs.declared.Session.{Session}
 use Rattle.session.specs.declared.Answer.{Answer}
 use Rattle.session.specs.declared.Answer.the-variants as answer
 use Rattle.session.proofs.answers.OneToOne.{RefusedByte, answers-one-to-one}
-use Rattle.session_soundness.specs.Sound.{sound, soundSession, soundConnection, unfinishedOk, isRefusedOpening}
+use Rattle.session_soundness.specs.Sound.{sound, soundSession, isRefusedOpening}
 use Rattle.session_soundness.proofs.Facts.{heldAt, connection-facts, facts-connection}
-use Rattle.session_soundness.proofs.Keeping.{held-keeps}
-use Rattle.session_soundness.proofs.Records.{sound-session, sound-both}
+use Rattle.session_soundness.proofs.Keeping.{held-keeps, sending-keeps}
+use Rattle.session_soundness.proofs.Records.{sound-session, sound-both, record-refused, record-sound, session-parts}
 use Rattle.message.specs.Changes.{changed}
 use Rattle.streams.specs.Calls.{Call, stay}
 use Rattle.receiver.specs.Model.{State, heldBy}
@@ -32,16 +32,13 @@ use Rattle.receiver.proofs.SettledLaws.{settled-grows}
 -- ---- a record with more held tables
 
 session-grows : (ts us : List Table) (s : Session) → ((i : ℕ) → heldAt ts i ≡ true → heldAt us i ≡ true) → soundSession ts s ≡ true → soundSession us s ≡ true
-unfolding soundSession
 session-grows ts us s g h =
     by-test (isRefusedOpening s)
-    (λ a. or-true (isRefusedOpening s) _ a)
+    (λ a. record-refused us s a)
     (λ a.
-    let b = sym (or-false (isRefusedOpening s) _ a) ∙ h in
-    let k = and-first (soundConnection ts (s .connection)) (unfinishedOk s) b in
-    or-false (isRefusedOpening s) _ a
-    ∙ and-intro (soundConnection us (s .connection)) (unfinishedOk s) (facts-connection (held-keeps g (connection-facts ts (s .connection) k)))
-    (and-second (soundConnection ts (s .connection)) (unfinishedOk s) b))
+    let k = session-parts ts s a h in
+    record-sound us s (facts-connection (held-keeps g (connection-facts ts (s .connection) (k .connection)))) (k .unfinished)
+    (sending-keeps ts us (s .sending) g (k .sending)))
 
 stays-store : (s : Session) (t : Store) (a : Answer) → stay (heldBy s t) a .state .store ≡ t
 unfolding heldBy

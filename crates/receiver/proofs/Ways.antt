@@ -158,6 +158,6 @@ module _ (s : Session) (t : Store) (m : Made) (p : ReadPromise s t m) where
   unfolding sessionOf
   record-stays z = p .session ∙ cond-true (eqb (call .taken) 0) _ _ (eq-eqb (call .taken) 0 z)
 
-  pub record-holds : (call .taken ≡ 0 → ⊥) → m .session ≡ holding (call .state .connection) (call .state .unfinished)
+  pub record-holds : (call .taken ≡ 0 → ⊥) → m .session ≡ holding (s .sending) (call .state .connection) (call .state .unfinished)
   unfolding sessionOf
   record-holds n = p .session ∙ cond-false (eqb (call .taken) 0) _ _ (ne-eqb (call .taken) 0 n)

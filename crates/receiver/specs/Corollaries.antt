@@ -16,9 +16,11 @@ use Rattle.frame.specs.Frame.{acknowledgementType, judgeFrame}
 use Rattle.session.specs.declared.Session.{Session}
 use Rattle.session.specs.declared.Connection.{Connection}
 use Rattle.session.specs.declared.Commit.{Commit}
+use Rattle.session.specs.declared.Sending.{Sending}
+use Rattle.session.specs.declared.Answer.{Answer}
 use Rattle.session.specs.declared.Answer.the-variants as answer
 use Rattle.session.specs.Answers.{refusalOf, refusalReply, answerNumber, answerValues}
-use Rattle.session.specs.Session.{unfinished, bindingAt, isClosed, holding, closedWith}
+use Rattle.session.specs.Session.{unfinished, bindingAt, isClosed, holding, closedWith, withSending}
 use Rattle.session_soundness.specs.Sound.{sound}
 use Rattle.opening.specs.Opening.{Role, refusedOpening, «open», openRoom}
 use Rattle.body.specs.declared.update.Form.{Form}
@@ -26,9 +28,9 @@ use Rattle.body.specs.Fields.{Read, got, spanIn}
 use Rattle.body.specs.Bodies.{Update, updateFields, formOf, acknowledgementFields}
 use Rattle.message.specs.Effects.{acknowledge, followingId}
 use Rattle.streams.specs.Model.{Item, bytes}
-use Rattle.streams.specs.Calls.{pieces, reachable}
-use Rattle.receiver.specs.Model.{Event, heldBy, replyRoom, isByte, peers}
-use Rattle.receiver.specs.Promise.{Made, Shaped, ReadPromise}
+use Rattle.streams.specs.Calls.{Call, pieces, reachable}
+use Rattle.receiver.specs.Model.{State, Event, heldBy, replyRoom, isByte, peers}
+use Rattle.receiver.specs.Promise.{Made, Shaped, ReadPromise, callOf, sessionOf}
 use Rattle.receiver.specs.Ledger.{isAcknowledgement}
 use Rattle.receiver.specs.Demand3.{Called, reads, Chain, OffersTo, Offering, takenBy, modelRan, cameTo, lastSession, lastStore, repliesOf, replyIn}
 
@@ -70,7 +72,7 @@ BytesRecord =
     (s : Session) (t : Store) (stream : List ℕ) (calls : List Called) → sound s t ≡ true → Chain s t calls → OffersTo s (bytes stream) calls
     → lastSession s calls
     ≡ (let end = modelRan s t (bytes stream) .state in
-    cond (eqb (length stream) 0 || isClosed (s .connection)) s (holding (end .connection) (end .unfinished)))
+    cond (eqb (length stream) 0 || isClosed (s .connection)) s (holding (s .sending) (end .connection) (end .unfinished)))
 
 -- the bytes that reading calls took are their timeline
 abbrev pub ReadingTakes : Type 0
@@ -145,7 +147,7 @@ pub record NothingChanged (s : Session) (t : Store) (m : Made) : Type 0 where
 
 -- "From 10 up the record is closed with that number and its unfinished bytes are dropped."
 pub record OnlyClosed (s : Session) (t : Store) (m : Made) (n : ℕ) : Type 0 where
-  pub session : m .session ≡ holding (closedWith (s .connection) n) []
+  pub session : m .session ≡ holding (s .sending) (closedWith (s .connection) n) []
   pub store : m .store ≡ t
   pub reply : replyIn m ≡ refusalReply n
   pub room : drop (m .outcome .«reply_len») (m .final) ≡ drop (m .outcome .«reply_len») (m .room)
@@ -210,3 +212,20 @@ pub record PassedOrRefused (t : Store) (p : Passed) : Type 0 where
 
 abbrev pub RefusedPassUntouched : Type 0
 RefusedPassUntouched = (t : Store) (p : Passed) → PassPromise t p → PassedOrRefused t p
+
+-- ---- request 3: reading and what sending knows
+
+-- "A reading call, also one that closes, leaves both new fields as they were.", on any record and store
+abbrev pub SendingStays : Type 0
+SendingStays = (s : Session) (t : Store) (m : Made) → ReadPromise s t m → m .session .sending ≡ s .sending
+
+-- "What reading uses of the record is one part of it": all but `sending`. With another one, where the record is sound too, a call comes to the same,
+-- and the record that it leaves differs in nothing else
+pub record SameRead (s : Session) (t : Store) (x : Sending) (piece : List ℕ) (room : ℕ) : Type 0 where
+  pub call : callOf (withSending s x) t piece room ≡ callOf s t piece room
+  pub session : (c : Call State Answer) → sessionOf (withSending s x) c ≡ withSending (sessionOf s c) x
+
+abbrev pub ReadsAlike : Type 0
+ReadsAlike =
+    (s : Session) (t : Store) (x : Sending) (piece : List ℕ) (room : ℕ) → sound s t ≡ true → sound (withSending s x) t ≡ true
+    → SameRead s t x piece room

@@ -9,14 +9,14 @@ use Rattle.session.specs.declared.Connection.{Connection}
 use Rattle.session.specs.declared.Session.{Session}
 use Rattle.session.specs.declared.Answer.{Answer}
 use Rattle.session.specs.declared.Answer.the-variants as answer
-use Rattle.session.specs.Session.{unfinished, isClosed, holding}
+use Rattle.session.specs.Session.{unfinished, isClosed, holding, nothingSent}
 use Rattle.session_soundness.specs.Sound.{sound}
 use Rattle.message.specs.Changes.{changed}
 use Rattle.message.specs.Effects.{Effect}
 use Rattle.reassembly.specs.Judge.{Judged, waiting, settled, judge}
 use Rattle.streams.specs.Model.{Fed, quiet, answered, Receiver}
 
--- what a record and a store hold: the unfinished bytes as a list, the rest as it is
+-- what a record and a store hold, as far as reading uses it: the unfinished bytes as a list, the rest as it is; what sending knows is left out
 pub record State : Type 0 where
   pub connection : Connection
   pub unfinished : List ℕ
@@ -84,9 +84,9 @@ ends (answer.RefusedAt n offset) = endsRefused n
 abbrev pub replyRoom : ℕ
 replyRoom = 12
 
--- a record that holds the state is sound with its store
+-- a record that holds the state, with nothing sent, is sound with its store
 unfoldable pub soundState : State → Bool
-soundState s = sound (holding (s .connection) (s .unfinished)) (s .store)
+soundState s = sound (holding nothingSent (s .connection) (s .unfinished)) (s .store)
 
 abbrev pub isByte : ℕ → Bool
 isByte b = ltb b 256

@@ -34,9 +34,9 @@ unfoldable pub outcomeOf : Call State Answer → Outcome
 outcomeOf c = record { taken = c .taken; «reply_len» = length (c .reply); answer = c .answer }
 
 -- "one session record per connection and lends it to each call, which leaves the new state there": the very record that came where nothing was taken, else the record that holds
--- the new state, with zeros behind its unfinished bytes
+-- the new state, with zeros behind its unfinished bytes; what sending knows stays
 unfoldable pub sessionOf : Session → Call State Answer → Session
-sessionOf s c = cond (eqb (c .taken) 0) s (holding (c .state .connection) (c .state .unfinished))
+sessionOf s c = cond (eqb (c .taken) 0) s (holding (s .sending) (c .state .connection) (c .state .unfinished))
 
 -- one call: its piece, its reply room, what it returned, and record, store and room afterwards
 pub record Made : Type 0 where

@@ -4,8 +4,12 @@
 //   C ROOM LENGTH PIECE    a reading call on a piece of LENGTH bytes (two, big-endian), with so much room for the reply, filled with AA:
 //                          `took N`, the answer's line (`more` for more wanted), the reply, `spoiled` if a byte past the reply changed
 //   T MILLISECONDS         so many milliseconds (four bytes, big-endian) pass on the store: `passed 0`, or `passed 4` where it isn't sound
+//   P PLACE ID ROOM        the definition of the table at a place (a byte) with an ID (four bytes, big-endian) is sent, with so much room
+//                          (two bytes, big-endian), filled with AA: `sent` and the message, or `refused N`; `spoiled` if a byte past the
+//                          message, or any byte in a refused call, changed
+//   E PLACE ID ROOM        the entry at a place with an update ID is sent: the same
 //   D                      a dump of record and store
-// Anything else ends the script, and so do N, C, T and D before the first O and the end of the input: `end`. That line is left out where a
+// Anything else ends the script, and so do all but O before the first O and the end of the input: `end`. That line is left out where a
 // read or a write failed.
 use dump::counts::put_counts;
 use dump::lines::put_entry;
@@ -20,6 +24,9 @@ use opening::open_caller;
 use passing::pass;
 use reading::Step;
 use reading::read;
+use sending::Ask;
+use sending::Sent;
+use sending::send;
 use session::Outcome;
 use session::Session;
 use store::ENTRIES;
@@ -34,6 +41,7 @@ use text::output::flush;
 use text::output::room_at;
 use text::put;
 use text::spaced::put_decimal_word;
+use text::spaced::put_hex_word;
 use wire::fixed::FourBytes;
 use wire::fixed::read_number;
 
@@ -242,6 +250,94 @@ fn pass_time(run: Run, out: &mut [u8]) -> Run {
     }
 }
 
+// ---- sending
+
+// Fills a room with AA.
+fn mark(room: &mut [u8]) {
+    let mut i: usize = 0;
+    while i < room.len() {
+        room[i] = 0xaa;
+        i += 1;
+    }
+}
+
+// A sending call with the first n bytes of a room.
+fn send_with(run: Run, ask: Ask, room: &mut [u8], n: usize) -> sending::Step {
+    if room.len() < n {
+        return send(run.session, run.store, ask, room);
+    }
+    send(run.session, run.store, ask, &mut room[..n])
+}
+
+// The message of so many bytes.
+fn put_message(out: &mut [u8], at: usize, room: &[u8], len: usize) -> usize {
+    let a = put(out, at, b"sent");
+    if room.len() < len {
+        return a;
+    }
+    put_hex_word(out, a, &room[..len])
+}
+
+fn put_sent(out: &mut [u8], at: usize, sent: Sent, room: &[u8]) -> usize {
+    match sent {
+        Sent::Sent(len) => put_message(out, at, room, len),
+        Sent::Refused(number) => {
+            let a = put(out, at, b"refused");
+            put_decimal_word(out, a, number as u64)
+        }
+    }
+}
+
+// How many bytes of the room the call may have changed.
+fn sent_len(sent: Sent) -> usize {
+    match sent {
+        Sent::Sent(len) => len,
+        Sent::Refused(number) => 0,
+    }
+}
+
+// The lines of a sending call.
+fn put_sending(out: &mut [u8], at: usize, sent: Sent, room: &[u8]) -> usize {
+    let a = put_sent(out, at, sent, room);
+    let b = put(out, a, b"\n");
+    if untouched(room, sent_len(sent)) {
+        return b;
+    }
+    put(out, b, b"spoiled\n")
+}
+
+// A run after a sending call, with its lines.
+fn sent_with(run: Run, ask: Ask, n: usize, out: &mut [u8]) -> Run {
+    let mut room = io::large_buffer();
+    mark(&mut room);
+    let step = send_with(run, ask, &mut room, n);
+    let session = step.session;
+    let sent = step.sent;
+    let page = room_at(out, run.page, MARGIN);
+    let next = put_sending(out, page.next, sent, &room);
+    let mut r = run;
+    r.session = session;
+    r.page = turned(page, next);
+    r
+}
+
+fn send_message(run: Run, entry: bool, out: &mut [u8]) -> Run {
+    let mut head = [0u8; 7];
+    let read = text::input::fill(&mut head);
+    let Filled::Whole = read else {
+        return stopped(run, read);
+    };
+    let FourBytes::Value { value, next } = read_number(&head, 1) else {
+        return ended(run);
+    };
+    let ask = Ask {
+        entry,
+        id: value,
+        place: big_endian(0, head[0]),
+    };
+    sent_with(run, ask, big_endian(head[5], head[6]), out)
+}
+
 // ---- a dump
 
 fn dump_table(page: Page, place: usize, t: Table, out: &mut [u8]) -> Page {
@@ -316,6 +412,8 @@ fn later_command(run: Run, command: u8, out: &mut [u8]) -> Run {
         b'N' => open_session(run, run.store, out),
         b'C' => call_on_piece(run, out),
         b'T' => pass_time(run, out),
+        b'P' => send_message(run, false, out),
+        b'E' => send_message(run, true, out),
         b'D' => show(run, out),
         _ => ended(run),
     }

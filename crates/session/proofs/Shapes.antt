@@ -9,8 +9,10 @@ use Rattle.lists.proofs.Cases.{lt-or-le}
 use Rattle.store.proofs.Kept.{pad-cells}
 use Rattle.session.specs.declared.Binding.{Binding}
 use Rattle.session.specs.declared.Connection.{Connection}
-use Rattle.session.specs.Session.{noBinding, bindingAt, holding, closedWith, establish, withState, withTables, currentOf, makeCurrent, unbind, bindTo, bind, commitTo, committed}
-use Rattle.session.specs.Shape.{BindingShape, ConnectionShape, SessionShape}
+use Rattle.session.specs.declared.Sending.{Sending}
+use Rattle.session.specs.declared.Session.{Session}
+use Rattle.session.specs.Session.{noBinding, bindingAt, holding, closedWith, establish, withState, withTables, nothingSent, withSending, currentOf, makeCurrent, unbind, bindTo, bind, commitTo, committed}
+use Rattle.session.specs.Shape.{BindingShape, ConnectionShape, SendingShape, SessionShape}
 use Rattle.session.proofs.CurrentTable.{current-within, current-past-last}
 use Rattle.session.proofs.Bindings.{bind-length, bind-cases, commit-length, commit-cases}
 
@@ -105,11 +107,22 @@ module _ {c : Connection} (h : ConnectionShape c) where
 
   -- ---- a session with given unfinished bytes
 
-  pub holding-shape : (u : List ℕ) → length u ≤ 1027 → ((i : ℕ) → getD u i 0 < 2 ^ 8) → SessionShape (holding c u)
+  pub holding-shape : {x : Sending} → SendingShape x → (u : List ℕ) → length u ≤ 1027 → ((i : ℕ) → getD u i 0 < 2 ^ 8) → SessionShape (holding x c u)
   unfolding holding
-  holding-shape u l b =
+  holding-shape k u l b =
       record {
         connection = h;
         len = omega arith;
         buffer = pad-cells 1032 u b;
+        sending = k;
       }
+
+-- ---- what sending knows
+
+pub nothing-shape : SendingShape nothingSent
+unfolding nothingSent
+nothing-shape = record { defined = omega arith; sent = omega arith; last = omega arith }
+
+pub sending-kept : {s : Session} → SessionShape s → {x : Sending} → SendingShape x → SessionShape (withSending s x)
+unfolding withSending
+sending-kept h k = record { connection = h .connection; len = h .len; buffer = h .buffer; sending = k }

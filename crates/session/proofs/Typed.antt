@@ -1,4 +1,4 @@
--- What the types of the code say of a binding, a connection and a session.
+-- What the types of the code say of a binding, a connection, what sending knows, and a session.
 use mathlib.Core.List.{List}
 use lib.ListN.{getD}
 use mir.Val.{Val, Fits}
@@ -9,12 +9,14 @@ use denote.Struct.Declared.{row}
 use Rattle.lists.proofs.Elements.{each-in-field}
 use Rattle.session.specs.declared.Binding.{Binding}
 use Rattle.session.specs.declared.Connection.{Connection}
+use Rattle.session.specs.declared.Sending.{Sending}
 use Rattle.session.specs.declared.Session.{Session}
 use Rattle.session.specs.Session.{bindingAt, noBinding}
-use Rattle.session.specs.Shape.{BindingShape, ConnectionShape, SessionShape}
+use Rattle.session.specs.Shape.{BindingShape, ConnectionShape, SendingShape, SessionShape}
 use Rattle.lists.proofs.Maps.{length-mapped}
 use Rattle.session.proofs.Binding as binding-type
 use Rattle.session.proofs.Connection as connection-type
+use Rattle.session.proofs.Sending as sending-type
 use Rattle.session.proofs.Session as session-type
 
 pub binding-shape : (b : Binding) (vs : List Val) → Is (row binding-type.the-type) b vs → BindingShape b
@@ -38,10 +40,14 @@ connection-shape c vs p =
           (c .bindings) _ (p .1 .1 .1 .1 .1 .1 .1 .1 .1 .1 .0) noBinding;
     }
 
+pub sending-shape : (x : Sending) (vs : List Val) → Is (row sending-type.the-type) x vs → SendingShape x
+sending-shape x vs p = record { defined = search needs; sent = search needs; last = search needs }
+
 pub session-shape : (s : Session) (vs : List Val) → Is (row session-type.the-type) s vs → SessionShape s
 session-shape s vs p =
     record {
       connection = search (needs, connection-shape);
       len = search needs;
       buffer = record { size = search needs; small = λ i. let f : Fits w8 (getD (s .buffer) i 0) = search needs in f .fits };
+      sending = search (needs, sending-shape);
     }

@@ -9,6 +9,7 @@ use Rattle.lists.specs.Lists.{padTo, firstPlace}
 use Rattle.store.specs.Limits.{tablePlaces}
 use Rattle.session.specs.declared.Binding.{Binding}
 use Rattle.session.specs.declared.Connection.{Connection}
+use Rattle.session.specs.declared.Sending.{Sending}
 use Rattle.session.specs.declared.Session.{Session}
 
 -- ---- what a record says
@@ -54,10 +55,20 @@ boundTo id b = isBound b && eqb (b .id) id
 unfoldable pub findBound : Connection → ℕ → Found
 findBound c id = firstPlace (boundTo id) (c .bindings)
 
+-- ---- request 3: what sending knows
+
+-- no table was defined, and no entry sent
+unfoldable pub nothingSent : Sending
+nothingSent = record { defined = 0; sent = 0; last = 0 }
+
+-- "all of the record that reading uses, as it was": another `sending`, and all else stays
+unfoldable pub withSending : Session → Sending → Session
+withSending s x = record { connection = s .connection; len = s .len; buffer = s .buffer; sending = x }
+
 -- ---- a record with given unfinished bytes: zeros stand behind them
 
-unfoldable pub holding : Connection → List ℕ → Session
-holding c u = record { connection = c; len = length u; buffer = padTo bufferSize u }
+unfoldable pub holding : Sending → Connection → List ℕ → Session
+holding x c u = record { connection = c; len = length u; buffer = padTo bufferSize u; sending = x }
 
 -- ---- changes of a record
 

@@ -7,6 +7,7 @@ use Rattle.store.specs.Limits.{tablePlaces}
 use Rattle.store.specs.Shape.{Cells}
 use Rattle.session.specs.declared.Binding.{Binding}
 use Rattle.session.specs.declared.Connection.{Connection}
+use Rattle.session.specs.declared.Sending.{Sending}
 use Rattle.session.specs.declared.Session.{Session}
 use Rattle.session.specs.Session.{bufferSize, bindingAt}
 
@@ -28,7 +29,13 @@ pub record ConnectionShape (c : Connection) : Type 0 where
   pub places : length (c .bindings) ≡ tablePlaces
   pub binding : (i : ℕ) → i < tablePlaces → BindingShape (bindingAt c i)
 
+pub record SendingShape (x : Sending) : Type 0 where
+  pub defined : x .defined < 2 ^ 64
+  pub sent : x .sent < 2 ^ 32
+  pub last : x .last < 2 ^ 32
+
 pub record SessionShape (s : Session) : Type 0 where
   pub connection : ConnectionShape (s .connection)
   pub len : s .len < 2 ^ 64
   pub buffer : Cells bufferSize 8 (s .buffer)
+  pub sending : SendingShape (s .sending)

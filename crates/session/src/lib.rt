@@ -1,4 +1,5 @@
-// The session record, one for each connection: what reading needs to know between two calls, as plain numbers; and what a call answers.
+// The session record, one for each connection: what reading and sending need to know between two calls, as plain numbers; and what a call
+// answers.
 // The lender of a record can put any number anywhere: `session_ok`, of the crate `session_soundness`, says whether it is one that the rules allow with a store.
 pub mod answers;
 pub mod bound_ids;
@@ -9,7 +10,7 @@ use store::TABLES;
 ghost use mathlib.Core.Path.{_≡_};
 ghost use Prim.Native.Nat.{_≤_};
 ghost use lib.ListN.{length};
-ghost use Rattle.session.specs.Session.{unfinishedMax, unfinished, closedWith, establish, currentOf, makeCurrent};
+ghost use Rattle.session.specs.Session.{unfinishedMax, unfinished, closedWith, establish, currentOf, makeCurrent, nothingSent};
 
 // ---- limits
 
@@ -51,12 +52,22 @@ pub struct Connection {
     pub bindings: [Binding; TABLES],
 }
 
-// The session record. The first `len` bytes of `buffer` are the unfinished bytes.
+// What sending knows between two calls. `defined` is 0 where no table was defined to the peer, else the place of the one defined last plus 1.
+// `sent` is 1 where an entry was sent since that definition, and `last` is then the update ID of the last one.
+#[repr(C)]
+pub struct Sending {
+    pub defined: usize,
+    pub sent: u32,
+    pub last: u32,
+}
+
+// The session record. The first `len` bytes of `buffer` are the unfinished bytes. Reading uses all of it but `sending`.
 #[repr(C)]
 pub struct Session {
     pub connection: Connection,
     pub len: usize,
     pub buffer: [u8; BUFFER],
+    pub sending: Sending,
 }
 
 // ---- answers
@@ -119,6 +130,19 @@ pub struct Values {
 pub struct Reply {
     pub bytes: [u8; 12],
     pub len: usize,
+}
+
+// ---- what sending knows
+
+// No table was defined, and no entry sent.
+pub fn nothing_sent() -> Sending
+    ensures { λ r. ⌜ r ≡ nothingSent ⌝ }
+{
+    Sending {
+        defined: 0,
+        sent: 0,
+        last: 0,
+    }
 }
 
 // ---- the unfinished bytes

@@ -1,20 +1,21 @@
 -- What each change of a connection, and a table put into the store, keeps of soundness.
-use Prim.Native.Nat.{ℕ, _+_, _≤_, _<_}
+use Prim.Native.Nat.{ℕ, _+_, _-_, _≤_, _<_}
 use native.Mathlib.Omega.{arith}
 use mathlib.Core.Path.{_≡_, refl, sym, ap, _∙_, subst}
 use mathlib.Core.Logic.{⊎-elim}
 use mathlib.Core.Bool.{true, false}
 use mathlib.Core.List.{List}
 use lib.ListN.{length, set}
-use lib.Dec.{eqb}
+use lib.Dec.{eqb, leb}
 use lib.Seq.{set-out, getD-set-same, getD-set-other}
-use Rattle.lists.proofs.Cases.{never, lt-or-le, eq-or-ne}
+use Rattle.lists.proofs.Cases.{by-test, never, and-first, and-second, and-intro, or-true, or-false, lt-or-le, eq-or-ne}
 use Rattle.store.specs.declared.Table.{Table}
 use Rattle.store.specs.Store.{tableHeld, noTable}
 use Rattle.session.specs.declared.Binding.{Binding}
 use Rattle.session.specs.declared.Connection.{Connection}
+use Rattle.session.specs.declared.Sending.{Sending}
 use Rattle.session.specs.Session.{isClosed, localName, remoteName, isBound, isUpdated, boundTo, bindingAt, closedWith, establish, makeCurrent, withState, withTables, unbind, bindTo, bind, commitTo, committed}
-use Rattle.session_soundness.specs.Sound.{isClosing}
+use Rattle.session_soundness.specs.Sound.{isClosing, definedOk, sendingOk}
 use Rattle.session.proofs.CurrentTable.{current-within}
 use Rattle.session.proofs.Shapes.{current-limit}
 use Rattle.session.proofs.Bindings.{bound-here, bound-only, bind-cases, commit-cases}
@@ -44,6 +45,19 @@ held-keeps f s =
       currentHeld = λ p e. f p (s .currentHeld p e);
       currentBound = s .currentBound;
     }
+
+pub sending-keeps : (ts us : List Table) (x : Sending) → ((i : ℕ) → heldAt ts i ≡ true → heldAt us i ≡ true) → sendingOk ts x ≡ true → sendingOk us x ≡ true
+unfolding sendingOk definedOk
+sending-keeps ts us x f h =
+    let none = eqb (x .defined) 0 in
+    let within = leb (x .defined) 8 in
+    let held = heldAt ts (x .defined - 1) in
+    and-intro (leb (x .sent) 1) _ (and-first (leb (x .sent) 1) _ h)
+    (by-test none
+    (λ z. or-true none _ z)
+    (λ z.
+    let k = sym (or-false none _ z) ∙ and-second (leb (x .sent) 1) _ h in
+    or-false none _ z ∙ and-intro within _ (and-first within held k) (f (x .defined - 1) (and-second within held k))))
 
 pub put-held : (ts : List Table) (place : ℕ) (t : Table) → tableHeld t ≡ true → (i : ℕ) → heldAt ts i ≡ true → heldAt (set ts place t) i ≡ true
 put-held ts place t h i k =

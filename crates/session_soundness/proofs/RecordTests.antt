@@ -1,4 +1,4 @@
--- The tests of the whole record: the connection, the unfinished bytes, and both.
+-- The tests of the whole record: the connection, the unfinished bytes, and all of it.
 use Prim.Native.Nat.{ℕ, _≤_, _<_}
 use mathlib.Core.Path.{_≡_, refl, sym, ap, _∙_}
 use mathlib.Core.Bool.{Bool, true, false, _&&_}
@@ -16,7 +16,7 @@ use Rattle.session.specs.declared.Connection.{Connection}
 use Rattle.session.specs.declared.Session.{Session}
 use Rattle.session.specs.Session.{unfinished, isClosed}
 use Rattle.session.proofs.Unfinished.{unfinished-within}
-use Rattle.session_soundness.specs.Sound.{fieldTests, bindingTests, soundConnection, waits, unfinishedOk, isRefusedOpening, soundSession}
+use Rattle.session_soundness.specs.Sound.{fieldTests, bindingTests, soundConnection, waits, unfinishedOk, sendingOk, isRefusedOpening, soundSession}
 use Rattle.session_soundness.proofs.Waiting.{waits-whole}
 use Rattle.session.proofs.Basics.{told}
 use Rattle.session_soundness.proofs.ArrayParts.{part-fits, part-long}
@@ -80,8 +80,13 @@ module _ (ts : List Table) (s : Session) where
     unfolding soundSession
     session-unsound f = sym (or-false _ _ (sym e) ∙ and-false _ _ (sym f))
 
-    pub unfinished-left : (r : Bool) → true ≡ soundConnection ts (s .connection) → r ≡ unfinishedOk s → r ≡ soundSession ts s
-    unfolding soundSession
-    unfinished-left r f g = g ∙ sym (or-false _ _ (sym e) ∙ and-true _ _ (sym f))
+    module _ (f : true ≡ soundConnection ts (s .connection)) where
+      pub unfinished-fails : false ≡ unfinishedOk s → false ≡ soundSession ts s
+      unfolding soundSession
+      unfinished-fails g = sym (or-false _ _ (sym e) ∙ and-true _ _ (sym f) ∙ and-false _ _ (sym g))
 
-pub ruleset sounding = (needs, told, session-refused, session-unsound, unfinished-left)
+      pub sending-left : (r : Bool) → true ≡ unfinishedOk s → r ≡ sendingOk ts (s .sending) → r ≡ soundSession ts s
+      unfolding soundSession
+      sending-left r g h = h ∙ sym (or-false _ _ (sym e) ∙ and-true _ _ (sym f) ∙ and-true _ _ (sym g))
+
+pub ruleset sounding = (needs, told, session-refused, session-unsound, unfinished-fails, sending-left)

@@ -1,13 +1,15 @@
 -- The tests of a record at worked examples.
 use mathlib.Core.Path.{_≡_, refl}
 use mathlib.Core.Bool.{true, false}
+use Prim.Native.Nat.{ℕ}
 use mathlib.Core.List.{[], _∷_, map}
 use Rattle.lists.specs.Lists.{every, distinct}
 use Rattle.store.specs.declared.Table.{Table}
 use Rattle.store.specs.Store.{tableHeld, noTable}
 use Rattle.session.specs.declared.Binding.{Binding}
-use Rattle.session.specs.Session.{isBound, isUpdated, boundTo, noBinding}
-use Rattle.session_soundness.specs.Sound.{refusesOpening, isClosing, flagsOk, noIds, freePlacesOk, sameId, firstParts}
+use Rattle.session.specs.declared.Sending.{Sending}
+use Rattle.session.specs.Session.{isBound, isUpdated, boundTo, noBinding, nothingSent}
+use Rattle.session_soundness.specs.Sound.{refusesOpening, isClosing, flagsOk, noIds, freePlacesOk, sameId, definedOk, sendingOk, sentNothing, firstParts}
 
 -- which numbers close a session
 closing : map isClosing (0 ∷ 1 ∷ 2 ∷ 3 ∷ 4 ∷ 9 ∷ 10 ∷ 15 ∷ 16 ∷ 19 ∷ 20 ∷ 29 ∷ 30 ∷ 31 ∷ [])
@@ -54,6 +56,21 @@ ids = refl
 flag-values : every flagsOk (record { bound = 2; updated = 0; id = 0; previous = 0 } ∷ []) ≡ false
 unfolding every flagsOk
 flag-values = refl
+
+-- what sending knows, at a store with a table at place 0 alone: nothing; that table defined last, and an entry sent since; the free place 1; place 8;
+-- the mark 2; a last ID without a table defined last
+abbrev known : ℕ → ℕ → ℕ → Sending
+known defined sent last = record { defined = defined; sent = sent; last = last }
+
+sendings : map (sendingOk (held ∷ noTable ∷ [])) (nothingSent ∷ known 1 1 9 ∷ known 2 0 0 ∷ known 9 0 0 ∷ known 1 2 0 ∷ known 0 1 9 ∷ [])
+    ≡ true ∷ true ∷ false ∷ false ∷ false ∷ true ∷ []
+unfolding sendingOk definedOk tableHeld noTable nothingSent
+sendings = refl
+
+-- which of them a refused opening's record may have
+none-sent : map sentNothing (nothingSent ∷ known 1 0 0 ∷ known 0 1 0 ∷ known 0 0 9 ∷ []) ≡ true ∷ false ∷ false ∷ false ∷ []
+unfolding sentNothing nothingSent
+none-sent = refl
 
 parts : firstParts (1 ∷ 2 ∷ []) ≡ [] ∷ (1 ∷ []) ∷ (1 ∷ 2 ∷ []) ∷ []
 unfolding firstParts

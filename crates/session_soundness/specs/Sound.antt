@@ -21,6 +21,7 @@ use Rattle.frame.specs.declared.Frame.the-variants as frame
 use Rattle.frame.specs.Frame.{judgeFrame}
 use Rattle.session.specs.declared.Binding.{Binding}
 use Rattle.session.specs.declared.Connection.{Connection}
+use Rattle.session.specs.declared.Sending.{Sending}
 use Rattle.session.specs.declared.Session.{Session}
 use Rattle.session.specs.Session.{unfinished, unfinishedMax, isClosed, localName, remoteName, isBound, isUpdated, boundTo, bindingAt, awaitingHello, awaitingStatus, established}
 
@@ -84,6 +85,16 @@ unfoldable pub currentOk : List Table → Connection → Bool
 currentOk tables c =
     eqb (c .current) 0
     || (leb (c .current) tablePlaces && (tableHeld (getD tables (c .current - 1) noTable) && isBound (bindingAt c (c .current - 1))))
+
+-- ---- request 3: what sending knows
+
+-- "A record whose table defined last isn't held is not sound.": there is none, or its place is one of 8 and held
+unfoldable pub definedOk : List Table → Sending → Bool
+definedOk tables x = eqb (x .defined) 0 || (leb (x .defined) tablePlaces && tableHeld (getD tables (x .defined - 1) noTable))
+
+-- the mark of a last ID is 0 or 1; a last ID without a table defined last is sound
+unfoldable pub sendingOk : List Table → Sending → Bool
+sendingOk tables x = leb (x .sent) 1 && definedOk tables x
 
 -- ---- "unfinished bytes of which any first part, or all, already ends a message or shows a refusal, or in a closed record"
 
@@ -150,10 +161,15 @@ connectionZeros c = isZero (c .phase) ∷ isZero (c .current) ∷ allOf (nameZer
 unfoldable pub emptyBuffer : Session → Bool
 emptyBuffer s = isZero (s .len) && every isZero (s .buffer)
 
+-- neither a table defined last nor a last ID
+unfoldable pub sentNothing : Sending → Bool
+sentNothing x = isZero (x .defined) && (isZero (x .sent) && isZero (x .last))
+
 abbrev pub refusedOpeningTests : Session → List Bool
 refusedOpeningTests s =
     eqb (s .connection .closed) 1
     ∷ refusesOpening (s .connection .number)
+    ∷ sentNothing (s .sending)
     ∷ emptyBuffer s
     ∷ allOf (connectionZeros (s .connection))
     ∷ []
@@ -164,7 +180,8 @@ isRefusedOpening s = allOf (refusedOpeningTests s)
 -- ---- record and store
 
 unfoldable pub soundSession : List Table → Session → Bool
-soundSession tables s = isRefusedOpening s || (soundConnection tables (s .connection) && unfinishedOk s)
+soundSession tables s =
+    isRefusedOpening s || (soundConnection tables (s .connection) && (unfinishedOk s && sendingOk tables (s .sending)))
 
 -- record and store together
 unfoldable pub sound : Session → Store → Bool

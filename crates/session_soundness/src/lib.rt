@@ -5,11 +5,13 @@ pub mod fields;
 pub mod flags;
 pub mod free_places;
 pub mod refused;
+pub mod sending;
 pub mod unfinished;
 
 use crate::bindings::bindings_ok;
 use crate::fields::fields_ok;
 use crate::refused::is_refused_opening;
+use crate::sending::sending_ok;
 use crate::unfinished::bytes_wait;
 use session::Connection;
 use session::Session;
@@ -55,5 +57,9 @@ pub fn session_ok(tables: [Table; TABLES], s: Session) -> bool
     if !connection_ok(tables, c) {
         return false;
     }
-    unfinished_ok(s)
+    if !unfinished_ok(s) {
+        return false;
+    }
+    let sending = s.sending;
+    sending_ok(tables, sending)
 }

@@ -1,5 +1,6 @@
 // The test whether a record is the one that a refused opening returns.
 use crate::fields::refuses_opening;
+use crate::sending::sent_nothing;
 use lists::all_zero;
 use session::Binding;
 use session::Connection;
@@ -90,6 +91,10 @@ pub fn is_refused_opening(s: Session) -> bool
         return false;
     }
     if !refuses_opening(c.number) {
+        return false;
+    }
+    let sending = s.sending;
+    if !sent_nothing(sending) {
         return false;
     }
     if !empty_buffer(s) {

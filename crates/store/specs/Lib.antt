@@ -6,3 +6,4 @@ pub mod Examples
 pub mod Places
 pub mod Time
 pub mod Counts
+pub mod Contents

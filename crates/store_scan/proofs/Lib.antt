@@ -2,3 +2,4 @@ pub mod Items
 pub mod Lending
 pub mod Looking
 pub mod Scanning
+mod Testing

@@ -8,6 +8,7 @@ use store::TABLES;
 use store::Table;
 use store::counts::count_entry;
 use store::entries::Place;
+use store::no_entry;
 use store::tables::entry_of;
 use store_soundness::codes::all_sound;
 use store_soundness::codes::code_place;
@@ -17,11 +18,15 @@ use store_soundness::hashes::HASH_END;
 use store_soundness::hashes::hashes_distinct;
 use store_soundness::hashes::held_hash;
 use store_soundness::keys::keys_distinct;
+use store_soundness::table::tables_ok;
 ghost use mathlib.Core.Path.{_≡_};
+ghost use lib.ListN.{getD};
 ghost use Rattle.lists.specs.Lists.{firstPlace};
 ghost use Rattle.store_soundness.specs.Hashes.{hashEnd};
 ghost use Rattle.store_soundness.specs.Codes.{storeCodes, isCode};
 ghost use Rattle.store.specs.Places.{freeOf, placeOf};
+ghost use Rattle.store.specs.Store.{noEntry};
+ghost use Rattle.store.specs.Sound.{soundStore};
 ghost use Rattle.message.specs.Targets.{keyedAs};
 ghost use Rattle.store_scan.specs.Scan.{Scans, Hashed, mayEqual, Coded, ScansByHashes, ScansByKeys};
 
@@ -176,4 +181,28 @@ pub fn scan(store: &Store, query: Query) -> Scanned
         return by_keys(codes, found, entries);
     }
     by_hashes(codes, found)
+}
+
+// Whether a store is sound. No entry is sought.
+pub fn store_ok(store: &Store) -> bool
+    ensures { λ r. ⌜ r ≡ soundStore (now (store .entry)) ⌝ }
+{
+    let tables = store.tables;
+    if !tables_ok(tables) {
+        return false;
+    }
+    let entry = no_entry();
+    let query = Query { tables, entry };
+    let scanned = scan(store, query);
+    scanned.sound
+}
+
+// The entry at a place; no_entry past the last place. The place may be any number.
+pub fn entry_at(store: &Store, place: usize) -> Entry
+    ensures { λ r. ⌜ r ≡ getD (now (store .entry) .entries) place noEntry ⌝ }
+{
+    if place < ENTRIES {
+        return store.entries[place];
+    }
+    no_entry()
 }

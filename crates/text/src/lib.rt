@@ -7,21 +7,5 @@ pub mod input;
 pub mod output;
 pub mod spaced;
 
-ghost use Rattle.text.specs.Room.{Wrote};
-
 // The bytes as they are.
-pub fn put(room: &mut [u8], at: usize, bytes: &[u8]) -> usize
-    ensures { λ r. ⌜ Wrote (now (room .entry)) at (now (bytes .entry)) (now (room .exit)) r ⌝ }
-{
-    let mut next = at;
-    let mut i: usize = 0;
-    while i < bytes.len() {
-        if room.len() <= next {
-            return next;
-        }
-        room[next] = bytes[i];
-        next += 1;
-        i += 1;
-    }
-    next
-}
+pub use wire::buffer::put;

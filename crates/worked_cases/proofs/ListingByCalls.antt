@@ -14,9 +14,10 @@ use Rattle.store.proofs.Ruled.{empty-sound}
 use Rattle.store.proofs.Kept.{empty-shape}
 use Rattle.handshake.specs.Bytes.{within}
 use Rattle.handshake.specs.Handshake.{nameOk}
+use Rattle.session.specs.declared.Sending.{Sending}
 use Rattle.session.specs.declared.Session.{Session}
 use Rattle.session.specs.declared.Answer.{Answer}
-use Rattle.session.specs.Session.{unfinished, isClosed, holding}
+use Rattle.session.specs.Session.{unfinished, isClosed, holding, nothingSent}
 use Rattle.session_soundness.specs.Sound.{sound}
 use Rattle.session_soundness.proofs.Records.{sound-both}
 use Rattle.opening.specs.Opening.{answerer, openingRoom, Opening, «open», opened, newConnection}
@@ -27,7 +28,7 @@ use Rattle.receiver.specs.Model.{State, heldBy, isByte}
 use Rattle.receiver.specs.Promise.{Shaped}
 use Rattle.receiver.specs.Demand3.{Called, Chain, OffersTo, cameTo}
 use Rattle.worked_cases.specs.Cases.{hello, east, west}
-use Rattle.worked_cases.specs.Listing.{listing, listedResult, listedState}
+use Rattle.worked_cases.specs.Listing.{listing, listedResult, listedConnection, listedState}
 use Rattle.worked_cases.specs.ListingCalls.{ListingCame, ListingByCalls, ListingOffered}
 use Rattle.receiver.proofs.Acknowledging.{opens-accepted}
 use Rattle.receiver.proofs.Demand3.{demand-3}
@@ -54,6 +55,10 @@ open-start : (eqb (length listing) 0 || isClosed (start .connection)) ≡ false
 unfolding listing hello flatten opened newConnection holding isClosed
 open-start = refl
 
+pub start-sending : start .sending ≡ nothingSent
+unfolding opened holding
+start-sending = refl
+
 module _ (calls : List Called) (c : Chain start emptyStore calls) (o : OffersTo start (bytes listing) calls) where
   came : cameTo start emptyStore calls ≡ listedResult
   came = demand-3 start emptyStore calls start-sound c .whole (bytes listing) o ∙ listing-holds
@@ -65,7 +70,8 @@ module _ (calls : List Called) (c : Chain start emptyStore calls) (o : OffersTo 
     session =
         bytes-record start emptyStore listing calls start-sound c o
         ∙ (cond-false (eqb (length listing) 0 || isClosed (start .connection)) _ _ open-start
-        ∙ ap (λ (r : Result State Answer). holding (r .state .connection) (r .state .unfinished)) listing-holds);
+        ∙ (ap (λ (r : Result State Answer). holding (start .sending) (r .state .connection) (r .state .unfinished)) listing-holds
+        ∙ ap (λ (x : Sending). holding x listedConnection []) start-sending));
     store = ap (λ (r : Result State Answer). r .state .store) came;
   }
 
@@ -81,7 +87,7 @@ listing-bytes : every isByte listing ≡ true
 unfolding every listing hello flatten
 listing-bytes = refl
 
-cut-bytes : (cuts : List (List ℕ)) → every isByte (flatten cuts) ≡ true → every (every isByte) cuts ≡ true
+pub cut-bytes : (cuts : List (List ℕ)) → every isByte (flatten cuts) ≡ true → every (every isByte) cuts ≡ true
 unfolding flatten
 cut-bytes [] h = every-nil (every isByte)
 cut-bytes (c ∷ cs) h =

@@ -4,7 +4,7 @@ use mathlib.Core.Path.{_≡_}
 use mathlib.Core.List.{List, [], flatten}
 use lib.ListN.{length}
 use Rattle.store.specs.Store.{emptyStore}
-use Rattle.session.specs.Session.{holding}
+use Rattle.session.specs.Session.{holding, nothingSent}
 use Rattle.opening.specs.Opening.{answerer, opened}
 use Rattle.receiver.specs.Model.{replyRoom}
 use Rattle.streams.specs.Model.{bytes}
@@ -16,7 +16,7 @@ use Rattle.worked_cases.specs.Listing.{listing, listedResult, listedConn
 -- calls that offer the listing's stream, in any division, give its answers and replies and leave its store and record
 pub record ListingCame (calls : List Called) : Type 0 where
   pub came : cameTo (opened answerer east west) emptyStore calls ≡ listedResult
-  pub session : lastSession (opened answerer east west) calls ≡ holding listedConnection []
+  pub session : lastSession (opened answerer east west) calls ≡ holding nothingSent listedConnection []
   pub store : lastStore emptyStore calls ≡ listedStore
 
 abbrev pub ListingByCalls : Type 0

@@ -1,6 +1,7 @@
 //! What a call leaves has the same bytes, whatever lay before on the stack.
 
 use crate::common::{listing, State};
+use peers::SEND_ROOM;
 use std::hint::black_box;
 use std::mem::size_of;
 use std::time::Duration;
@@ -22,7 +23,19 @@ fn held(state: &State) -> Vec<u8> {
     [bytes(state.session.layout()), bytes(state.store.layout())].concat()
 }
 
-/// The same after opening, after each call and after passing time, over a stack with this content.
+/// What both sending calls give and write, at the first places.
+fn sent(state: &mut State, fill: u8) -> Vec<u8> {
+    let mut rooms = [[0xAA; SEND_ROOM]; 2];
+    let [first, second] = &mut rooms;
+    let (session, store) = (&mut state.session, &state.store);
+    fill_stack(fill);
+    let definition = session.send_definition(store, 0, 7, first).is_ok();
+    fill_stack(fill);
+    let entry = session.send_entry(store, 0, 7, second).is_ok();
+    [rooms.concat(), vec![definition.into(), entry.into()]].concat()
+}
+
+/// The same after opening, after each call, after sending and after passing time, over a stack with this content.
 fn left(open: fn() -> State, pieces: &[&[u8]], fill: u8) -> Vec<Vec<u8>> {
     fill_stack(fill);
     let mut state = open();
@@ -30,6 +43,8 @@ fn left(open: fn() -> State, pieces: &[&[u8]], fill: u8) -> Vec<Vec<u8>> {
     for piece in pieces {
         fill_stack(fill);
         state.call(piece);
+        left.push(held(&state));
+        left.push(sent(&mut state, fill));
         left.push(held(&state));
     }
     for time in [Duration::ZERO, Duration::from_secs(60)] {

@@ -1,7 +1,7 @@
 //! Messages to send, and sessions to send them to.
 
-use peers::layout::{self, Entry, TABLES};
-use peers::{Answer, KeyType, Refusal, Session, Store, READING_ROOM};
+use peers::layout::{self, Entry, Sending, TABLES};
+use peers::{Answer, KeyType, Part, Refusal, Session, Store, READING_ROOM, SEND_ROOM};
 use std::time::Duration;
 
 /// The content of a room before a call.
@@ -128,6 +128,45 @@ pub fn walked(store: &layout::Store) -> [u32; TABLES] {
     counts
 }
 
+/// The most bytes of a sent message.
+pub const SENT_MAX: usize = 267;
+
+/// Does what the rule says of a message that is sent.
+fn note(sending: &mut Sending, part: Part, id: u32) {
+    *sending = match part {
+        Part::Table(place) => Sending {
+            defined: place + 1,
+            sent: 0,
+            last: 0,
+        },
+        Part::Entry(_) => Sending {
+            sent: 1,
+            last: id,
+            ..*sending
+        },
+    };
+}
+
+/// A small generator (xorshift).
+pub struct Random(pub u64);
+
+impl Random {
+    pub fn next(&mut self) -> u64 {
+        self.0 ^= self.0 << 13;
+        self.0 ^= self.0 >> 7;
+        self.0 ^= self.0 << 17;
+        self.0
+    }
+
+    pub fn below(&mut self, limit: usize) -> usize {
+        (self.next() % limit as u64) as usize
+    }
+
+    pub fn bytes(&mut self, len: usize) -> Vec<u8> {
+        (0..len).map(|_| self.next() as u8).collect()
+    }
+}
+
 /// What one session and one store came to.
 #[derive(Clone, PartialEq, Eq, Debug)]
 pub struct State {
@@ -181,12 +220,15 @@ impl State {
         state
     }
 
-    /// One call; the room past the reply must stay, and a call that tested the store must leave counts that are right.
+    /// One call; the room past the reply must stay, and the sending state, and a call that tested the store must leave counts that are
+    /// right.
     pub fn call(&mut self, piece: &[u8]) -> (usize, Told) {
         let mut room = [FILL; READING_ROOM + 3];
+        let sending = self.session.layout().sending;
         let step = self.session.read(&mut self.store, piece, &mut room);
         let (taken, told) = (step.taken, (step.answer, step.reply.to_vec()));
         assert!(room[told.1.len()..].iter().all(|&byte| byte == FILL));
+        assert_eq!(self.session.layout().sending, sending);
         if told.0 != refused(Refusal::Unsound) {
             let store = self.store.layout();
             assert_eq!(store.counts, walked(store), "{:?}", told.0);
@@ -220,6 +262,33 @@ impl State {
         }
         assert!(*self == expected, "passing {milliseconds}: {passed:?}");
         passed
+    }
+
+    /// One sending call with this much room, which must stay past the message. Of the record only the sending state may change, as the rule
+    /// says, and nothing at all where it is refused; the store stays.
+    pub fn send_with(&mut self, part: Part, id: u32, room: usize) -> Result<Vec<u8>, Refusal> {
+        let mut expected = self.clone();
+        let mut room = vec![FILL; room];
+        let sent = match part {
+            Part::Table(place) => self
+                .session
+                .send_definition(&self.store, place, id, &mut room),
+            Part::Entry(place) => self.session.send_entry(&self.store, place, id, &mut room),
+        };
+        let sent = sent.map(<[u8]>::to_vec);
+        let len = sent.as_ref().map_or(0, Vec::len);
+        assert_eq!(len > 0, sent.is_ok());
+        assert!(len <= SENT_MAX && room[len..].iter().all(|&byte| byte == FILL));
+        if sent.is_ok() {
+            note(&mut expected.session.layout_mut().sending, part, id);
+        }
+        assert!(*self == expected, "{part:?} as {id}: {sent:?}");
+        sent
+    }
+
+    /// The same with as much room as is asked for.
+    pub fn send(&mut self, part: Part, id: u32) -> Result<Vec<u8>, Refusal> {
+        self.send_with(part, id, SEND_ROOM)
     }
 
     /// Offers messages, each of which must be accepted.

@@ -1,7 +1,7 @@
 //! Freeing entries and tables between calls.
 
 use crate::common::{define, message, refused, timed_update, update, State, FREE, HELLO};
-use peers::{Answer, Commit, DataType, KeyType, Refusal, Session, Value};
+use peers::{Answer, Commit, DataType, KeyType, Part, Refusal, Session, Value};
 
 /// An established record with table `t` at place 0, and one entry.
 fn one_entry() -> State {
@@ -124,6 +124,35 @@ fn a_table_that_a_record_uses() {
     let told = state.offer(&incremental());
     assert_eq!(told[0].1, [10, 132, 5, 1, 0, 0, 0, 2]);
     assert_eq!(state.store.entry(0).unwrap().table().name(), b"other");
+}
+
+/// A record that defined the table last, and neither bound nor updated it.
+#[test]
+fn a_table_that_a_record_defined_last() {
+    let mut state = one_entry();
+    reconnect(&mut state);
+    assert!(!state.session.uses(0));
+    assert!(state.send(Part::Table(0), 7).is_ok());
+    assert!(state.session.uses(0) && !state.session.uses(1));
+    let mut closed = state.clone();
+    closed.offer(&[1, 0]);
+    assert!(!closed.session.uses(0));
+    // while the place is free every call is refused
+    assert!(state.store.free_table(0));
+    assert_eq!(state.call(&[0, 4]).1 .0, refused(Refusal::Unsound));
+    for part in [Part::Table(0), Part::Entry(0)] {
+        assert_eq!(state.send(part, 8), Err(Refusal::Unsound));
+    }
+    // once it is taken the other table's entries go to the peer as those of the table that it was told of
+    let old = state.session.clone();
+    reconnect(&mut state);
+    state.accept(&[
+        define(7, b"other", KeyType::Integer, 4, 4, &[]),
+        update(1, b"keyo", &[5]),
+    ]);
+    state.session = old;
+    let sent = state.send(Part::Entry(0), 8);
+    assert_eq!(sent, Ok(update(8, b"keyo", &[5])));
 }
 
 #[test]

@@ -1,6 +1,7 @@
 //! Sizes and offsets are those of `layout.txt`, which the C test reads too. No struct has padding: its size is the sum of its fields'.
 
 use peers::layout::{Binding, Connection, Entry, Opened, Outcome, Session, Store, Table};
+use peers::layout::{Sending, Sent};
 use std::fmt::Write;
 use std::mem::{align_of, offset_of, size_of};
 
@@ -26,8 +27,10 @@ fn sizes_and_offsets() {
     describe!(text, "store", Store: tables counts entries);
     describe!(text, "binding", Binding: bound updated id previous);
     describe!(text, "connection", Connection: phase closed number current local_len remote_len local remote bindings);
-    describe!(text, "session", Session: connection len buffer);
+    describe!(text, "sending", Sending: defined sent last);
+    describe!(text, "session", Session: connection len buffer sending);
     describe!(text, "outcome", Outcome: taken reply_len number count values);
     describe!(text, "opened", Opened: session outcome);
+    describe!(text, "sent", Sent: number len);
     assert_eq!(text, include_str!("../../layout.txt"));
 }

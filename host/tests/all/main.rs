@@ -11,6 +11,8 @@ mod offsets;
 mod opening;
 mod random;
 mod reading;
+mod sending;
+mod teaching;
 mod texts;
 mod times;
 mod unsound;

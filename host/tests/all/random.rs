@@ -1,29 +1,9 @@
 //! Random bytes as record and store, and sound ones with some bytes changed: no call crashes, writes outside of what is lent, or
 //! changes anything where it refuses with 1, 2 or 4.
 
-use crate::common::{define, listing, message, refused, update, walked, State, FILL};
-use peers::{KeyType, Refusal};
+use crate::common::{define, listing, message, refused, update, walked, Random, State, FILL};
+use peers::{KeyType, Part, Refusal, SEND_ROOM};
 use std::mem::size_of;
-
-/// A small generator (xorshift).
-struct Random(u64);
-
-impl Random {
-    fn next(&mut self) -> u64 {
-        self.0 ^= self.0 << 13;
-        self.0 ^= self.0 >> 7;
-        self.0 ^= self.0 << 17;
-        self.0
-    }
-
-    fn below(&mut self, limit: usize) -> usize {
-        (self.next() % limit as u64) as usize
-    }
-
-    fn bytes(&mut self, len: usize) -> Vec<u8> {
-        (0..len).map(|_| self.next() as u8).collect()
-    }
-}
 
 /// Writes a byte anywhere into a struct of integers, for which every content is allowed.
 fn put_byte<T: Copy>(place: &mut T, at: usize, byte: u8) {
@@ -38,6 +18,10 @@ fn spoil(random: &mut Random, state: &mut State, count: usize) {
     for _ in 0..count {
         let at = random.below(size_of::<peers::layout::Connection>() + 20);
         put_byte(record, at, random.next() as u8);
+    }
+    if random.below(4) == 0 {
+        let at = random.below(size_of::<peers::layout::Sending>());
+        put_byte(&mut record.sending, at, random.below(4) as u8);
     }
     let store = state.store.layout_mut();
     for _ in 0..random.below(2 * count) {
@@ -63,7 +47,22 @@ fn piece(random: &mut Random) -> Vec<u8> {
     }
 }
 
-/// One reading call, and one that passes time. The piece and room stand between bytes that must stay.
+/// Two sending calls, with places and rooms on either side of their limits.
+fn sends(random: &mut Random, state: &mut State) {
+    for part in [Part::Table, Part::Entry] {
+        let place = match random.below(2) {
+            0 => random.below(3),
+            _ => random.next() as usize,
+        };
+        let (id, room) = (random.next() as u32, SEND_ROOM - random.below(2));
+        // the helper looks at what is left
+        let sent = state.send_with(part(place), id, room);
+        let small = room < SEND_ROOM;
+        assert!(!small || sent.is_err(), "{sent:?}");
+    }
+}
+
+/// One reading call, two that send and one that passes time. The piece and room stand between bytes that must stay.
 fn call(random: &mut Random, state: &mut State) {
     const EDGE: usize = 64;
     let before = state.clone();
@@ -88,7 +87,8 @@ fn call(random: &mut Random, state: &mut State) {
         let store = state.store.layout();
         assert_eq!(store.counts, walked(store), "{answer:?}");
     }
-    // the helper looks at what is left
+    sends(random, state);
+    // this helper too looks at what is left
     let passed = state.pass(random.next() as u32);
     assert!(matches!(passed, Ok(()) | Err(Refusal::Unsound)));
 }

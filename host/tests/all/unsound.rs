@@ -1,9 +1,10 @@
 //! Each kind of fault of a record or a store, one at a time, and what stands next to it on the other side of its boundary.
-//! A fault is refused with 4; a call on either side that takes nothing leaves every byte as it was. Passing time looks at the store alone.
+//! A fault is refused with 4, by reading and by sending; a call on either side that takes or sends nothing leaves every byte as it was.
+//! Passing time looks at the store alone.
 
 use crate::common::{define, message, refused, update, walked, State, KEY_LENGTHS, PLAIN};
-use peers::layout::{Entry, Session, Store, Table, TABLES};
-use peers::{Answer, KeyType, Refusal};
+use peers::layout::{Entry, Sending, Session, Store, Table, TABLES};
+use peers::{Answer, KeyType, Part, Refusal};
 
 /// A change of the record and the store.
 type Change = fn(&mut Session, &mut Store);
@@ -107,9 +108,22 @@ fn pass(base: &State, change: Change) -> Result<(), Refusal> {
     expected
 }
 
+/// Both sending calls after a change, with nothing at the place: the refusal.
+fn not_sent(base: &State, change: Change) -> Refusal {
+    let mut state = base.clone();
+    change(state.session.layout_mut(), state.store.layout_mut());
+    let parts = [Part::Table(usize::MAX), Part::Entry(usize::MAX)];
+    let [one, other] = parts.map(|part| state.send(part, 7).unwrap_err());
+    assert_eq!(one, other);
+    one
+}
+
 /// Changes after which record and store are sound.
 fn sound(base: &State, changes: &[Change]) {
+    let after = [Refusal::Closed, Refusal::Handshake, Refusal::Place];
     for (n, change) in changes.iter().enumerate() {
+        let refusal = not_sent(base, *change);
+        assert!(after.contains(&refusal), "sound change {n}: {refusal:?}");
         let answer = answer(base, *change, b"");
         let expected = [Answer::More, refused(Refusal::Closed)];
         assert!(expected.contains(&answer), "sound change {n}: {answer:?}");
@@ -125,6 +139,7 @@ fn faults(base: &State, changes: &[Change]) {
             let answer = answer(base, *change, piece);
             assert_eq!(answer, refused(Refusal::Unsound), "fault {n}");
         }
+        assert_eq!(not_sent(base, *change), Refusal::Unsound, "fault {n}");
         _ = pass(base, *change);
     }
 }
@@ -872,6 +887,57 @@ fn current_table() {
     );
 }
 
+// ---- the sending state
+
+/// A change of the sending state.
+fn with_sending(mut state: State, defined: usize, sent: u32, last: u32) -> State {
+    state.session.layout_mut().sending = Sending {
+        defined,
+        sent,
+        last,
+    };
+    state
+}
+
+#[test]
+fn table_defined_last() {
+    // all tables, one and none are held
+    let mut one = State::established();
+    one.accept(&[define(1, b"t", KeyType::Integer, 4, 0, &[])]);
+    let mut closed = eight_tables();
+    closed.offer(&[1, 0]);
+    for (base, held) in [
+        (eight_tables(), 8),
+        (closed, 8),
+        (one, 1),
+        (State::established(), 0),
+        (State::answerer(), 0),
+        (State::caller(), 0),
+    ] {
+        let far = [255, 256, 1 << 32, (1 << 32) + 1, 1 << 63, usize::MAX];
+        for (defined, sent) in (0..12).chain(far).flat_map(|d| [(d, 0), (d, 1)]) {
+            let state = with_sending(base.clone(), defined, sent, 9);
+            match defined <= held {
+                true => sound(&state, &[|_, _| {}]),
+                false => faults(&state, &[|_, _| {}]),
+            }
+        }
+    }
+}
+
+#[test]
+fn mark_of_a_last_id() {
+    for (defined, last) in [(0, 0), (0, 9), (1, 0), (8, u32::MAX)] {
+        for sent in (0..300).chain([(1 << 8) + 1, 1 << 16, (1 << 31) + 1, u32::MAX]) {
+            let state = with_sending(eight_tables(), defined, sent, last);
+            match sent <= 1 {
+                true => sound(&state, &[|_, _| {}]),
+                false => faults(&state, &[|_, _| {}]),
+            }
+        }
+    }
+}
+
 // ---- unfinished bytes
 
 /// A record of this phase with unfinished bytes.
@@ -1007,6 +1073,9 @@ fn record_of_a_refused_opening() {
             |s, _| s.connection.bindings[0].updated = 1,
             |s, _| s.buffer[1027] = 1,
             |s, _| s.buffer[1031] = 1,
+            |s, _| s.sending.defined = 1,
+            |s, _| s.sending.sent = 1,
+            |s, _| s.sending.last = 1,
             |_, t| t.tables[0].held = 2,
         ],
     );
@@ -1028,4 +1097,8 @@ fn methods_on_what_is_not_sound() {
     assert_eq!(state.session.closed_with(), None);
     assert_eq!(state.session.current(), Some(u32::MAX as usize - 1));
     assert_eq!(state.session.unfinished().len(), 1027);
+    let sending = &mut state.session.layout_mut().sending;
+    (sending.defined, sending.sent) = (usize::MAX, 256 + 1);
+    assert_eq!(state.session.defined(), Some(usize::MAX - 1));
+    assert_eq!(state.session.last_sent(), None);
 }

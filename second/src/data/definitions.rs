@@ -1,8 +1,9 @@
 //! Scripts of definitions: key types and names.
 
 use super::scripts::{shape, Script, HELLO};
+use crate::frame::table_message;
 use crate::generate::values::Shape;
-use crate::generate::wire::{self, table_message, Message};
+use crate::generate::wire::{self, Message};
 use crate::generate::wire::{FAR_FROM_PLAIN, KEY_TYPE, NAME, NEXT_TO_PLAIN};
 use crate::integer::encode;
 use crate::message::DEFINITION;

@@ -3,7 +3,9 @@
 mod counts;
 mod definitions;
 mod scripts;
+mod sending;
 mod times;
+mod whole_stores;
 
 use crate::generate::{capture, script};
 use crate::listing::listing;

@@ -1,9 +1,10 @@
 //! Scripts that go through the limits one by one.
 
-use super::{counts, definitions, times};
+use super::{counts, definitions, sending, times};
 use crate::datatype;
+use crate::frame::table_message;
 use crate::generate::values::Shape;
-use crate::generate::wire::{self, table_message, Field, Message};
+use crate::generate::wire::{self, Field, Message};
 use crate::integer::encode;
 use crate::record::Role;
 use crate::replay::Command;
@@ -40,13 +41,14 @@ pub fn all() -> Vec<(&'static str, Vec<u8>)> {
         ("full", full()),
         ("times", times::times()),
         ("counts", counts::counts()),
+        ("sending", sending::sending()),
     ];
     list.extend(ends());
     list
 }
 
 /// Scripts that end early, with their names.
-fn ends() -> [(&'static str, Vec<u8>); 11] {
+fn ends() -> [(&'static str, Vec<u8>); 15] {
     [
         ("end-empty", b"".to_vec()),
         ("end-unknown", b"O\0XD".to_vec()),
@@ -54,12 +56,22 @@ fn ends() -> [(&'static str, Vec<u8>); 11] {
         ("end-call-first", b"C\x0C\0\0O\0".to_vec()),
         ("end-dump-first", b"DO\0".to_vec()),
         ("end-time-first", b"T\0\0\0\0O\0".to_vec()),
+        ("end-definition-first", b"P\0\0\0\0\0\x04\x0CO\0".to_vec()),
+        ("end-entry-first", b"E\0\0\0\0\0\x04\x0CO\0".to_vec()),
         ("end-cut-open", b"O\0O".to_vec()),
         ("end-cut-reconnection", b"O\x01N".to_vec()),
         ("end-cut-call", b"O\0C\x0C\0".to_vec()),
         ("end-cut-time", b"O\0T\0\0\0\x01T\0\0\0".to_vec()),
+        ("end-cut-definition", cut_sending(b'P')),
+        ("end-cut-entry", cut_sending(b'E')),
         ("end-cut-piece", b"O\0C\x0C\0\x05HAPr".to_vec()),
     ]
+}
+
+/// A script with a whole sending command and one without its last byte.
+fn cut_sending(letter: u8) -> Vec<u8> {
+    let command = [letter, 0, 0, 0, 0, 1, 4, 0x0C];
+    [b"O\0", &command[..], &command[..7]].concat()
 }
 
 /// A script under way.

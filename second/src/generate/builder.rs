@@ -9,8 +9,9 @@ use super::profile::{Operation, Profile};
 use super::random::Random;
 use super::times;
 use super::values::{self, shape, table_id, table_name, update_id, Shape};
-use super::wire::{self, table_message, Message};
+use super::wire::{self, Message};
 use crate::datatype::{self, MAX_32};
+use crate::frame::table_message;
 use crate::model::feed;
 use crate::record::Record;
 use crate::store::{Store, Times, TABLES};
@@ -34,6 +35,14 @@ pub struct Built {
     pub bytes: Vec<u8>,
     /// The times that pass, each with the number of bytes before it.
     pub passes: Vec<(usize, u32)>,
+}
+
+impl Built {
+    /// Bytes without passing time.
+    pub fn plain(bytes: Vec<u8>) -> Built {
+        let passes = Vec::new();
+        Built { bytes, passes }
+    }
 }
 
 /// Builds one session that starts from this record and store.

@@ -75,13 +75,20 @@ pub struct Script {
 impl Script {
     /// A script that opens its first session.
     pub fn new(role: Role) -> Script {
-        let mut bytes = Vec::new();
-        Command::Open(role).write(&mut bytes);
-        Script {
-            bytes,
-            record: session(role).0,
+        let mut script = Script {
+            bytes: Vec::new(),
+            record: Record::default(),
             store: Store::new(),
-        }
+        };
+        script.open(role);
+        script
+    }
+
+    /// Opens a new session on an empty store.
+    pub fn open(&mut self, role: Role) {
+        Command::Open(role).write(&mut self.bytes);
+        self.record = session(role).0;
+        self.store = Store::new();
     }
 
     /// Opens a new session on the store.
@@ -167,7 +174,8 @@ impl Script {
         Command::Call { room, piece }.write(&mut self.bytes);
     }
 
-    /// Sometimes adds a refused call, an empty piece, a passing call or a dump.
+    /// Sometimes adds a refused call, an empty piece, a passing call, sending
+    /// calls or a dump.
     fn interrupt(&mut self, random: &mut Random, profile: &Profile, rest: &[u8]) {
         if random.chance(25) {
             let count = random.below(12).min(rest.len());
@@ -180,12 +188,15 @@ impl Script {
         if random.chance(profile.passes / 10) {
             self.pass_any(random);
         }
+        if random.chance(profile.sends) {
+            self.transmit_some(random);
+        }
         if random.chance(profile.dumps) {
             self.dump();
         }
     }
 
-    /// Sometimes adds calls after the session, passing ones too.
+    /// Sometimes adds calls after the session, passing and sending ones too.
     fn afterwards(&mut self, random: &mut Random, rest: &[u8]) {
         if !self.record.is_closed() || random.chance(500) {
             return;
@@ -197,6 +208,9 @@ impl Script {
         }
         if random.chance(300) {
             self.pass_any(random);
+        }
+        if random.chance(150) {
+            self.transmit_some(random);
         }
     }
 

@@ -6,14 +6,17 @@ pub mod faults;
 pub mod greetings;
 pub mod profile;
 pub mod random;
+pub mod sends;
 pub mod times;
 pub mod values;
 pub mod wire;
 
-use crate::record::Role;
+use crate::record::{Phase, Role};
 use crate::replay::session;
 use crate::store::Store;
+use builder::Built;
 use calls::Script;
+use greetings::greeting;
 use profile::Profile;
 use random::Random;
 
@@ -26,7 +29,8 @@ pub fn script(seed: u64, count: u64) -> Vec<u8> {
     seeds.flat_map(stream).collect()
 }
 
-/// The stream of one seed: one or more sessions on one store, and a dump.
+/// The stream of one seed: one or more sessions on one store, sometimes a
+/// session on another store that is taught all of it, and a dump.
 pub fn stream(seed: u64) -> Vec<u8> {
     let mut random = Random::new(seed);
     let profile = Profile::choose(&mut random);
@@ -38,6 +42,9 @@ pub fn stream(seed: u64) -> Vec<u8> {
         }
         reconnect(&mut random, &mut script);
         one_session(&mut random, &profile, &mut script);
+    }
+    if random.chance(profile.taught) {
+        teach(&mut random, &profile, &mut script);
     }
     script.dump();
     script.bytes
@@ -58,6 +65,32 @@ fn reconnect(random: &mut Random, script: &mut Script) {
         script.pass_any(random);
     }
     script.reconnect(role(random));
+}
+
+/// Teaches a whole store: sends all that it holds, then reads it in a session
+/// on an empty store. Time doesn't pass meanwhile.
+fn teach(random: &mut Random, profile: &Profile, script: &mut Script) {
+    let calm = Profile {
+        passes: 0,
+        ..profile.clone()
+    };
+    if script.record.phase != Phase::Open {
+        script.reconnect(role(random));
+        greet(random, &calm, script);
+    }
+    let messages = script.transmit_all(random);
+    if random.chance(300) {
+        script.dump();
+    }
+    script.open(role(random));
+    greet(random, &calm, script);
+    script.send(random, &calm, &Built::plain(messages));
+}
+
+/// Adds an accepted handshake.
+fn greet(random: &mut Random, profile: &Profile, script: &mut Script) {
+    let bytes = greeting(random, script.record.role, false);
+    script.send(random, profile, &Built::plain(bytes));
 }
 
 /// A role; most sessions are an answerer's.

@@ -65,6 +65,10 @@ pub struct Profile {
     pub timed: usize,
     /// The chance that time passes before a message.
     pub passes: usize,
+    /// The chance of sending calls before a reading call.
+    pub sends: usize,
+    /// The chance that the store is taught to another one in the end.
+    pub taught: usize,
 }
 
 impl Profile {
@@ -98,6 +102,8 @@ impl Profile {
             dumps: 15,
             timed: 400,
             passes: 60,
+            sends: 25,
+            taught: 15,
         }
     }
 
@@ -114,6 +120,8 @@ impl Profile {
             dumps: 8,
             timed: 400,
             passes: 50,
+            sends: 20,
+            taught: 60,
         }
     }
 
@@ -130,6 +138,8 @@ impl Profile {
             dumps: 8,
             timed: 400,
             passes: 60,
+            sends: 20,
+            taught: 60,
         }
     }
 
@@ -146,6 +156,8 @@ impl Profile {
             dumps: 8,
             timed: 500,
             passes: 100,
+            sends: 20,
+            taught: 60,
         }
     }
 
@@ -162,6 +174,8 @@ impl Profile {
             dumps: 8,
             timed: 600,
             passes: 250,
+            sends: 20,
+            taught: 60,
         }
     }
 
@@ -178,6 +192,8 @@ impl Profile {
             dumps: 0,
             timed: 450,
             passes: 4,
+            sends: 8,
+            taught: 250,
         }
     }
 }

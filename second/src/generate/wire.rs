@@ -3,7 +3,7 @@
 use super::random::Random;
 use super::values::Shape;
 use crate::datatype;
-use crate::frame::TABLE_CLASS;
+use crate::frame::table_message;
 use crate::integer::encode;
 use crate::message::{ACKNOWLEDGEMENT, DEFINITION, SWITCH};
 use crate::message::{INCREMENTAL, TIMED, TIMED_INCREMENTAL, UPDATE};
@@ -201,14 +201,6 @@ impl Message {
         other.fields[place].good = bytes;
         other
     }
-}
-
-/// A table message with this type and body.
-pub fn table_message(kind: u8, body: &[u8]) -> Vec<u8> {
-    let mut bytes = vec![TABLE_CLASS, kind];
-    bytes.extend(encode(body.len() as u64));
-    bytes.extend_from_slice(body);
-    bytes
 }
 
 /// A definition.

@@ -7,6 +7,7 @@ use second::model::feed;
 use second::record::{Record, Role};
 use second::refusal::Refusal;
 use second::store::{Entry, Store, Table, Times};
+use std::collections::BTreeMap;
 
 /// The bytes of the listing's example.
 pub const EXAMPLE: &[u8] = b"HAProxyS 2.1\neast\nwest 7 0\n\
@@ -119,6 +120,39 @@ impl Session {
     pub fn entries(&self) -> Vec<&Entry> {
         self.store.entries.iter().flatten().collect()
     }
+}
+
+/// What a table holds: its definition, and its values and times by key.
+type Held = (Table, BTreeMap<Vec<u8>, (Vec<u64>, Option<u64>)>);
+
+/// What a store holds by table name, places apart.
+pub fn contents(store: &Store) -> BTreeMap<Vec<u8>, Held> {
+    let mut contents = BTreeMap::new();
+    for (place, table) in store.tables.iter().enumerate() {
+        let Some(table) = table else {
+            continue;
+        };
+        let entries = store.entries.iter().flatten();
+        let own = entries.filter(|entry| entry.table == place);
+        let pair = |entry: &Entry| {
+            let held = (entry.values.clone(), entry.remaining);
+            (entry.key().to_vec(), held)
+        };
+        contents.insert(table.name.clone(), (table.clone(), own.map(pair).collect()));
+    }
+    contents
+}
+
+/// A store as one that is taught it has it, but for places: an entry without
+/// remaining time has its table's expiry, if any.
+pub fn taught(store: &Store) -> Store {
+    let mut taught = store.clone();
+    for entry in taught.entries.iter_mut().flatten() {
+        let table = store.tables[entry.table].as_ref().unwrap();
+        let expiry = table.times.as_ref().map(|times| times.expiry);
+        entry.remaining = entry.remaining.or(expiry);
+    }
+    taught
 }
 
 /// Frees an entry place and lowers its table's count.

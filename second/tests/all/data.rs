@@ -39,7 +39,7 @@ fn the_stored_files_are_those_of_the_program() {
 #[test]
 fn the_stored_data_is_of_moderate_size() {
     let size: usize = files().iter().map(|file| file.content.len()).sum();
-    assert!(size < 3_300_000, "{size}");
+    assert!(size < 3_800_000, "{size}");
 }
 
 #[test]

@@ -1,6 +1,7 @@
 //! What the generated streams reach.
 
 use crate::passing::{self, Passing, Times};
+use crate::sends::Sends;
 use second::answer::{Answer, Commit, Outcome};
 use second::call::{pass_time, read};
 use second::datatype;
@@ -50,6 +51,7 @@ struct Seen {
     unfinished: BTreeMap<(u8, u8), BTreeSet<usize>>,
     handshakes: BTreeMap<u8, BTreeSet<usize>>,
     passing: Passing,
+    sends: Sends,
 }
 
 /// The name of an answer.
@@ -117,12 +119,16 @@ impl Seen {
         let mut rest = script;
         let mut last = "";
         while let Some((command, after)) = command(rest) {
+            if let Command::Open(_) = command {
+                self.sends.open(last.is_empty(), &store);
+            }
             last = self.command(&mut record, &mut store, command, last);
             let held = store.entries.iter().flatten().count();
             assert_eq!(store.counts.iter().sum::<u64>(), held as u64);
             rest = after;
         }
         assert_eq!(rest, []);
+        self.sends.end(&record, &store);
     }
 
     /// Carries out a command and gives the name of what it did.
@@ -148,6 +154,10 @@ impl Seen {
             Command::Pass(time) => {
                 self.pass(record, store, time);
                 "passing"
+            }
+            Command::Send(sending) => {
+                self.sends.make(sending, record, store);
+                "sending"
             }
             Command::Dump => {
                 self.passing.dump(last, store);
@@ -176,6 +186,7 @@ impl Seen {
         let times_before = times(store);
         let remaining_before = passing::times(store);
         let outcome = read(record, store, piece, &mut vec![0; usize::from(room)]);
+        assert_eq!((record.defined, record.sent), (before.defined, before.sent));
         self.rooms.insert(room);
         self.empty_pieces += u32::from(piece.is_empty());
         self.longest_piece = self.longest_piece.max(piece.len());
@@ -365,6 +376,7 @@ fn the_streams_reach_all_rules() {
     reaches_all_name_bytes(&seen);
     reaches_all_update_refusals(&seen);
     seen.passing.reaches_all();
+    seen.sends.reaches_all();
     reaches_all_divisions(&seen);
 }
 

@@ -137,7 +137,7 @@ impl Passing {
 }
 
 /// What streams reach besides the forms of updates.
-const ALL: [&str; 23] = [
+const ALL: [&str; 24] = [
     "passing in the handshake",
     "passing between messages",
     "passing inside a message",
@@ -160,6 +160,7 @@ const ALL: [&str; 23] = [
     "dump after refused",
     "dump after table",
     "dump after passing",
+    "dump after sending",
     "dump after opening",
 ];
 

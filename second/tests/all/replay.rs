@@ -1,8 +1,8 @@
 //! The replay script.
 
-use crate::common::{definition, message, timed, update, EXAMPLE, HELLO};
+use crate::common::{definition, message, timed, update, Session, EXAMPLE, HELLO};
 use second::record::Role;
-use second::replay::{command, replay, Command};
+use second::replay::{command, dump, replay, Command, Item, Sending};
 
 fn text(script: &[u8]) -> String {
     String::from_utf8(replay(script)).unwrap()
@@ -12,6 +12,24 @@ fn text(script: &[u8]) -> String {
 fn call(room: u8, piece: &[u8]) -> Vec<u8> {
     let mut script = Vec::new();
     Command::Call { room, piece }.write(&mut script);
+    script
+}
+
+/// A sending call with the smallest room that is large enough.
+fn send(item: Item, place: u8, id: u32) -> Vec<u8> {
+    send_to(1036, item, place, id)
+}
+
+/// A sending call with this room.
+fn send_to(room: u16, item: Item, place: u8, id: u32) -> Vec<u8> {
+    let mut script = Vec::new();
+    let sending = Sending {
+        item,
+        place,
+        id,
+        room,
+    };
+    Command::Send(sending).write(&mut script);
     script
 }
 
@@ -27,6 +45,10 @@ fn commands_as_bytes() {
     assert_eq!(call(200, b"abc"), b"C\xC8\0\x03abc");
     let long = vec![9; 300];
     assert_eq!(call(0, &long)[..4], *b"C\0\x01\x2C");
+    let definition = send(Item::Definition, 7, 0x01020304);
+    assert_eq!(definition, b"P\x07\x01\x02\x03\x04\x04\x0C");
+    let entry = send_to(65535, Item::Entry, 127, 1);
+    assert_eq!(entry, b"E\x7F\0\0\0\x01\xFF\xFF");
     let commands = [
         Command::Open(Role::Caller),
         Command::Reconnect(Role::Answerer),
@@ -35,6 +57,18 @@ fn commands_as_bytes() {
             piece: &long,
         },
         Command::Pass(0x01020304),
+        Command::Send(Sending {
+            item: Item::Definition,
+            place: 255,
+            id: 0x01020304,
+            room: 0xFFFE,
+        }),
+        Command::Send(Sending {
+            item: Item::Entry,
+            place: 128,
+            id: 0xFFFEFDFC,
+            room: 0x0102,
+        }),
         Command::Dump,
     ];
     for original in commands {
@@ -72,12 +106,14 @@ fn scripts_that_end() {
         b"D",
         b"T\0\0\0\0",
         b"C\x0C\0\0",
+        b"P\0\0\0\0\x01\x04\x0C",
+        b"E\0\0\0\0\x01\x04\x0C",
         b"\0",
         b"o\0",
     ] {
         assert_eq!(text(script), "end\n");
     }
-    let cut: [&[u8]; 11] = [
+    let cut: [&[u8]; 15] = [
         b"",
         b"C",
         b"C\x0C",
@@ -89,6 +125,10 @@ fn scripts_that_end() {
         b"T",
         b"T\0\0\0",
         b"t\0\0\0\0",
+        b"P",
+        b"P\0\0\0\0\x01\x04",
+        b"E\0\0\0\0\x01\x04",
+        b"e\0\0\0\0\x01\x04\x0C",
     ];
     for end in cut {
         let script = [b"O\0", end].concat();
@@ -128,14 +168,15 @@ fn calls() {
 fn dumps_of_empty_sessions() {
     assert_eq!(
         text(b"O\0D"),
-        "open\nsession handshake\nunfinished -\ncurrent -\ncounts 0 0 0 0 0 0 0 0\nend\n"
+        "open\nsession handshake\nunfinished -\ncurrent -\ndefined -\nsent -\ncounts 0 0 0 0 0 0 0 0\nend\n"
     );
     let script = [&open()[..], b"D"].concat();
-    let expected = "session open\nunfinished -\ncurrent -\ncounts 0 0 0 0 0 0 0 0\nend\n";
+    let expected =
+        "session open\nunfinished -\ncurrent -\ndefined -\nsent -\ncounts 0 0 0 0 0 0 0 0\nend\n";
     assert_eq!(text(&script), format!("{OPENED}{expected}"));
     let script = [&open()[..], &call(12, &[1, 0]), b"D"].concat();
     let expected =
-        "took 2\nerror 0\nsession closed 0\nunfinished -\ncurrent -\ncounts 0 0 0 0 0 0 0 0\nend\n";
+        "took 2\nerror 0\nsession closed 0\nunfinished -\ncurrent -\ndefined -\nsent -\ncounts 0 0 0 0 0 0 0 0\nend\n";
     assert_eq!(text(&script), format!("{OPENED}{expected}"));
 }
 
@@ -163,10 +204,14 @@ fn a_dump_with_all_lines() {
     for message in &messages {
         script.extend(call(12, message));
     }
+    script.extend(send(Item::Definition, 1, 7));
+    script.extend(send(Item::Entry, 2, 4294967295));
     script.push(b'D');
     let expected = "session open
 unfinished 0A8005AB
 current 2
+defined 1
+sent 4294967295
 bound 0 300
 previous 0 5
 bound 1 1
@@ -196,6 +241,8 @@ fn a_closed_session_keeps_its_tables_and_ids() {
     let expected = "session closed 20
 unfinished -
 current 0
+defined -
+sent -
 bound 0 1
 previous 0 4294967295
 table 0 7431 2 4 4 60000
@@ -216,6 +263,8 @@ fn a_reconnection_keeps_the_store() {
     let expected = "session handshake
 unfinished -
 current -
+defined -
+sent -
 table 0 7431 2 4 4 60000
 counts 1 0 0 0 0 0 0 0
 entry 0 0 0000002A T60000 4660
@@ -223,7 +272,7 @@ end
 ";
     assert_eq!(last_dump(&script), expected);
     script.extend(b"O\0D");
-    let expected = "session handshake\nunfinished -\ncurrent -\ncounts 0 0 0 0 0 0 0 0\nend\n";
+    let expected = "session handshake\nunfinished -\ncurrent -\ndefined -\nsent -\ncounts 0 0 0 0 0 0 0 0\nend\n";
     assert_eq!(last_dump(&script), expected);
 }
 
@@ -239,7 +288,7 @@ fn passing_time() {
         let passed = output.rfind("passed ").unwrap();
         output[passed..].to_owned()
     };
-    let rest = "session open\nunfinished -\ncurrent 0\nbound 0 1\nprevious 0 4294967295\n\
+    let rest = "session open\nunfinished -\ncurrent 0\ndefined -\nsent -\nbound 0 1\nprevious 0 4294967295\n\
         table 0 7431 2 4 4 60000\n";
     let entry = "counts 1 0 0 0 0 0 0 0\nentry 0 0 0000002A T1 4660";
     let expected = format!("passed 0\n{rest}{entry}\nend\n");
@@ -262,4 +311,64 @@ fn time_passes_in_every_phase() {
     assert!(last_dump(&script).contains("\nentry 0 0 0000002A T59997 4660\n"));
     script.extend(b"N\0T\0\0\0\x03D");
     assert!(last_dump(&script).contains("\nentry 0 0 0000002A T59994 4660\n"));
+}
+
+#[test]
+fn sending_calls() {
+    let mut script = open();
+    for piece in [&EXAMPLE[27..40], &EXAMPLE[40..54]] {
+        script.extend(call(12, piece));
+    }
+    let start = text(&script).len() - "end\n".len();
+    script.extend(send(Item::Entry, 0, 9));
+    script.extend(send(Item::Definition, 0, 300));
+    script.extend(send_to(1035, Item::Entry, 0, 9));
+    script.extend(send_to(65535, Item::Entry, 0, 4294967295));
+    script.extend(send(Item::Entry, 0, 0));
+    script.extend(send(Item::Entry, 1, 1));
+    script.extend(send(Item::Definition, 1, 300));
+    script.extend(send(Item::Entry, 0, 0));
+    script.extend(b"T\0\0\xEA\x60");
+    script.extend(send(Item::Entry, 0, 1));
+    script.extend(b"D");
+    script.extend(call(12, &[1, 0]));
+    script.extend(send(Item::Definition, 0, 300));
+    script.extend(b"DN\0");
+    script.extend(send(Item::Definition, 0, 300));
+    script.extend(b"D");
+    let dump = |phase: &str, current: &str, sent: &str, ids: &str| {
+        format!(
+            "session {phase}\nunfinished -\ncurrent {current}\n{sent}\n{ids}\
+            table 0 7431 2 4 4 60000\ncounts 0 0 0 0 0 0 0 0\n"
+        )
+    };
+    let ids = "bound 0 1\nprevious 0 4294967295\n";
+    let expected = "refused 32\n\
+        sent 0A820BFC03027431020404F0971C\n\
+        refused 31\n\
+        sent 0A850FFFFFFFFF0000EA600000002AF49401\n\
+        sent 0A860B0000EA600000002AF49401\n\
+        refused 32\n\
+        refused 32\n\
+        sent 0A850F000000000000EA600000002AF49401\n\
+        passed 0\n\
+        refused 32\n"
+        .to_owned()
+        + &dump("open", "0", "defined 0\nsent 0", ids)
+        + "took 2\nerror 0\nrefused 2\n"
+        + &dump("closed 0", "0", "defined 0\nsent 0", ids)
+        + "open\nrefused 34\n"
+        + &dump("handshake", "-", "defined -\nsent -", "")
+        + "end\n";
+    assert_eq!(text(&script)[start..], expected);
+}
+
+#[test]
+fn a_last_id_without_a_table_is_dumped() {
+    let mut session = Session::open();
+    session.record.sent = Some(9);
+    let mut output = Vec::new();
+    dump(&session.record, &session.store, &mut output);
+    let output = String::from_utf8(output).unwrap();
+    assert!(output.contains("\ncurrent -\ndefined -\nsent 9\ncounts "));
 }

@@ -275,7 +275,7 @@ fn distinct_entries() {
 
 type RecordRow = fn(&Record, &Store) -> bool;
 
-const RECORD_ROWS: [(&str, RecordRow); 11] = [
+const RECORD_ROWS: [(&str, RecordRow); 12] = [
     ("number", |record, _| closing_number_is_known(record)),
     ("names", |record, _| both_names_are_names(record)),
     ("bound range", |record, _| bound_ids_are_32_bit(record)),
@@ -287,6 +287,7 @@ const RECORD_ROWS: [(&str, RecordRow); 11] = [
     ("current held", current_table_is_held),
     ("current bound", |record, _| current_table_is_bound(record)),
     ("bound twice", |record, _| bound_ids_are_distinct(record)),
+    ("defined held", defined_table_is_held),
     ("closed", |record, _| closed_has_no_unfinished(record)),
     ("unfinished", |record, _| unfinished_shows_nothing(record)),
 ];
@@ -365,6 +366,33 @@ fn current_marks() {
         record.current = Some(8)
     });
     record_case(&["current bound"], |record| record.bound[0] = None);
+}
+
+#[test]
+fn tables_defined_last() {
+    for place in 0..3 {
+        record_case(&[], |record| record.defined = Some(place));
+    }
+    for place in [3, 7, 8, 128, usize::MAX] {
+        record_case(&["defined held"], |record| record.defined = Some(place));
+        record_case(&["defined held"], |record| {
+            record.phase = Phase::Closed(0);
+            record.defined = Some(place);
+        });
+    }
+    // It may have no ID of the peer's.
+    record_case(&[], |record| {
+        record.defined = Some(1);
+        record.bound[1] = None;
+        record.previous[1] = None;
+    });
+    for id in [0, u32::MAX] {
+        record_case(&[], |record| record.sent = Some(id));
+        record_case(&[], |record| {
+            record.defined = Some(1);
+            record.sent = Some(id);
+        });
+    }
 }
 
 #[test]
@@ -457,12 +485,14 @@ fn refused_openings() {
         assert!(is_refused_opening(&record));
         assert!(is_sound(&record, &store));
         assert!(is_sound(&record, &Store::new()));
-        let changes: [fn(&mut Record); 5] = [
+        let changes: [fn(&mut Record); 7] = [
             |record| record.our_name = b"east".to_vec(),
             |record| record.role = Role::Caller,
             |record| record.unfinished = vec![0],
             |record| record.current = Some(0),
             |record| record.bound[0] = Some(0),
+            |record| record.defined = Some(0),
+            |record| record.sent = Some(0),
         ];
         for change in changes {
             let mut changed = record.clone();

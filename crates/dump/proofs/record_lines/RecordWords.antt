@@ -15,7 +15,7 @@ use Rattle.text.specs.Text.{hexOrNone, spaced, line}
 use Rattle.text.specs.Room.{Wrote}
 use Rattle.text.proofs.Rooms.{joined, retold}
 use Rattle.text.proofs.LineWords.{line-of}
-use Rattle.dump.specs.RecordLines.{phaseLine, unfinishedLine, currentLine, bindingsLines, recordLines}
+use Rattle.dump.specs.RecordLines.{phaseLine, unfinishedLine, currentLine, sendingLines, bindingsLines, recordLines}
 
 pub unfinished-part : {room x : List ℕ} {at k : ℕ} (s : Session) (n : ℕ) → length (s .buffer) ≡ 1032 → n ≡ length (unfinished s)
     → Wrote room at (spaced (hexOrNone (take n (s .buffer)) ∷ [])) x k → Wrote room at (spaced (hexOrNone (unfinished s) ∷ [])) x k
@@ -46,10 +46,8 @@ not-zero (suc n) f = omega arith
 pub ruleset currents = (needs, unfinished-is, no-current, current-at, not-zero)
 
 -- ---- the record
-pub record-is : (s : Session) {room x y z u : List ℕ} {at k m n o : ℕ}
+pub record-is : (s : Session) {room x y z u v : List ℕ} {at k m n o i : ℕ}
     → Wrote room at (phaseLine (s .connection)) x k → Wrote x k (unfinishedLine s) y m → Wrote y m (currentLine (s .connection)) z n
-    → Wrote z n (bindingsLines 0 (s .connection .bindings)) u o → Wrote room at (recordLines s) u o
+    → Wrote z n (sendingLines (s .sending)) u o → Wrote u o (bindingsLines 0 (s .connection .bindings)) v i → Wrote room at (recordLines s) v i
 unfolding recordLines
-record-is s p q r t = joined p (joined q (joined r t))
-
-pub ruleset records = (needs, record-is)
+record-is s p q r t w = joined p (joined q (joined r (joined t w)))

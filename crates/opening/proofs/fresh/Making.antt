@@ -9,14 +9,15 @@ use Rattle.lists.specs.Lists.{padTo}
 use Rattle.lists.proofs.Cases.{and-true, and-false}
 use Rattle.lists.proofs.Bytes.{pad-nil}
 use Rattle.handshake.specs.Handshake.{nameOk}
+use Rattle.session.specs.declared.Sending.{Sending}
 use Rattle.session.specs.declared.Session.{Session}
-use Rattle.session.specs.Session.{holding, noBinding}
+use Rattle.session.specs.Session.{holding, nothingSent, noBinding}
 use Rattle.session.proofs.Basics.{blank, told}
 use Rattle.opening.specs.New.{newConnection}
 
 -- ---- a session
 
-pub session-made : (phase closed number : ℕ) (local remote ours theirs : List ℕ) → ours ≡ padTo 32 local → theirs ≡ padTo 32 remote
+pub session-made : (phase closed number : ℕ) (local remote ours theirs : List ℕ) (sending : Sending) → ours ≡ padTo 32 local → theirs ≡ padTo 32 remote → sending ≡ nothingSent
     → _≡_ {A = Session}
     (record {
       connection = record {
@@ -32,10 +33,11 @@ pub session-made : (phase closed number : ℕ) (local remote ours theirs : List 
       };
       len = 0;
       buffer = replicate 1032 0;
+      sending = sending;
     })
-    (holding (newConnection phase closed number local remote) [])
+    (holding nothingSent (newConnection phase closed number local remote) [])
 unfolding holding newConnection noBinding
-session-made phase closed number local remote ours theirs e f = rw (e, f, pad-nil 1032)
+session-made phase closed number local remote ours theirs sending e f g = rw (e, f, g, pad-nil 1032)
 
 -- ---- names
 

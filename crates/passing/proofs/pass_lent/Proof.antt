@@ -49,10 +49,10 @@ use Rattle.store.proofs.Store as T
 use Rattle.store.proofs.Store.Laws as T′
 use Rattle.store_scan.proofs.Items.{lends-plain, plain-back}
 use Rattle.passing.proofs.Promising.{stays-as, passes-to}
-use Rattle.passing.proofs.store_ok as testing
-use Rattle.passing.proofs.store_ok.Symbol as testing-def
-use Rattle.passing.proofs.store_ok.Symbol.{name as #store-ok}
-use Rattle.passing.proofs.store_ok.Met as testing-thm
+use Rattle.store_scan.proofs.store_ok as testing
+use Rattle.store_scan.proofs.store_ok.Symbol as testing-def
+use Rattle.store_scan.proofs.store_ok.Symbol.{name as #store-ok}
+use Rattle.store_scan.proofs.store_ok.Met as testing-thm
 use Rattle.passing.proofs.pass_entries as passing
 use Rattle.passing.proofs.pass_entries.Symbol as passing-def
 use Rattle.passing.proofs.pass_entries.Symbol.{name as #pass-entries}
@@ -222,5 +222,5 @@ pass-lent-spec 𝓤 H 𝓜 𝓖 𝓡 =
     entered 𝓤 H (tripleOf 𝓤 H (𝓖 .A) fn.signature (fn.spec 𝓤 H (𝓖 .A) (𝓜 .mem) (𝓡 .run)))
     (tables 𝓤 H 𝓜 𝓡 code.env .C) (tables 𝓤 H 𝓜 𝓡 code.env .Λ) #fn code.function (code.unfolded 𝓤 H 𝓜 𝓡)
     (fn-meets 𝓤 H (𝓖 .A) (givenOf 𝓤 H 𝓜 𝓖) (𝓜 .mem) (𝓡 .run) (tablesOf 𝓤 H 𝓜 (tables 𝓤 H 𝓜 𝓡 code.env))
-    (cited 𝓤 H (Test 𝓤 H (𝓖 .A) (𝓜 .mem) (𝓡 .run)) 𝓜 𝓡 code.env #store-ok testing-def.routine code.calls-passing·store-ok (testing-thm.met 𝓤 H 𝓜 𝓖 𝓡))
+    (cited 𝓤 H (Test 𝓤 H (𝓖 .A) (𝓜 .mem) (𝓡 .run)) 𝓜 𝓡 code.env #store-ok testing-def.routine code.calls-store-scan·store-ok (testing-thm.met 𝓤 H 𝓜 𝓖 𝓡))
     (cited 𝓤 H (Passing 𝓤 H (𝓖 .A) (𝓜 .mem) (𝓡 .run)) 𝓜 𝓡 code.env #pass-entries passing-def.routine code.calls-passing·pass-entries (passing-thm.met 𝓤 H 𝓜 𝓖 𝓡)))

@@ -6,6 +6,7 @@ use lib.ListN.{length}
 use Rattle.store.specs.declared.Entry.{Entry}
 use Rattle.store.specs.declared.Store.{Store}
 use Rattle.session.specs.declared.Connection.{Connection}
+use Rattle.session.specs.declared.Sending.{Sending}
 use Rattle.session.specs.Answers.{replyOf}
 use Rattle.message.specs.Effects.{Effect, Asks, done}
 use Rattle.message.specs.Structs.{effectStruct}
@@ -19,9 +20,9 @@ unfolding done asksOf effectOf doneOf
 done-effect c entries waiting = refl
 done-effect c entries (settled a) = refl
 
-pub gives-made : (t : Store) (count : ℕ) (e : Effect) (r : StepChange) → r ≡ gives count (effectStruct e) → applied t r ≡ answers count t e
+pub gives-made : (t : Store) (k : Sending) (count : ℕ) (e : Effect) (r : StepChange) → r ≡ gives k count (effectStruct e) → applied t r ≡ answers k count t e
 unfolding applied gives answers effectStruct replyOf
-gives-made t count e r q = ap (applied t) q
+gives-made t k count e r q = ap (applied t) q
 
 pub gives-replied : (e : Effect) (room final : List ℕ) → final ≡ replied (effectStruct e .reply) room → final ≡ replied (replyOf (e .reply)) room
 unfolding effectStruct

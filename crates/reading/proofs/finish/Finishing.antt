@@ -6,7 +6,10 @@ use mathlib.Core.Bool.{Bool, true, false, not, cond, _&&_}
 use mathlib.Core.List.{List}
 use lib.ListN.{length, getD, take, set}
 use lib.Dec.{eqb, ltb}
+use mir.Val.{Val}
 use borrow.Author.Needs.{needs}
+use denote.Laws.{Is}
+use denote.Struct.Declared.{row}
 use borrow.Author.Tests.{eq-eqb, ne-eqb, lt-ltb, le-ltb, eqb-true, eqb-false, ltb-true, ltb-false, not-true, not-false}
 use Rattle.lists.proofs.Prefix.{shorter-bytes}
 use Rattle.lists.specs.Lists.{allOf, every, distinct}
@@ -22,6 +25,7 @@ use Rattle.store.proofs.Lookup.{blankEntry, Keys}
 use Rattle.store.proofs.Counting.{right-counts}
 use Rattle.lists.proofs.Every.{getD-any}
 use Rattle.session.specs.declared.Connection.{Connection}
+use Rattle.session.specs.declared.Sending.{Sending}
 use Rattle.session.specs.declared.Session.{Session}
 use Rattle.session.specs.declared.Answer.{Answer}
 use Rattle.session.specs.declared.Answer.the-variants as answer
@@ -35,6 +39,7 @@ use Rattle.message.specs.Effects.{Asks}
 use Rattle.message.specs.Structs.{effectStruct, asked, finished}
 use Rattle.reassembly.specs.Judge.{judgeBytes, asksOf, effectOf, judge}
 use Rattle.reassembly.specs.declared.Taken.{Taken}
+use Rattle.reassembly.proofs.Taken as taken-type
 use Rattle.message.specs.Targets.{goesTo}
 use Rattle.message.proofs.commit.Targets.{finished-done}
 use Rattle.reading.specs.declared.results.StepChange.{StepChange}
@@ -157,21 +162,24 @@ module _ (s : Session) (x : Started) (y : Scanned) (room : List ℕ) where
             unfolding endOf
             by-ended = past _ ∙ (open-past _ ∙ cond-false _ _ _ (ne-eqb (x .taken .count) 0 n))
 
-            pub ends-waiting : (r : StepChange) → x .taken .ended ≡ false → r ≡ waits (s .connection) (takenBytes (x .taken)) (x .taken .count) → Ended r room
+            pub ends-waiting : (r : StepChange) → x .taken .ended ≡ false → r ≡ waits (s .sending) (s .connection) (takenBytes (x .taken)) (x .taken .count) → Ended r room
             unfolding endStep endRoom
             ends-waiting r z e = rw (by-ended ∙ cond-false _ _ _ z) (e, refl)
 
             pub ends-answered : x .taken .ended ≡ true → (m : EffectStruct) → m ≡ finished (s .connection) (y .place) (x .asked) → (r : StepChange) (final : List ℕ)
-                → r ≡ gives (x .taken .count) m → final ≡ replied (m .reply) room → Ended r final
+                → r ≡ gives (s .sending) (x .taken .count) m → final ≡ replied (m .reply) room → Ended r final
             unfolding endStep endRoom
             ends-answered z m d r final e w =
                 rw (by-ended ∙ cond-true _ _ _ z)
-                (e ∙ ap (gives (x .taken .count)) d, w ∙ ap (λ (k : EffectStruct). replied (k .reply) room) d)
+                (e ∙ ap (gives (s .sending) (x .taken .count)) d, w ∙ ap (λ (k : EffectStruct). replied (k .reply) room) d)
 
 -- the bytes that were taken, as those of a slice
-pub waits-taken : (c : Connection) (x : Taken) (n : ℕ) (r : StepChange) → n ≡ min (x .len) 1028 → length (x .bytes) ≡ 1028
-    → r ≡ waits c (take n (x .bytes)) (x .count) → r ≡ waits c (takenBytes x) (x .count)
-waits-taken c x n r q z e = e ∙ ap (λ (u : List ℕ). waits c u (x .count)) (taken-are x n q z)
+pub taken-long : (x : Taken) (vs : List Val) → Is (row taken-type.the-type) x vs → length (x .bytes) ≡ 1028
+taken-long x vs p = search needs
+
+pub waits-taken : (k : Sending) (c : Connection) (x : Taken) (n : ℕ) (r : StepChange) → n ≡ min (x .len) 1028 → length (x .bytes) ≡ 1028
+    → r ≡ waits k c (take n (x .bytes)) (x .count) → r ≡ waits k c (takenBytes x) (x .count)
+waits-taken k c x n r q z e = e ∙ ap (λ (u : List ℕ). waits k c u (x .count)) (taken-are x n q z)
 
 pub ruleset wait-rules = (needs, shorter-bytes, waits-taken)
 
@@ -260,7 +268,7 @@ module _ (s : Session) (x : Started) (y : Scanned) (room : List ℕ) (t : Store)
       let d = did (and-second (x .sound) (y .sound) (k .sound)) in
       open-promise s t piece room shaped (st .bytes) (k .roomy) (sym p) r final (k .opened)
       (answers-step s t piece (x .taken) (st .taken) p (k .opened) shaped (st .bytes) n z _
-      (gives-made t (x .taken .count) (effectOf (s .connection) (judge (s .connection) t (takenBytes (x .taken)))) r (e ∙ ap (gives (x .taken .count)) d)))
+      (gives-made t (s .sending) (x .taken .count) (effectOf (s .connection) (judge (s .connection) t (takenBytes (x .taken)))) r (e ∙ ap (gives (s .sending) (x .taken .count)) d)))
       (answers-room s t piece (x .taken) (st .taken) p (k .opened) shaped (st .bytes) n z room final (k .roomy)
       (gives-replied (effectOf (s .connection) (judge (s .connection) t (takenBytes (x .taken)))) room final (q ∙ ap (λ (m : EffectStruct). replied (m .reply) room) d)))
 

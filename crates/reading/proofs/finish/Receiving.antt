@@ -69,12 +69,12 @@ module _ (s : Session) (t : Store) (a : Part) where
   unfolding applied stays changed noChange stepOf partCall judgedCall outcomeOf sessionOf
   stayed-step e = rw e
 
-  waited-step : a .ended ≡ false → (a .taken ≡ 0 → ⊥) → applied t (waits (s .connection) (a .bytes) (a .taken)) ≡ stepOf s call
+  waited-step : a .ended ≡ false → (a .taken ≡ 0 → ⊥) → applied t (waits (s .sending) (s .connection) (a .bytes) (a .taken)) ≡ stepOf s call
   unfolding applied waits changed noChange stepOf judgedCall outcomeOf sessionOf
   waited-step e n = rw (waited-call s t a e, ne-eqb (a .taken) 0 n)
 
   settled-step : (e : Effect) → a .ended ≡ true → judge (s .connection) t (a .bytes) ≡ settled e → (a .taken ≡ 0 → ⊥)
-      → answers (a .taken) t e ≡ stepOf s call
+      → answers (s .sending) (a .taken) t e ≡ stepOf s call
   unfolding answers stepOf judgedCall outcomeOf sessionOf
   settled-step e h j n = rw (settled-call s t a e h j, ne-eqb (a .taken) 0 n)
 
@@ -157,12 +157,12 @@ module _ (s : Session) (t : Store) (piece : List ℕ) (x : Taken) (p : x ≡ tak
 
     -- more is wanted
 
-    pub waits-step : (r : StepChange) → x .ended ≡ false → r ≡ waits (s .connection) (take (x .len) (x .bytes)) (x .count)
+    pub waits-step : (r : StepChange) → x .ended ≡ false → r ≡ waits (s .sending) (s .connection) (take (x .len) (x .bytes)) (x .count)
         → applied t r ≡ stepOf s model
     waits-step r z q =
         ap (applied t) q
-        ∙ (ap (λ (u : List ℕ). applied t (waits (s .connection) u (x .count))) prefix-is
-        ∙ (ap (λ (k : ℕ). applied t (waits (s .connection) (part .bytes) k)) count-is
+        ∙ (ap (λ (u : List ℕ). applied t (waits (s .sending) (s .connection) u (x .count))) prefix-is
+        ∙ (ap (λ (k : ℕ). applied t (waits (s .sending) (s .connection) (part .bytes) k)) count-is
         ∙ (waited-step s t part (sym ended-is ∙ z) some-taken ∙ ap (stepOf s) (sym is-part))))
 
     -- an answer
@@ -188,11 +188,11 @@ module _ (s : Session) (t : Store) (piece : List ℕ) (x : Taken) (p : x ≡ tak
       reply-short : length (effectOf (s .connection) (judge (s .connection) t (take (x .len) (x .bytes))) .reply) ≤ 12
       reply-short = rw (effect-is, ← reply-is) (scan-short (heldBy s t) piece (good-held s t sh f) by)
 
-      pub answers-step : (r : Step) → r ≡ answers (x .count) t (effectOf (s .connection) (judge (s .connection) t (take (x .len) (x .bytes)))) → r ≡ stepOf s model
+      pub answers-step : (r : Step) → r ≡ answers (s .sending) (x .count) t (effectOf (s .connection) (judge (s .connection) t (take (x .len) (x .bytes)))) → r ≡ stepOf s model
       answers-step r q =
           q
-          ∙ (ap (answers (x .count) t) effect-is
-          ∙ (ap (λ (k : ℕ). answers k t (ends-settled .0)) count-is
+          ∙ (ap (answers (s .sending) (x .count) t) effect-is
+          ∙ (ap (λ (k : ℕ). answers (s .sending) k t (ends-settled .0)) count-is
           ∙ (settled-step s t part (ends-settled .0) (sym ended-is ∙ z) (ends-settled .1) some-taken ∙ ap (stepOf s) (sym is-part))))
 
       pub answers-room : (room final : List ℕ) → 12 ≤ length room

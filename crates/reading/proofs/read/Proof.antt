@@ -130,7 +130,7 @@ abbrev session-at : ℕ
 session-at = 56
 
 abbrev store-at : ℕ
-store-at = 1320
+store-at = 1336
 
 module _ {M : Type 1} (𝓤 : URA M) (H : Heap 𝓤) (A : Atoms 𝓤) (W : Given 𝓤 H A) (at-mem : Memory → SProp 𝓤) (run : Routine → Fun 𝓤) (κ₂ κ₃ : Lft) (q₂ q₃ : Share)
     (h₀ : Session) (h₁ : Store) (x : RefT (List ℕ)) (b₃ o₃ : ℕ) (γ₃ : GName) (ys : List ℕ) where

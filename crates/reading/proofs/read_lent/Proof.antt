@@ -179,22 +179,22 @@ step-at-0 = refl
 step-at-1 : fieldOf P′.mir 1 ≡ someO (S′.mir, 56)
 step-at-1 = refl
 
-step-at-2 : fieldOf P′.mir 2 ≡ someO (tyArray (tyInt w32) 8, 1320)
+step-at-2 : fieldOf P′.mir 2 ≡ someO (tyArray (tyInt w32) 8, 1336)
 step-at-2 = refl
 
-step-at-3 : fieldOf P′.mir 3 ≡ someO (tyBool, 1352)
+step-at-3 : fieldOf P′.mir 3 ≡ someO (tyBool, 1368)
 step-at-3 = refl
 
-step-at-4 : fieldOf P′.mir 4 ≡ someO (tyBool, 1353)
+step-at-4 : fieldOf P′.mir 4 ≡ someO (tyBool, 1369)
 step-at-4 = refl
 
-step-at-5 : fieldOf P′.mir 5 ≡ someO (tyInt w64, 1360)
+step-at-5 : fieldOf P′.mir 5 ≡ someO (tyInt w64, 1376)
 step-at-5 = refl
 
-step-at-6 : fieldOf P′.mir 6 ≡ someO (N₀′.mir, 1368)
+step-at-6 : fieldOf P′.mir 6 ≡ someO (N₀′.mir, 1384)
 step-at-6 = refl
 
-step-at-7 : fieldOf P′.mir 7 ≡ someO (N₁′.mir, 1736)
+step-at-7 : fieldOf P′.mir 7 ≡ someO (N₁′.mir, 1752)
 step-at-7 = refl
 
 -- the arrays in the store: their machine values, their relations, and the store with another element

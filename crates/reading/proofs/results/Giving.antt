@@ -7,6 +7,7 @@ use lib.ListN.{length, take}
 use lib.Seq.{length-take-le}
 use borrow.Author.Needs.{needs}
 use Rattle.lists.proofs.Prefix.{first-bytes}
+use Rattle.session.specs.declared.Sending.{Sending}
 use Rattle.session.specs.declared.Session.{Session}
 use Rattle.session.specs.Session.{holding}
 use Rattle.message.specs.declared.Effect.{Effect as EffectStruct}
@@ -20,11 +21,11 @@ pub ruleset replying = (needs, first-bytes, replied-long, replied-short)
 
 -- ---- the answer
 
-pub gave : (x : EffectStruct) (s : Session) (count : ℕ) → s ≡ holding (x .connection) []
+pub gave : (k : Sending) (x : EffectStruct) (s : Session) (count : ℕ) → s ≡ holding k (x .connection) []
     → _≡_ {A = StepChange}
     (record { outcome = record { taken = count; «reply_len» = x .reply .len; answer = x .answer }; session = s; change = x .change })
-    (gives count x)
+    (gives k count x)
 unfolding gives
-gave x s count e = rw e
+gave k x s count e = rw e
 
 pub ruleset giving = (needs, gave)

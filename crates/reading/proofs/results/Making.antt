@@ -10,6 +10,7 @@ use Rattle.lists.specs.Lists.{padTo, front, overlay}
 use Rattle.lists.proofs.Bytes.{pad-take}
 use Rattle.wire.specs.Room.{putRoom}
 use Rattle.session.specs.declared.Connection.{Connection}
+use Rattle.session.specs.declared.Sending.{Sending}
 use Rattle.session.specs.declared.Session.{Session}
 use Rattle.session.specs.declared.Answer.{Answer}
 use Rattle.session.specs.declared.Answer.the-variants as answer
@@ -23,10 +24,10 @@ use Rattle.reading.specs.Results.{stays, waits, replied}
 
 -- ---- a record with unfinished bytes
 
-pub record-made : (c : Connection) (u buffer : List ℕ) → buffer ≡ padTo 1032 u
-    → _≡_ {A = Session} (record { connection = c; len = length u; buffer = buffer }) (holding c u)
+pub record-made : (k : Sending) (c : Connection) (u buffer : List ℕ) → buffer ≡ padTo 1032 u
+    → _≡_ {A = Session} (record { connection = c; len = length u; buffer = buffer; sending = k }) (holding k c u)
 unfolding holding
-record-made c u buffer e = rw e
+record-made k c u buffer e = rw e
 
 module _ (d : Change) (z : d ≡ noChange) where
   pub stay-made : (s : Session) (a : Answer)
@@ -34,10 +35,10 @@ module _ (d : Change) (z : d ≡ noChange) where
   unfolding stays
   stay-made s a = rw z
 
-  pub wait-made : (c : Connection) (s : Session) (u : List ℕ) (count : ℕ) → s ≡ holding c u
-      → _≡_ {A = StepChange} (record { outcome = record { taken = count; «reply_len» = 0; answer = answer.More }; session = s; change = d }) (waits c u count)
+  pub wait-made : (k : Sending) (c : Connection) (s : Session) (u : List ℕ) (count : ℕ) → s ≡ holding k c u
+      → _≡_ {A = StepChange} (record { outcome = record { taken = count; «reply_len» = 0; answer = answer.More }; session = s; change = d }) (waits k c u count)
   unfolding waits
-  wait-made c s u count e = rw (e, z)
+  wait-made k c s u count e = rw (e, z)
 
 pub ruleset making = (needs, record-made, stay-made, wait-made)
 

@@ -11,7 +11,7 @@ use Rattle.session.specs.declared.Binding.{Binding}
 use Rattle.session.specs.declared.Session.{Session}
 use Rattle.session_soundness.specs.Sound.{bindingZeros, emptyBinding, emptyBuffer, refusedOpeningTests, isRefusedOpening}
 use Rattle.session.proofs.Basics.{told}
-use Rattle.session_soundness.proofs.FourTests.{first-fails, second-fails, third-fails, fourth-decides}
+use Rattle.session_soundness.proofs.TestsInOrder.{first-fails, second-fails, third-fails, fourth-fails, fourth-decides, fifth-decides}
 
 pub zero-passes : (n : ℕ) → n ≡ 0 → true ≡ eqb n 0
 zero-passes n e = sym (eq-eqb n 0 e)
@@ -48,4 +48,4 @@ module _ (s : Session) where
 
 pub ruleset empty-buffers = (needs, bytes-left, buffer-decides)
 
-pub ruleset refused = (needs, told, refused-is, one-passes, not-one-fails, first-fails, second-fails, third-fails, fourth-decides)
+pub ruleset refused = (needs, told, refused-is, one-passes, not-one-fails, first-fails, second-fails, third-fails, fourth-fails, fifth-decides)

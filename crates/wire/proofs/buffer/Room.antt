@@ -9,8 +9,8 @@ use lib.ListN.{length, getD, take, drop, set, replicate, length-set, length-appe
 use lib.Seq.{paste, paste-zero, paste-suc, take-length, take-append-seam, length-take-le, take-at, drop-at, drop-drop}
 use borrow.Author.Needs.{needs}
 use borrow.Author.Tests.{le-leb, lt-leb}
-use Rattle.wire.specs.declared.buffer.Put.{Put}
-use Rattle.wire.specs.declared.buffer.Put.the-variants as put
+use Rattle.wire.specs.declared.buffer.Fit.{Fit}
+use Rattle.wire.specs.declared.buffer.Fit.the-variants as fit
 use Rattle.wire.specs.declared.Encoded.{Encoded}
 use Rattle.wire.specs.Integer.{encodeInt, encodedInt}
 use Rattle.wire.specs.Number.{encodeNumber}
@@ -19,7 +19,7 @@ use Rattle.wire.specs.Room.{putResult, putRoom}
 
 -- ---- the two cases
 module _ (room : List ℕ) (at : ℕ) (bytes : List ℕ) where
-  pub none-result : length room < at + length bytes → putResult room at bytes ≡ put.NoRoom
+  pub none-result : length room < at + length bytes → putResult room at bytes ≡ fit.NoRoom
   unfolding putResult
   none-result h = rw (lt-leb (at + length bytes) (length room) h)
 
@@ -27,7 +27,7 @@ module _ (room : List ℕ) (at : ℕ) (bytes : List ℕ) where
   unfolding putRoom
   none-room h = rw (lt-leb (at + length bytes) (length room) h)
 
-  pub fits-result : at + length bytes ≤ length room → putResult room at bytes ≡ put.Next (at + length bytes)
+  pub fits-result : at + length bytes ≤ length room → putResult room at bytes ≡ fit.Next (at + length bytes)
   unfolding putResult
   fits-result h = rw (le-leb (at + length bytes) (length room) h)
 
@@ -36,19 +36,19 @@ module _ (room : List ℕ) (at : ℕ) (bytes : List ℕ) where
   fits-room h = rw (le-leb (at + length bytes) (length room) h)
 
   -- ---- `fit_bytes`
-  pub past-result : length room < at → put.NoRoom ≡ putResult room at bytes
+  pub past-result : length room < at → fit.NoRoom ≡ putResult room at bytes
   past-result h = sym (none-result (omega arith))
 
   pub past-room : length room < at → room ≡ putRoom room at bytes
   past-room h = sym (none-room (omega arith))
 
-  pub full-result : length room - at < length bytes → put.NoRoom ≡ putResult room at bytes
+  pub full-result : length room - at < length bytes → fit.NoRoom ≡ putResult room at bytes
   full-result h = sym (none-result (omega arith))
 
   pub full-room : length room - at < length bytes → room ≡ putRoom room at bytes
   full-room h = sym (none-room (omega arith))
 
-  pub next-result : at ≤ length room → length bytes ≤ length room - at → put.Next (at + length bytes) ≡ putResult room at bytes
+  pub next-result : at ≤ length room → length bytes ≤ length room - at → fit.Next (at + length bytes) ≡ putResult room at bytes
   next-result h l = sym (fits-result (omega arith))
 
 -- i bytes are written
@@ -95,7 +95,7 @@ module _ (e : Encoded) (v : ℕ) (h : e ≡ encodedInt v) where
   len-taken = sym (ap length whole-int ∙ rw h)
 
   module _ (room : List ℕ) (at : ℕ) where
-    pub int-result : (r : Put) → r ≡ putResult room at (take (e .len) (e .bytes)) → r ≡ putResult room at (encodeInt v)
+    pub int-result : (r : Fit) → r ≡ putResult room at (take (e .len) (e .bytes)) → r ≡ putResult room at (encodeInt v)
     int-result r q = q ∙ rw whole-int
 
     pub int-room : (left : List ℕ) → left ≡ putRoom room at (take (e .len) (e .bytes)) → left ≡ putRoom room at (encodeInt v)
@@ -104,7 +104,7 @@ module _ (e : Encoded) (v : ℕ) (h : e ≡ encodedInt v) where
 pub ruleset putting-int = (needs, len-le, len-taken, int-result, int-room)
 
 module _ (bytes : List ℕ) (v : ℕ) (h : bytes ≡ encodeNumber v) (room : List ℕ) (at : ℕ) where
-  pub number-result : (r : Put) → r ≡ putResult room at bytes → r ≡ putResult room at (encodeNumber v)
+  pub number-result : (r : Fit) → r ≡ putResult room at bytes → r ≡ putResult room at (encodeNumber v)
   number-result r q = q ∙ rw h
 
   pub number-room : (left : List ℕ) → left ≡ putRoom room at bytes → left ≡ putRoom room at (encodeNumber v)

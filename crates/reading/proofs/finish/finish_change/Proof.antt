@@ -65,7 +65,7 @@ returns-6 c =
     let w = c .before .before in
     let f = w .before .before in
     let t = f .before .before in
-    let e = t .before in
+    let e = t .before .before in
     let o = e .before .before in
     let y = o .before .before .before in
     let x = y .before .before in
@@ -79,7 +79,7 @@ wait-taken-requires c κs = search needs
 returns-7 : tie.Need-returns-7
 returns-7 c =
     let t = c .before in
-    let e = t .before in
+    let e = t .before .before in
     let o = e .before .before in
     let y = o .before .before .before in
     let x = y .before .before in

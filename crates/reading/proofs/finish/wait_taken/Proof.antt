@@ -1,4 +1,4 @@
-use Rattle.reading.proofs.finish.Finishing.{wait-rules}
+use Rattle.reading.proofs.finish.Finishing.{wait-rules, taken-long, waits-taken}
 use Rattle.reading.proofs.finish.wait_taken.Statement.{statement}
 use Rattle.reading.proofs.finish.wait_taken.Tie as tie
 
@@ -15,7 +15,10 @@ wait-requires : tie.Need-wait-requires
 wait-requires c κs = search wait-rules
 
 returns : tie.Need-returns
-returns c = search wait-rules
+returns c =
+    let x = c .before .before in
+    let a = x .before .before in
+    waits-taken _ _ (a .args .taken) _ _ (x .shorter .ensures) (taken-long (a .args .taken) _ (a .good .1 .1 .0)) (c .wait .ensures)
 
 pub wait-taken-spec : {M : Type 1} → statement M
 wait-taken-spec =

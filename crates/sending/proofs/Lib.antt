@@ -1,0 +1,2 @@
+mod Promising
+pub mod Leaving

@@ -1,0 +1,4 @@
+pub mod Sending
+pub mod Finish
+pub mod Leaves
+pub mod Examples

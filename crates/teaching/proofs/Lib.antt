@@ -1,0 +1,14 @@
+pub mod WholeMessages
+pub mod Filled
+pub mod Members
+pub mod OneMessage
+pub mod Running
+pub mod Owned
+pub mod Fitting
+pub mod ContentsKept
+pub mod ModelTaught
+pub mod IdsExist
+pub mod CanBeSent
+pub mod ByteMessages
+pub mod PhaseStays
+pub mod ReadBack

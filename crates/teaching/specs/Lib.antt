@@ -1,0 +1,3 @@
+pub mod Teaching
+pub mod ReadBack
+pub mod Examples

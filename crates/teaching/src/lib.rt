@@ -1,0 +1,1 @@
+// What a session that reads a whole store's messages comes to. No code.
