@@ -1,4 +1,4 @@
-// The lines of what sending knows: the table defined last, and the update ID sent last.
+// The lines of the sending state: the table defined last, and the update ID sent last.
 use session::Sending;
 use text::put;
 use text::spaced::put_decimal_word;

@@ -35,7 +35,7 @@ pub record RawSendRefused (s : Session) (m : RawSendMade) : Type 0 where
 -- a call that wrote its message: all of the record but `sending` is as it was, and the room past the message
 pub record RawMessageSent (s : Session) (t : Store) (m : RawSendMade) : Type 0 where
   pub number : m .outcome .number ≡ 0
-  -- "one whole message": the one that the definitions say, of the store and the sending state alone
+  -- the message that the definitions say, of the store and the sending state alone
   pub message : sentBytes m ≡ messageFor t (s .sending) (m .asked) .bytes
   pub session : withSending (m .session) (s .sending) ≡ s
   -- a law gives the greatest length: every message fits the room that is asked for

@@ -20,7 +20,7 @@ pub record RawSendMade : Type 0 where
   pub session : Session
   pub final : List ℕ
 
--- "number 0 and the length, or the refusal's number and 0"
+-- with number 0 the length, with a refusal's number 0
 unfoldable pub sentLength : ℕ → Message → ℕ
 sentLength number m = cond (eqb number 0) (length (m .bytes)) 0
 

@@ -1,4 +1,4 @@
-// The library for hosts in C and Rust: opening, reading, sending, passing time and an empty store, each defined on every input.
+// The library for hosts in C and Rust: opening, reading, sending, passing time, an empty store and the version, each defined on every input.
 // An enum can't cross the border to C, so an answer goes as its number and values.
 pub mod numbers;
 

@@ -26,7 +26,7 @@ use Rattle.reading.specs.declared.results.StepChange.{StepChange}
 unfoldable pub stays : Session → Answer → StepChange
 stays s a = record { outcome = record { taken = 0; «reply_len» = 0; answer = a }; session = s; change = noChange }
 
--- the whole piece is taken, and more is wanted; what sending knows stays, here and below
+-- the whole piece is taken, and more is wanted; the sending state stays, here and below
 unfoldable pub waits : Sending → Connection → List ℕ → ℕ → StepChange
 waits k c u count = record { outcome = record { taken = count; «reply_len» = 0; answer = answer.More }; session = holding k c u; change = noChange }
 

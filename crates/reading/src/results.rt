@@ -29,7 +29,7 @@ pub struct StepChange {
     pub change: Change,
 }
 
-// A record with what sending knows, a connection, and unfinished bytes, zeros behind them.
+// A record with the sending state, a connection, and unfinished bytes, zeros behind them.
 pub fn record_with(sending: Sending, connection: Connection, bytes: &[u8]) -> Session
     ensures { λ r. ⌜ r ≡ holding sending connection (now (bytes .entry)) ⌝ }
 {

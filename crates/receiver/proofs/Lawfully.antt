@@ -54,7 +54,7 @@ module _ (s : State) (g : Good s) (o : isClosed (s .connection) ≡ false) where
 
 -- ---- a state of a sound record and store
 
--- with what sending knows beside it, the record that holds it
+-- with the sending state beside it, the record that holds it
 abbrev pub SoundWith : Sending → State → Type 0
 SoundWith x s = sound (holding x (s .connection) (s .unfinished)) (s .store) ≡ true
 
@@ -138,7 +138,7 @@ module _ (s : State) (b : ℕ) (g : Good s) (o : isClosed (s .connection) ≡ fa
   pub open-good : Good (stateOf (feed s b))
   open-good = came-good (feed s b) came
 
-  -- what sending knows stays allowed: a table that is held stays held
+  -- the sending state stays allowed: a table that is held stays held
   module _ (x : Sending) (f : SoundWith x s) where
     known-ok : sendingOk (s .store .tables) x ≡ true
     unfolding holding
@@ -217,7 +217,7 @@ lawful = record {
     refusals : (ends (answer.Refused 1) ≡ false) × (ends (answer.Refused 2) ≡ false) × (ends (answer.Refused 4) ≡ false)
     refusals = (unfold ends endsRefused in refl, unfold ends endsRefused in refl, unfold ends endsRefused in refl)
 
--- ---- the same with what sending knows
+-- ---- the same with the sending state
 
 pub record GoodWith (x : Sending) (s : State) : Type 0 where
   pub good : Good s

@@ -162,7 +162,7 @@ module _ (s : Session) (t : Store) (m : Made) (promise : ReadPromise s t m) (f :
     pub made-is : callMade m ≡ modelCall s t m
     made-is = λ i. record { taken = made-taken i; answer = made-answer i; reply = made-reply i; state = made-state i }
 
--- ---- what sending knows
+-- ---- the sending state
 
 either-keeps : (b : Bool) (s z : Session) → z .sending ≡ s .sending → cond b s z .sending ≡ s .sending
 either-keeps true s z e = refl

@@ -1,4 +1,4 @@
--- Reading and what sending knows: a reading call leaves it, and comes to the same with another.
+-- Reading and the sending state: a reading call leaves it, and comes to the same with another.
 use mathlib.Core.Path.{_≡_, refl}
 use mathlib.Core.Bool.{Bool, true, false, cond}
 use lib.Dec.{eqb}

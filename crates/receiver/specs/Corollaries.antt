@@ -213,13 +213,13 @@ pub record PassedOrRefused (t : Store) (p : Passed) : Type 0 where
 abbrev pub RefusedPassUntouched : Type 0
 RefusedPassUntouched = (t : Store) (p : Passed) → PassPromise t p → PassedOrRefused t p
 
--- ---- request 3: reading and what sending knows
+-- ---- request 3: reading and the sending state
 
 -- "A reading call, also one that closes, leaves both new fields as they were.", on any record and store
 abbrev pub SendingStays : Type 0
 SendingStays = (s : Session) (t : Store) (m : Made) → ReadPromise s t m → m .session .sending ≡ s .sending
 
--- "What reading uses of the record is one part of it": all but `sending`. With another one, where the record is sound too, a call comes to the same,
+-- what reading uses of the record is all but `sending`. With another one, where the record is sound too, a call comes to the same,
 -- and the record that it leaves differs in nothing else
 pub record SameRead (s : Session) (t : Store) (x : Sending) (piece : List ℕ) (room : ℕ) : Type 0 where
   pub call : callOf (withSending s x) t piece room ≡ callOf s t piece room

@@ -182,7 +182,7 @@ pub record Demand3 (s : Session) (t : Store) (cs : List Called) : Type 0 where
   pub taken : cameTo s t cs ≡ resultOf (modelRan s t (takenBy cs))
   -- the answers left out of `taken` are more wanted, 1, 2 and 4 alone; the model's list has every answer that it gave
   pub left-out : (a : Answer) → ends a ≡ false → (a ≡ answer.More) ⊎ ((refusalOf a ≡ some 1) ⊎ ((refusalOf a ≡ some 2) ⊎ (refusalOf a ≡ some 4)))
-  -- the end record itself: the start record where no byte was taken, else the record that holds the model's state; what sending knows stays
+  -- the end record itself: the start record where no byte was taken, else the record that holds the model's state; the sending state stays
   pub record-is : lastSession s cs
       ≡ (let end = modelRan s t (takenBy cs) .state in
       cond (eqb (length (bytesIn (takenBy cs))) 0) s (holding (s .sending) (end .connection) (end .unfinished)))

@@ -16,7 +16,7 @@ use Rattle.message.specs.Effects.{Effect}
 use Rattle.reassembly.specs.Judge.{Judged, waiting, settled, judge}
 use Rattle.streams.specs.Model.{Fed, quiet, answered, Receiver}
 
--- what a record and a store hold, as far as reading uses it: the unfinished bytes as a list, the rest as it is; what sending knows is left out
+-- what a record and a store hold, as far as reading uses it: the unfinished bytes as a list, the rest as it is; the sending state is left out
 pub record State : Type 0 where
   pub connection : Connection
   pub unfinished : List ℕ

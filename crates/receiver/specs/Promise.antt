@@ -34,7 +34,7 @@ unfoldable pub outcomeOf : Call State Answer → Outcome
 outcomeOf c = record { taken = c .taken; «reply_len» = length (c .reply); answer = c .answer }
 
 -- "one session record per connection and lends it to each call, which leaves the new state there": the very record that came where nothing was taken, else the record that holds
--- the new state, with zeros behind its unfinished bytes; what sending knows stays
+-- the new state, with zeros behind its unfinished bytes; the sending state stays
 unfoldable pub sessionOf : Session → Call State Answer → Session
 sessionOf s c = cond (eqb (c .taken) 0) s (holding (s .sending) (c .state .connection) (c .state .unfinished))
 

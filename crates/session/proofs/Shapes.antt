@@ -117,7 +117,7 @@ module _ {c : Connection} (h : ConnectionShape c) where
         sending = k;
       }
 
--- ---- what sending knows
+-- ---- the sending state
 
 pub nothing-shape : SendingShape nothingSent
 unfolding nothingSent

@@ -1,4 +1,4 @@
--- What the types of the code say of a binding, a connection, what sending knows, and a session.
+-- What the types of the code say of a binding, a connection, the sending state, and a session.
 use mathlib.Core.List.{List}
 use lib.ListN.{getD}
 use mir.Val.{Val, Fits}

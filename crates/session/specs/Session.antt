@@ -55,7 +55,7 @@ boundTo id b = isBound b && eqb (b .id) id
 unfoldable pub findBound : Connection → ℕ → Found
 findBound c id = firstPlace (boundTo id) (c .bindings)
 
--- ---- request 3: what sending knows
+-- ---- request 3: the sending state
 
 -- no table was defined, and no entry sent
 unfoldable pub nothingSent : Sending

@@ -52,7 +52,7 @@ pub struct Connection {
     pub bindings: [Binding; TABLES],
 }
 
-// What sending knows between two calls. `defined` is 0 where no table was defined to the peer, else the place of the one defined last plus 1.
+// The sending state between two calls. `defined` is 0 where no table was defined to the peer, else the place of the one defined last plus 1.
 // `sent` is 1 where an entry was sent since that definition, and `last` is then the update ID of the last one.
 #[repr(C)]
 pub struct Sending {
@@ -132,7 +132,7 @@ pub struct Reply {
     pub len: usize,
 }
 
-// ---- what sending knows
+// ---- the sending state
 
 // No table was defined, and no entry sent.
 pub fn nothing_sent() -> Sending

@@ -71,7 +71,7 @@ session-parts ts s r h =
       sending = and-second (unfinishedOk s) _ u;
     }
 
--- ---- what sending knows
+-- ---- the sending state
 
 pub nothing-sent-ok : (ts : List Table) → sendingOk ts nothingSent ≡ true
 unfolding sendingOk definedOk nothingSent

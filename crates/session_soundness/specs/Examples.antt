@@ -57,7 +57,7 @@ flag-values : every flagsOk (record { bound = 2; updated = 0; id = 0; previous =
 unfolding every flagsOk
 flag-values = refl
 
--- what sending knows, at a store with a table at place 0 alone: nothing; that table defined last, and an entry sent since; the free place 1; place 8;
+-- the sending state, at a store with a table at place 0 alone: nothing; that table defined last, and an entry sent since; the free place 1; place 8;
 -- the mark 2; a last ID without a table defined last
 abbrev known : ℕ → ℕ → ℕ → Sending
 known defined sent last = record { defined = defined; sent = sent; last = last }

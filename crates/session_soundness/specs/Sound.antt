@@ -86,7 +86,7 @@ currentOk tables c =
     eqb (c .current) 0
     || (leb (c .current) tablePlaces && (tableHeld (getD tables (c .current - 1) noTable) && isBound (bindingAt c (c .current - 1))))
 
--- ---- request 3: what sending knows
+-- ---- request 3: the sending state
 
 -- "A record whose table defined last isn't held is not sound.": there is none, or its place is one of 8 and held
 unfoldable pub definedOk : List Table → Sending → Bool

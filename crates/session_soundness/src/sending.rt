@@ -1,4 +1,4 @@
-// The tests of what sending knows: the table defined last is held.
+// The tests of the sending state: the table defined last is held.
 use session::Sending;
 use store::TABLES;
 use store::Table;

@@ -76,7 +76,7 @@ unfoldable pub messagesFor : Store → Sending → List Asked → List (List ℕ
 messagesFor t x [] = []
 messagesFor t x (a ∷ asked) = messageFor t x a .bytes ∷ messagesFor t (messageFor t x a .sending) asked
 
--- "one acknowledgement per entry, in order, with the IDs given"
+-- "acknowledges each ID sent": one acknowledgement for each entry, in order, with the IDs given
 unfoldable pub acknowledgementsFor : List TableIds → List ℕ
 acknowledgementsFor [] = []
 acknowledgementsFor (l ∷ ids) = flatten (map (acknowledge (l .id)) (l .updates)) ++ acknowledgementsFor ids

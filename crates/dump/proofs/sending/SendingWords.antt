@@ -1,4 +1,4 @@
--- The lines of what sending knows, for each way through the functions that put them.
+-- The lines of the sending state, for each way through the functions that put them.
 use Prim.Native.Nat.{ℕ, _-_}
 use mathlib.Core.Path.{_≡_}
 use mathlib.Core.Bool.{Bool, true, false, cond}
@@ -30,7 +30,7 @@ module _ (word : List ℕ) (there : Bool) (n : ℕ) {room x : List ℕ} {at k : 
 
 pub ruleset numbers = (needs, number-there, number-none)
 
--- ---- what sending knows
+-- ---- the sending state
 
 module _ (s : Sending) {room x : List ℕ} {at k : ℕ} where
   pub none-defined : s .defined ≡ 0 → Wrote room at (line (ascii "defined") (ascii "-" ∷ [])) x k → Wrote room at (definedLine s) x k

@@ -1,4 +1,4 @@
--- The tests of what sending knows.
+-- The tests of the sending state.
 use Prim.Native.Nat.{_-_, _≤_, _<_}
 use native.Mathlib.Omega.{arith}
 use mathlib.Core.Path.{_≡_, sym, ap, _∙_}
