@@ -143,7 +143,7 @@ fn list_all(run: Run, out: &mut [u8]) -> Run {
 }
 
 fn main() {
-    if !none_given(b"peerlist") {
+    if !none_given(b"peerlist", os::arg_count()) {
         return;
     }
     let mut room = [0u8; OPENING_ROOM];

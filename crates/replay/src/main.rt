@@ -464,7 +464,7 @@ fn put_end(run: Run, out: &mut [u8]) -> Page {
 }
 
 fn main() {
-    if !none_given(b"replay") {
+    if !none_given(b"replay", os::arg_count()) {
         return;
     }
     let mut room = [0u8; OPENING_ROOM];

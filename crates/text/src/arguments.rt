@@ -1,11 +1,10 @@
 // Arguments for the programs, which take none.
 use libc::STDERR_FILENO;
+ghost use mathlib.Core.Path.{_≡_};
+ghost use lib.Dec.{ltb};
 
-// Whether the program was given no argument. One that was given is named on standard error.
-pub fn none_given(program: &[u8]) -> bool {
-    if os::arg_count() < 2 {
-        return true;
-    }
+// Names the first argument on standard error.
+fn refuse_argument(program: &[u8]) {
     let mut text = io::buffer();
     let n = os::arg(1, &mut text);
     let is_whole = os::errno() == 0;
@@ -20,5 +19,16 @@ pub fn none_given(program: &[u8]) -> bool {
         );
     }
     io::write_all(STDERR_FILENO, b"\n");
-    false
+}
+
+// Whether a program that was started with so many words, its own name among them, was given no argument. One that was given is named on
+// standard error.
+pub fn none_given(program: &[u8], words: usize) -> bool
+    ensures { λ r. ⌜ r ≡ ltb words 2 ⌝ }
+{
+    let is_alone = words < 2;
+    if !is_alone {
+        refuse_argument(program);
+    }
+    is_alone
 }

@@ -1,6 +1,9 @@
 // Standard input for the programs. A read that fails is told on standard error; one that a signal interrupts is made again.
 use libc::EINTR;
 use libc::STDIN_FILENO;
+ghost use mathlib.Core.Path.{_≡_};
+ghost use lib.ListN.{length};
+ghost use Rattle.text.specs.System.{ReadAnswer, FillAnswer};
 
 // What `read_some` answers where nothing was read and the input hasn't ended.
 pub const FAILED: isize = -1;
@@ -15,7 +18,10 @@ pub enum Filled {
 }
 
 // Reads once, and answers the number of bytes, 0 at the end of the input, or one of the two above.
-pub fn read_some(buffer: &mut [u8]) -> isize {
+pub fn read_some(buffer: &mut [u8]) -> isize
+    ensures { λ r. ⌜ ReadAnswer (length (now (buffer .entry))) r ⌝ }
+    ensures { λ _. ⌜ length (now (buffer .exit)) ≡ length (now (buffer .entry)) ⌝ }
+{
     let got = libc::read(STDIN_FILENO, buffer);
     if 0 <= got {
         return got;
@@ -28,7 +34,10 @@ pub fn read_some(buffer: &mut [u8]) -> isize {
 }
 
 // Fills the buffer. Nothing says that signals end, so the turns are counted down from a number that no run uses up.
-pub fn fill(buffer: &mut [u8]) -> Filled {
+pub fn fill(buffer: &mut [u8]) -> Filled
+    ensures { λ r. ⌜ FillAnswer (length (now (buffer .entry))) r ⌝ }
+    ensures { λ _. ⌜ length (now (buffer .exit)) ≡ length (now (buffer .entry)) ⌝ }
+{
     let mut done: usize = 0;
     let mut turns = u64::MAX;
     while done < buffer.len() {

@@ -2,8 +2,10 @@
 // after it.
 use libc::STDOUT_FILENO;
 ghost use mathlib.Core.Path.{_≡_};
+ghost use mathlib.Core.Bool.{true};
 ghost use lib.ListN.{length};
 ghost use Rattle.text.specs.Room.{fitsBehind, placeFor};
+ghost use Rattle.text.specs.System.{WrittenAfter, WrittenFor};
 
 // The position behind the text that isn't written yet, and whether all text before it was written.
 pub struct Page {
@@ -12,7 +14,9 @@ pub struct Page {
 }
 
 // Writes the first n bytes, and answers whether they were written.
-pub fn write(out: &[u8], n: usize) -> bool {
+pub fn write(out: &[u8], n: usize) -> bool
+    ensures { λ r. ⌜ WrittenAfter (length (now (out .entry))) n true r ⌝ }
+{
     if out.len() < n {
         return false;
     }
@@ -34,7 +38,9 @@ fn fits_behind(size: usize, next: usize, most: usize) -> bool
 }
 
 // Whether all was written once the first n bytes are too. After a failed write none is tried.
-fn write_more(out: &[u8], n: usize, written: bool) -> bool {
+fn write_more(out: &[u8], n: usize, written: bool) -> bool
+    ensures { λ r. ⌜ WrittenAfter (length (now (out .entry))) n written r ⌝ }
+{
     if written {
         return write(out, n);
     }
@@ -42,7 +48,10 @@ fn write_more(out: &[u8], n: usize, written: bool) -> bool {
 }
 
 // Writes what isn't written yet.
-pub fn flush(out: &[u8], page: Page) -> Page {
+pub fn flush(out: &[u8], page: Page) -> Page
+    ensures { λ r. ⌜ r .next ≡ 0 ⌝ }
+    ensures { λ r. ⌜ WrittenAfter (length (now (out .entry))) (page .next) (page .written) (r .written) ⌝ }
+{
     let written = write_more(out, page.next, page.written);
     Page { next: 0, written }
 }
@@ -51,6 +60,7 @@ pub fn flush(out: &[u8], page: Page) -> Page {
 // stands before `next` is written.
 pub fn room_at(out: &[u8], page: Page, most: usize) -> Page
     ensures { λ r. ⌜ r .next ≡ placeFor (length (now (out .entry))) (page .next) most ⌝ }
+    ensures { λ r. ⌜ WrittenFor (length (now (out .entry))) (page .next) most (page .written) (r .written) ⌝ }
 {
     let next = page.next;
     if fits_behind(out.len(), next, most) {

@@ -1,10 +1,11 @@
 use Rattle.text.proofs.output.Places.{parts}
+use Rattle.text.proofs.output.Written.{writing}
 use borrow.Author.Needs.{needs}
 use Rattle.text.proofs.output.write.Statement.{statement}
 use Rattle.text.proofs.output.write.Tie as tie
 
 returns : tie.Need-returns
-returns c = search needs
+returns c = search writing
 
 slice-aggregate-write-all : tie.Need-slice-aggregate-write-all
 slice-aggregate-write-all c = search parts
@@ -19,10 +20,10 @@ fail-requires : tie.Need-fail-requires
 fail-requires c κs = search needs
 
 returns-2 : tie.Need-returns-2
-returns-2 c = search needs
+returns-2 c = search writing
 
 returns-3 : tie.Need-returns-3
-returns-3 c = search needs
+returns-3 c = search writing
 
 pub write-spec : {M : Type 1} → statement M
 write-spec =
