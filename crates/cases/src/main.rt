@@ -13,18 +13,13 @@ use opening::open_answerer;
 use opening::open_caller;
 use passing::pass;
 use reading::REPLY_ROOM;
+use reading::Step;
 use reading::read;
 use session::Answer;
 use session::Session;
 use store::Store;
 use text::output::write;
 use wire::fixed::write_number;
-
-struct Run {
-    session: Session,
-    store: Store,
-    taken: usize,
-}
 
 // ---- output
 
@@ -71,30 +66,26 @@ fn show_entries(store: Store, types: u32) {
 // ---- calls
 
 // One reading call; its lines are written if they are to be shown.
-fn call(run: Run, piece: &[u8], room: &mut [u8], shown: bool) -> Run {
-    let step = read(run.session, run.store, piece, room);
+fn call(given: Step, piece: &[u8], room: &mut [u8], shown: bool) -> Step {
+    let step = read(given, piece, room);
     let outcome = step.outcome;
     let answer = outcome.answer;
-    let session = step.session;
-    let store = step.store;
     if shown {
+        let session = step.session;
+        let store = step.store;
         show_answer(session, store, answer, room, outcome.reply_len);
     }
-    Run {
-        session,
-        store,
-        taken: outcome.taken,
-    }
+    step
 }
 
 // Calls on the bytes until all are taken or the session is closed.
-fn feed(run: Run, bytes: &[u8], shown: bool) -> Run {
+fn feed(given: Step, bytes: &[u8], shown: bool) -> Step {
     let mut room = [0u8; REPLY_ROOM];
-    let mut r = run;
+    let mut r = given;
     let mut at: usize = 0;
     while at < bytes.len() {
         r = call(r, &bytes[at..], &mut room, shown);
-        let taken = r.taken;
+        let taken = r.outcome.taken;
         if taken == 0 {
             return r;
         }
@@ -109,23 +100,24 @@ fn feed(run: Run, bytes: &[u8], shown: bool) -> Run {
     r
 }
 
-fn opened(o: Opened) -> Run {
+fn opened(o: Opened) -> Step {
+    let outcome = o.outcome;
     let session = o.session;
     let store = store::empty_store();
-    Run {
+    Step {
+        outcome,
         session,
         store,
-        taken: 0,
     }
 }
 
-fn answerer() -> Run {
+fn answerer() -> Step {
     let mut room = [0u8; OPENING_ROOM];
     opened(open_answerer(b"east", b"west", &mut room))
 }
 
 // A session after its hello.
-fn greeted() -> Run {
+fn greeted() -> Step {
     feed(answerer(), b"HAProxyS 2.1\neast\nwest 7 0\n", false)
 }
 
@@ -153,9 +145,9 @@ fn as_status(text: &[u8], bytes: &[u8]) {
 }
 
 // What the bytes come to on a table with these data types, and its entries.
-fn on_table(text: &[u8], run: Run, types: u32, bytes: &[u8]) {
+fn on_table(text: &[u8], given: Step, types: u32, bytes: &[u8]) {
     title(text);
-    let r = feed(run, bytes, true);
+    let r = feed(given, bytes, true);
     show_entries(r.store, types);
 }
 
@@ -163,8 +155,8 @@ fn on_table(text: &[u8], run: Run, types: u32, bytes: &[u8]) {
 
 // An update of a table whose only data type is 0.
 fn server_id(text: &[u8], update: &[u8]) {
-    let run = feed(greeted(), b"\x0a\x82\x06\x01\x01t\x02\x04\x01", false);
-    on_table(text, run, 1, update);
+    let given = feed(greeted(), b"\x0a\x82\x06\x01\x01t\x02\x04\x01", false);
+    on_table(text, given, 1, update);
 }
 
 fn server_ids() {
@@ -189,25 +181,25 @@ fn server_ids() {
 // ---- calls that take nothing
 
 // A call on a piece with so much room, and the record afterwards.
-fn taking_nothing(text: &[u8], run: Run, piece: &[u8], room: &mut [u8]) {
+fn taking_nothing(text: &[u8], given: Step, piece: &[u8], room: &mut [u8]) {
     title(text);
-    let r = call(run, piece, room, true);
-    show_number(b"took", r.taken as u64);
+    let r = call(given, piece, room, true);
+    show_number(b"took", r.outcome.taken as u64);
     show_record(r.session);
 }
 
 // A session after its hello, with two bytes unfinished.
-fn half_way() -> Run {
+fn half_way() -> Step {
     feed(greeted(), b"\x0a\x82", false)
 }
 
-fn spoiled_record() -> Run {
+fn spoiled_record() -> Step {
     let mut r = half_way();
     r.session.connection.current = 3;
     r
 }
 
-fn spoiled_store() -> Run {
+fn spoiled_store() -> Step {
     let mut r = half_way();
     let mut store = r.store;
     let mut tables = store.tables;
@@ -219,7 +211,7 @@ fn spoiled_store() -> Run {
     r
 }
 
-fn closed() -> Run {
+fn closed() -> Step {
     feed(greeted(), b"\x00\x05", false)
 }
 
@@ -408,12 +400,12 @@ fn messages() {
 // ---- remaining times
 
 // A session with the table t, whose only data type is 2.
-fn without_expiry() -> Run {
+fn without_expiry() -> Step {
     feed(greeted(), b"\x0a\x82\x06\x01\x01t\x02\x04\x04", false)
 }
 
 // The same with an expiry of 60,000.
-fn with_expiry() -> Run {
+fn with_expiry() -> Step {
     feed(
         greeted(),
         b"\x0a\x82\x09\x01\x01t\x02\x04\x04\xf0\x97\x1c",
@@ -422,7 +414,7 @@ fn with_expiry() -> Run {
 }
 
 // An untimed update of a table without expiry.
-fn updated() -> Run {
+fn updated() -> Step {
     feed(
         without_expiry(),
         b"\x0a\x80\x09\x00\x00\x00\x01\x00\x00\x00\x2a\x05",
@@ -431,7 +423,7 @@ fn updated() -> Run {
 }
 
 // An entry with this time remaining.
-fn lasting(remaining: u32) -> Run {
+fn lasting(remaining: u32) -> Step {
     let time = write_number(remaining);
     let a = feed(without_expiry(), b"\x0a\x85\x0d\x00\x00\x00\x01", false);
     let b = feed(a, &time, false);
@@ -583,13 +575,13 @@ fn message_types() {
 // ---- time that passes
 
 // So many milliseconds pass; the entries afterwards.
-fn passing(text: &[u8], run: Run, milliseconds: u32) -> Run {
+fn passing(text: &[u8], given: Step, milliseconds: u32) -> Step {
     title(text);
-    let p = pass(run.store, milliseconds);
+    let p = pass(given.store, milliseconds);
     let store = p.store;
     show_number(b"passed", p.number as u64);
     show_entries(store, 4);
-    let mut r = run;
+    let mut r = given;
     r.store = store;
     r
 }
@@ -636,7 +628,7 @@ fn places_used_again() {
 }
 
 // An entry with 5 whose mark of a time is then this, and the mark of being held at the place beside it.
-fn marked(timed: u32, beside: u32) -> Run {
+fn marked(timed: u32, beside: u32) -> Step {
     let mut r = lasting(5);
     let mut store = r.store;
     let mut entries = store.entries;
@@ -750,7 +742,7 @@ fn names_with_faults() {
 }
 
 // A session with the table `ab`, whose name then has these bytes at its last place and behind it.
-fn renamed(last: u8, behind: u8) -> Run {
+fn renamed(last: u8, behind: u8) -> Step {
     let mut r = feed(greeted(), b"\x0a\x82\x07\x01\x02ab\x02\x04\x00", false);
     let mut store = r.store;
     let mut tables = store.tables;
@@ -765,7 +757,7 @@ fn renamed(last: u8, behind: u8) -> Run {
     r
 }
 
-fn closed_by_name() -> Run {
+fn closed_by_name() -> Step {
     feed(half_way(), b"\x06\x01\x01\n\x02\x04\x00", false)
 }
 

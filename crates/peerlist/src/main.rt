@@ -5,9 +5,12 @@ use listing::put_call;
 use opening::OPENING_ROOM;
 use opening::open_answerer;
 use reading::REPLY_ROOM;
+use reading::Step;
 use reading::read;
-use session::Session;
-use store::Store;
+use session::Connection;
+use session::Outcome;
+use store::TABLES;
+use store::Table;
 use text::arguments::none_given;
 use text::input::FAILED;
 use text::input::INTERRUPTED;
@@ -16,50 +19,42 @@ use text::output::Page;
 use text::output::flush;
 use text::output::room_at;
 use text::output::write;
+ghost use Prim.Native.Nat.{_≤_, _<_};
 
 // More than any call's lines need.
 const MARGIN: usize = 1024;
 
-// Between two calls: record, store, the output that isn't written yet, how many bytes the last call took, and how the input stands.
+// Between two pieces: the last call, the output that isn't written yet, and how the input stands.
 struct Run {
-    session: Session,
-    store: Store,
+    step: Step,
     page: Page,
-    taken: usize,
     goes_on: bool,
     failed: bool,
 }
 
-// One reading call, and its lines.
-fn list_call(run: Run, piece: &[u8], out: &mut [u8]) -> Run {
-    let mut reply = [0u8; REPLY_ROOM];
-    let step = read(run.session, run.store, piece, &mut reply);
-    let outcome = step.outcome;
-    let session = step.session;
-    let store = step.store;
-    let connection = session.connection;
-    let tables = store.tables;
+// The lines of a call.
+fn put_lines(
+    out: &mut [u8],
+    page: Page,
+    connection: Connection,
+    tables: [Table; TABLES],
+    outcome: Outcome,
+    reply: &[u8],
+) -> Page {
+    let p = room_at(out, page, MARGIN);
     let answer = outcome.answer;
-    let page = room_at(out, run.page, MARGIN);
     let next = put_call(
         out,
-        page.next,
+        p.next,
         connection,
         tables,
         answer,
-        &reply,
+        reply,
         outcome.reply_len,
     );
-    Run {
-        session,
-        store,
-        page: Page {
-            next,
-            written: page.written,
-        },
-        taken: outcome.taken,
-        goes_on: run.goes_on,
-        failed: run.failed,
+    Page {
+        next,
+        written: p.written,
     }
 }
 
@@ -71,25 +66,47 @@ fn is_over(closed: u32, written: bool) -> bool {
     closed == 1
 }
 
-// A piece, offered until all of it is taken, a call takes nothing, as on a closed session, or a write failed.
+// Where the next call starts in a piece: behind what the last one took, or at the end where none is to follow.
+fn next_start(at: usize, taken: usize, len: usize, over: bool) -> usize
+    requires { ⌜ at < len ⌝ }
+    ensures { λ r. ⌜ (at < r) × (r ≤ len) ⌝ }
+{
+    if taken == 0 {
+        return len;
+    }
+    if over {
+        return len;
+    }
+    if len - at < taken {
+        return len;
+    }
+    at + taken
+}
+
+// A piece, offered until all of it is taken, a call takes nothing, as on a closed session, or a write failed. The step goes to the
+// call whole and from the loop itself: taken apart, or passed on by another function, it would be copied once more.
 fn list_piece(run: Run, piece: &[u8], out: &mut [u8]) -> Run {
-    let mut r = run;
+    let mut step = run.step;
+    let mut page = run.page;
+    let mut reply = [0u8; REPLY_ROOM];
     let mut at: usize = 0;
     while at < piece.len() {
-        if is_over(r.session.connection.closed, r.page.written) {
-            return r;
-        }
-        r = list_call(r, &piece[at..], out);
-        let taken = r.taken;
-        if taken == 0 {
-            return r;
-        }
-        if piece.len() - at < taken {
-            return r;
-        }
-        at += taken;
+        step = read(step, &piece[at..], &mut reply);
+        let outcome = step.outcome;
+        let session = step.session;
+        let connection = session.connection;
+        let store = step.store;
+        let tables = store.tables;
+        page = put_lines(out, page, connection, tables, outcome, &reply);
+        let over = is_over(connection.closed, page.written);
+        at = next_start(at, outcome.taken, piece.len(), over);
     }
-    r
+    Run {
+        step,
+        page,
+        goes_on: run.goes_on,
+        failed: run.failed,
+    }
 }
 
 // A run that ends, by a failed read or at the end of the input.
@@ -105,7 +122,8 @@ fn listed(run: Run, page: Page) -> Run {
     let mut r = run;
     r.page = page;
     r.failed = !page.written;
-    r.goes_on = 0 < run.taken && !is_over(run.session.connection.closed, page.written);
+    r.goes_on = 0 < run.step.outcome.taken
+        && !is_over(run.step.session.connection.closed, page.written);
     r
 }
 
@@ -150,14 +168,17 @@ fn main() {
     let opened = open_answerer(b"east", b"west", &mut room);
     let session = opened.session;
     let store = store::empty_store();
+    let outcome = opened.outcome;
     let run = Run {
-        session,
-        store,
+        step: Step {
+            outcome,
+            session,
+            store,
+        },
         page: Page {
             next: 0,
             written: true,
         },
-        taken: 0,
         goes_on: true,
         failed: false,
     };
@@ -166,6 +187,6 @@ fn main() {
     if last.failed {
         return;
     }
-    let n = put_end(&mut out, 0, last.session);
+    let n = put_end(&mut out, 0, last.step.session);
     write(&out, n);
 }

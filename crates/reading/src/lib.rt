@@ -42,20 +42,10 @@ pub fn read_lent(
     step.outcome
 }
 
-// The same by value.
-// Record and store are lent where they lie in the step that is returned: two locals of their own would be copied once more.
-pub fn read(session: Session, store: Store, piece: &[u8], reply: &mut [u8]) -> Step
-    ensures { λ r. ⌜ ReadPromise session store (record { piece = now (piece .entry); room = now (reply .entry); outcome = r .outcome; session = r .session; store = r .store; final = now (reply .exit) }) ⌝ }
+// The same by value: record and store are lent where they lie in the step, which is returned with the new outcome.
+pub fn read(mut step: Step, piece: &[u8], reply: &mut [u8]) -> Step
+    ensures { λ r. ⌜ ReadPromise (step .session) (step .store) (record { piece = now (piece .entry); room = now (reply .entry); outcome = r .outcome; session = r .session; store = r .store; final = now (reply .exit) }) ⌝ }
 {
-    let mut step = Step {
-        outcome: Outcome {
-            taken: 0,
-            reply_len: 0,
-            answer: Answer::More,
-        },
-        session,
-        store,
-    };
     step.outcome = read_lent(&mut step.session, &mut step.store, piece, reply);
     step
 }

@@ -27,8 +27,6 @@ use reading::read;
 use sending::Ask;
 use sending::Sent;
 use sending::send;
-use session::Outcome;
-use session::Session;
 use store::ENTRIES;
 use store::Entry;
 use store::Store;
@@ -48,14 +46,13 @@ use wire::fixed::read_number;
 // More than the lines of one command, or of one entry, need.
 const MARGIN: usize = 4096;
 
-// Between two commands: whether a session was opened, the script goes on and a read failed, record, store, and the output that isn't
-// written yet.
+// Between two commands: whether a session was opened, the script goes on and a read failed, record and store in the last reading call's
+// step, and the output that isn't written yet.
 struct Run {
     opened: bool,
     goes_on: bool,
     failed: bool,
-    session: Session,
-    store: Store,
+    step: Step,
     page: Page,
 }
 
@@ -109,12 +106,16 @@ fn open_session(run: Run, store: Store, out: &mut [u8]) -> Run {
     let page = room_at(out, run.page, MARGIN);
     let b = put(out, page.next, b"open\n");
     let next = put_reply(out, b, &room, outcome.reply_len);
+    let step = Step {
+        outcome,
+        session,
+        store,
+    };
     Run {
         opened: true,
         goes_on: true,
         failed: false,
-        session,
-        store,
+        step,
         page: turned(page, next),
     }
 }
@@ -134,17 +135,18 @@ fn untouched(room: &[u8], from: usize) -> bool {
 }
 
 // A reading call with the first n bytes of a room for the reply.
-fn read_with(run: Run, piece: &[u8], reply: &mut [u8], n: usize) -> Step {
+fn read_with(step: Step, piece: &[u8], reply: &mut [u8], n: usize) -> Step {
     if reply.len() < n {
-        return read(run.session, run.store, piece, reply);
+        return read(step, piece, reply);
     }
-    read(run.session, run.store, piece, &mut reply[..n])
+    read(step, piece, &mut reply[..n])
 }
 
 // The lines of a call.
-fn put_call(out: &mut [u8], at: usize, run: Run, outcome: Outcome, reply: &[u8]) -> usize {
-    let session = run.session;
-    let store = run.store;
+fn put_call(out: &mut [u8], at: usize, step: Step, reply: &[u8]) -> usize {
+    let outcome = step.outcome;
+    let session = step.session;
+    let store = step.store;
     let connection = session.connection;
     let tables = store.tables;
     let answer = outcome.answer;
@@ -159,31 +161,19 @@ fn put_call(out: &mut [u8], at: usize, run: Run, outcome: Outcome, reply: &[u8])
     put(out, f, b"spoiled\n")
 }
 
-// A run with the lines of a call.
-fn told(run: Run, outcome: Outcome, reply: &[u8], out: &mut [u8]) -> Run {
-    let page = room_at(out, run.page, MARGIN);
-    let next = put_call(out, page.next, run, outcome, reply);
-    let mut r = run;
-    r.page = turned(page, next);
-    r
-}
-
 fn call(run: Run, room: u8, piece: &[u8], out: &mut [u8]) -> Run {
     let mut reply = [0xaau8; 256];
-    let step = read_with(run, piece, &mut reply, room as usize);
-    let session = step.session;
-    let store = step.store;
-    let page = run.page;
-    let outcome = step.outcome;
-    let after = Run {
+    let given = run.step;
+    let step = read_with(given, piece, &mut reply, room as usize);
+    let page = room_at(out, run.page, MARGIN);
+    let next = put_call(out, page.next, step, &reply);
+    Run {
         opened: true,
         goes_on: true,
         failed: false,
-        session,
-        store,
-        page,
-    };
-    told(after, outcome, &reply, out)
+        step,
+        page: turned(page, next),
+    }
 }
 
 // Reads the next n bytes of the script.
@@ -226,14 +216,16 @@ fn call_on_piece(run: Run, out: &mut [u8]) -> Run {
 
 // A run after so many milliseconds, with the line of the call.
 fn passed(run: Run, milliseconds: u32, out: &mut [u8]) -> Run {
-    let p = pass(run.store, milliseconds);
+    let p = pass(run.step.store, milliseconds);
     let store = p.store;
     let page = room_at(out, run.page, MARGIN);
     let a = put(out, page.next, b"passed");
     let b = put_decimal_word(out, a, p.number as u64);
     let next = put(out, b, b"\n");
+    let mut step = run.step;
+    step.store = store;
     let mut r = run;
-    r.store = store;
+    r.step = step;
     r.page = turned(page, next);
     r
 }
@@ -264,9 +256,9 @@ fn mark(room: &mut [u8]) {
 // A sending call with the first n bytes of a room.
 fn send_with(run: Run, ask: Ask, room: &mut [u8], n: usize) -> sending::Step {
     if room.len() < n {
-        return send(run.session, run.store, ask, room);
+        return send(run.step.session, run.step.store, ask, room);
     }
-    send(run.session, run.store, ask, &mut room[..n])
+    send(run.step.session, run.step.store, ask, &mut room[..n])
 }
 
 // The message of so many bytes.
@@ -310,13 +302,15 @@ fn put_sending(out: &mut [u8], at: usize, sent: Sent, room: &[u8]) -> usize {
 fn sent_with(run: Run, ask: Ask, n: usize, out: &mut [u8]) -> Run {
     let mut room = io::large_buffer();
     mark(&mut room);
-    let step = send_with(run, ask, &mut room, n);
-    let session = step.session;
-    let sent = step.sent;
+    let s = send_with(run, ask, &mut room, n);
+    let session = s.session;
+    let sent = s.sent;
     let page = room_at(out, run.page, MARGIN);
     let next = put_sending(out, page.next, sent, &room);
+    let mut step = run.step;
+    step.session = session;
     let mut r = run;
-    r.session = session;
+    r.step = step;
     r.page = turned(page, next);
     r
 }
@@ -392,10 +386,10 @@ fn dump_entries(page: Page, store: Store, out: &mut [u8]) -> Page {
 }
 
 fn show(run: Run, out: &mut [u8]) -> Run {
-    let store = run.store;
+    let store = run.step.store;
     let tables = store.tables;
     let a = room_at(out, run.page, MARGIN);
-    let b = put_record(out, a.next, run.session);
+    let b = put_record(out, a.next, run.step.session);
     let c = dump_tables(turned(a, b), tables, out);
     let counts = store.counts;
     let d = dump_counts(c, counts, out);
@@ -409,7 +403,7 @@ fn show(run: Run, out: &mut [u8]) -> Run {
 
 fn later_command(run: Run, command: u8, out: &mut [u8]) -> Run {
     match command {
-        b'N' => open_session(run, run.store, out),
+        b'N' => open_session(run, run.step.store, out),
         b'C' => call_on_piece(run, out),
         b'T' => pass_time(run, out),
         b'P' => send_message(run, false, out),
@@ -471,12 +465,17 @@ fn main() {
     let opened = open_answerer(b"east", b"west", &mut room);
     let session = opened.session;
     let store = store::empty_store();
+    let outcome = opened.outcome;
+    let step = Step {
+        outcome,
+        session,
+        store,
+    };
     let run = Run {
         opened: false,
         goes_on: true,
         failed: false,
-        session,
-        store,
+        step,
         page: Page {
             next: 0,
             written: true,
