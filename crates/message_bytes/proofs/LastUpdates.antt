@@ -243,5 +243,5 @@ bytes-of-every-entry s t (reads m ∷ calls) place c =
     ⊎-elim (λ n. first s t m calls place (c .0) n) (λ u. inr (later s t m calls place (c .0) u))
     (bytes-of-every-entry (m .session) (m .store) calls place (c .1))
 bytes-of-every-entry s t (passes p ∷ calls) place c =
-    ⊎-elim (λ n. inl (first-passed t p calls place (c .1) n)) (λ u. inr (later-passed s t p calls place u))
-    (bytes-of-every-entry s (p .store) calls place (c .2))
+    ⊎-elim (λ n. inl (first-passed t p calls place (c .0) n)) (λ u. inr (later-passed s t p calls place u))
+    (bytes-of-every-entry s (p .store) calls place (c .1))

@@ -81,19 +81,19 @@ pub mades-chain : (s : Session) (t : Store) (cs : List RawCalled) → RawChain s
 unfolding RawChain Chain madesBy
 mades-chain s t [] c = tt
 mades-chain s t (rawReads m ∷ cs) c = (made-promised s t m (c .0), mades-chain (m .session) (m .store) cs (c .1))
-mades-chain s t (rawPasses p ∷ cs) c = (c .0, c .1, mades-chain s (p .store) cs (c .2))
+mades-chain s t (rawPasses p ∷ cs) c = (c .0, mades-chain s (p .store) cs (c .1))
 
 pub mades-same : (s : Session) (t : Store) (cs : List RawCalled) → RawChain s t cs → cs ≡ map rawCalled (madesBy s t cs)
 unfolding RawChain madesBy
 mades-same s t [] c = refl
 mades-same s t (rawReads m ∷ cs) c = λ i. rawReads (made-same s t m (c .0) i) ∷ mades-same (m .session) (m .store) cs (c .1) i
-mades-same s t (rawPasses p ∷ cs) c = λ i. rawPasses p ∷ mades-same s (p .store) cs (c .2) i
+mades-same s t (rawPasses p ∷ cs) c = λ i. rawPasses p ∷ mades-same s (p .store) cs (c .1) i
 
 pub raw-chain : (s : Session) (t : Store) (cs : List Called) → Chain s t cs → RawChain s t (map rawCalled cs)
 unfolding RawChain Chain
 raw-chain s t [] c = tt
 raw-chain s t (reads m ∷ cs) c = (raw-promise s t m (c .0), raw-chain (m .session) (m .store) cs (c .1))
-raw-chain s t (passes p ∷ cs) c = (c .0, c .1, raw-chain s (p .store) cs (c .2))
+raw-chain s t (passes p ∷ cs) c = (c .0, raw-chain s (p .store) cs (c .1))
 
 -- ---- numbers
 

@@ -272,7 +272,7 @@ none-updates s t place (reads m ∷ cs) c n = (
       n .0 (u .0) (u .1 .0) (u .1 .1 .0) (u .1 .1 .1 ∙ ap (λ (i : ℕ). answer.Update (u .0) (u .1 .0) i (u .1 .1 .0)) third)),
   none-updates (m .session) (m .store) place cs (c .1) (n .1),
 )
-none-updates s t place (passes p ∷ cs) c n = none-updates s (p .store) place cs (c .2) n
+none-updates s t place (passes p ∷ cs) c n = none-updates s (p .store) place cs (c .1) n
 
 same-passing : (cs : List Called) → rawPassing (map rawCalled cs) ≡ passing cs
 unfolding rawPassing passing
@@ -286,7 +286,7 @@ chain-after : (s : Session) (t : Store) (before : List Called) (m : Made) (after
 unfolding Chain
 chain-after s t [] m after c = c .1
 chain-after s t (reads b ∷ before) m after c = chain-after (b .session) (b .store) before m after (c .1)
-chain-after s t (passes p ∷ before) m after c = chain-after s (p .store) before m after (c .2)
+chain-after s t (passes p ∷ before) m after c = chain-after s (p .store) before m after (c .1)
 
 module _ (s : Session) (t : Store) (cs : List Called) (place : ℕ) (c : Chain s t cs) where
   same-entry : rawLastEntry t (map rawCalled cs) place ≡ lastEntry t cs place

@@ -110,7 +110,7 @@ same-responses s t (reads m ∷ cs) c =
     rw (e, h)
     (λ i. record { number = answerNumber a; values = values-told m i; reply = same-reply m i } ∷ rest i))
     (λ h. rw (e, h) rest)
-same-responses s t (passes p ∷ cs) c = same-responses s (p .store) cs (c .2)
+same-responses s t (passes p ∷ cs) c = same-responses s (p .store) cs (c .1)
 
 same-came : (s : Session) (t : Store) (cs : List Called) → Chain s t cs → rawCameTo s t (map rawCalled cs) ≡ inNumbers (cameTo s t cs)
 unfolding rawCameTo cameTo inNumbers
@@ -252,7 +252,7 @@ unfolding Chain AcknowledgedCalls RawAcknowledgedCalls
 acknowledged-calls s t l u [] c k = tt
 acknowledged-calls s t l u (reads m ∷ cs) c k =
     acknowledged-call l u m cs (map rawCalled cs) (refused-byte s t m (c .0)) (λ l′ u′ k′. acknowledged-calls (m .session) (m .store) l′ u′ cs (c .1) k′) k
-acknowledged-calls s t l u (passes p ∷ cs) c k = acknowledged-calls s (p .store) l u cs (c .2) k
+acknowledged-calls s t l u (passes p ∷ cs) c k = acknowledged-calls s (p .store) l u cs (c .1) k
 
 -- ---- never 4
 

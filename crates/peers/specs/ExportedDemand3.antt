@@ -14,7 +14,6 @@ use Rattle.session.specs.declared.Session.{Session}
 use Rattle.session.specs.declared.Answer.{Answer}
 use Rattle.session.specs.Answers.{answerNumber, answerValues}
 use Rattle.session.specs.Session.{unfinished, isClosed, holding}
-use Rattle.session.specs.Shape.{SessionShape}
 use Rattle.session_soundness.specs.Sound.{sound}
 use Rattle.streams.specs.Model.{Item, event, bytes, bytesIn}
 use Rattle.streams.specs.Calls.{Call, Response, Result, resultOf, Part, moment, onPart, timeline, begun, current, without, reachable}
@@ -34,11 +33,11 @@ pub data RawCalled : Type 0 where
   rawPasses : Passed → RawCalled
 
 -- each call kept its promise, and got the store that the last call left and, to read, the record that the last reading call left. A passing
--- call isn't given the record; it has the shape of its type meanwhile
+-- call isn't given the record
 unfoldable pub RawChain : Session → Store → List RawCalled → Type 0
 RawChain s t [] = Unit {0}
 RawChain s t (rawReads m ∷ cs) = RawPromise s t m × RawChain (m .session) (m .store) cs
-RawChain s t (rawPasses p ∷ cs) = SessionShape s × PassPromise t p × RawChain s (p .store) cs
+RawChain s t (rawPasses p ∷ cs) = PassPromise t p × RawChain s (p .store) cs
 
 -- the values that a call returned: the first `count` of the four numbers
 unfoldable pub rawValues : RawMade → List ℕ

@@ -87,7 +87,7 @@ steps-bytes s t [] h = every-nil (ofBytes peers)
 steps-bytes s t (reads m ∷ cs) h =
     every-both (ofBytes peers) (reading (m .piece) (length (m .room))) (stepsOf cs) (h .0 .bytes) (steps-bytes (m .session) (m .store) cs (h .1))
 steps-bytes s t (passes p ∷ cs) h =
-    every-both (ofBytes peers) (happening (p .milliseconds)) (stepsOf cs) refl (steps-bytes s (p .store) cs (h .2))
+    every-both (ofBytes peers) (happening (p .milliseconds)) (stepsOf cs) refl (steps-bytes s (p .store) cs (h .1))
 
 pub closed-held : (s : Session) (t : Store) → isClosed (heldBy s t .connection) ≡ isClosed (s .connection)
 unfolding heldBy
@@ -117,8 +117,8 @@ module _ (law : Lawful peers Good) where
       ∙ sym (run-cons (heldBy s t) (m .piece) (length (m .room)) (stepsOf cs))))
   runs s t (passes p ∷ cs) h f g =
       came-passed s t p cs
-      ∙ (runs s (p .store) cs (h .2) (passed-keeps-sound t p (h .1) s f) (passed-good t p (h .1) s f g)
-      ∙ (ap (λ (k : State). runCalls peers k (stepsOf cs)) (passed-state t p (h .1) s f) ∙ sym (run-passed (heldBy s t) (p .milliseconds) (stepsOf cs))))
+      ∙ (runs s (p .store) cs (h .1) (passed-keeps-sound t p (h .0) s f) (passed-good t p (h .0) s f g)
+      ∙ (ap (λ (k : State). runCalls peers k (stepsOf cs)) (passed-state t p (h .0) s f) ∙ sym (run-passed (heldBy s t) (p .milliseconds) (stepsOf cs))))
 
   -- the bytes that they took and the times where they passed are the model's
   pub takes : (s : Session) (t : Store) (cs : List Called) → Chain s t cs → sound s t ≡ true → Good (heldBy s t)
@@ -134,8 +134,8 @@ module _ (law : Lawful peers Good) where
       ∙ (ap (λ (n : ℕ). bytes (take n (m .piece)) ++ takenBy cs) (sym (made-taken s t m (h .0) f)) ∙ unfold takenBy in refl)))
   takes s t (passes p ∷ cs) h f g =
       taken-passed (heldBy s t) (p .milliseconds) (stepsOf cs)
-      ∙ (ap (λ (k : State). event (p .milliseconds) ∷ takenOf peers k (stepsOf cs)) (sym (passed-state t p (h .1) s f))
-      ∙ (ap (event (p .milliseconds) ∷_) (takes s (p .store) cs (h .2) (passed-keeps-sound t p (h .1) s f) (passed-good t p (h .1) s f g))
+      ∙ (ap (λ (k : State). event (p .milliseconds) ∷ takenOf peers k (stepsOf cs)) (sym (passed-state t p (h .0) s f))
+      ∙ (ap (event (p .milliseconds) ∷_) (takes s (p .store) cs (h .1) (passed-keeps-sound t p (h .0) s f) (passed-good t p (h .0) s f g))
       ∙ unfold takenBy in refl))
 
   -- calls that offer a stream are the model's calls that offer it
@@ -154,8 +154,8 @@ module _ (law : Lawful peers Good) where
         subst (λ (k : State). Offers peers k (o .1) (stepsOf cs)) e r,
       )
   offers s t (passes p ∷ cs) stream h f g o =
-      let r = offers s (p .store) cs (o .0) (h .2) (passed-keeps-sound t p (h .1) s f) (passed-good t p (h .1) s f g) (o .2) in
-      (o .0, o .1, subst (λ (k : State). Offers peers k (o .0) (stepsOf cs)) (passed-state t p (h .1) s f) r)
+      let r = offers s (p .store) cs (o .0) (h .1) (passed-keeps-sound t p (h .0) s f) (passed-good t p (h .0) s f g) (o .2) in
+      (o .0, o .1, subst (λ (k : State). Offers peers k (o .0) (stepsOf cs)) (passed-state t p (h .0) s f) r)
 
   -- record and store stay sound
   pub ends-sound : (s : Session) (t : Store) (cs : List Called) → Chain s t cs → sound s t ≡ true → Good (heldBy s t)
@@ -165,7 +165,7 @@ module _ (law : Lawful peers Good) where
   ends-sound s t (reads m ∷ cs) h f g =
       ends-sound (m .session) (m .store) cs (h .1) (made-sound s t m (h .0) f law g) (made-good s t m (h .0) f law g)
   ends-sound s t (passes p ∷ cs) h f g =
-      ends-sound s (p .store) cs (h .2) (passed-keeps-sound t p (h .1) s f) (passed-good t p (h .1) s f g)
+      ends-sound s (p .store) cs (h .1) (passed-keeps-sound t p (h .0) s f) (passed-good t p (h .0) s f g)
 
   -- ---- each call
 
@@ -237,7 +237,7 @@ module _ (law : Lawful peers Good) where
       none-taken (m .session) (m .store) cs (h .1) (made-sound s t m (h .0) f law g) (made-good s t m (h .0) f law g) (omega arith)
       ∙ kept s t m (h .0) f (omega arith) .0
   none-taken s t (passes p ∷ cs) h f g e =
-      none-taken s (p .store) cs (h .2) (passed-keeps-sound t p (h .1) s f) (passed-good t p (h .1) s f g) (sym (passed-length p cs) ∙ e)
+      none-taken s (p .store) cs (h .1) (passed-keeps-sound t p (h .0) s f) (passed-good t p (h .0) s f g) (sym (passed-length p cs) ∙ e)
 
   -- a record that holds its state with zeros behind the unfinished bytes
   abbrev Held : Sending → Session → Type 0
@@ -268,7 +268,7 @@ module _ (law : Lawful peers Good) where
       subst (λ (x : Sending). Held x (lastSession (m .session) cs)) (sending-kept s t m (h .0))
       (some-taken (m .session) (m .store) cs (h .1) f′ g′ (eqb-false (length (bytesIn (takenBy cs))) 0 z)))
   some-taken s t (passes p ∷ cs) h f g e =
-      some-taken s (p .store) cs (h .2) (passed-keeps-sound t p (h .1) s f) (passed-good t p (h .1) s f g) (λ z. e (passed-length p cs ∙ z))
+      some-taken s (p .store) cs (h .1) (passed-keeps-sound t p (h .0) s f) (passed-good t p (h .0) s f g) (λ z. e (passed-length p cs ∙ z))
 
   pub ends-at : (s : Session) (t : Store) (cs : List Called) → Chain s t cs → sound s t ≡ true → Good (heldBy s t)
       → lastSession s cs ≡ cond (eqb (length (bytesIn (takenBy cs))) 0) s (holding (s .sending) (lastSession s cs .connection) (unfinished (lastSession s cs)))

@@ -12,13 +12,14 @@ use borrow.Author.Tests.{eqb-true}
 use Rattle.lists.specs.Lists.{every}
 use Rattle.lists.proofs.Cases.{by-test, cond-true}
 use Rattle.store.specs.declared.Store.{Store}
+use Rattle.store.specs.Time.{Passed, PassPromise}
 use Rattle.session.specs.declared.Session.{Session}
 use Rattle.session.specs.Answers.{refusalOf}
 use Rattle.session.specs.declared.Answer.{Answer}
 use Rattle.session.specs.declared.Answer.the-variants as answer
 use Rattle.session.specs.Session.{holding, isClosed, unfinished}
 use Rattle.session_soundness.specs.Sound.{sound}
-use Rattle.streams.specs.Model.{answered, Item, bytesIn, feedAll}
+use Rattle.streams.specs.Model.{answered, Item, event, Ran, bytesIn, feedAll}
 use Rattle.streams.specs.Calls.{Result, resultOf, readCall}
 use Rattle.streams.specs.Claim.{Lawful, AsModel, Division}
 use Rattle.streams.specs.Fold.{AllAlong, Folds}
@@ -31,7 +32,7 @@ use Rattle.receiver.specs.Promise.{Made, ReadPromise}
 use Rattle.receiver.specs.Ledger.{Ledger, startLedger, post, Acknowledged}
 use Rattle.receiver.specs.Demand3.{Called, reads, passes, Chain, takenBy, lastSession, lastStore, responsesOf, repliesOf, cameTo, modelRan, CallAsModel, EachCall, OffersTo, AcknowledgedCalls, NeverUnsound, Demand3}
 use Rattle.receiver.proofs.OneRead.{made-answer, made-sound, made-good, made-is, made-count, kept, room-kept, final-length}
-use Rattle.receiver.proofs.OnePass.{passed-model, passed-keeps-sound, passed-good}
+use Rattle.receiver.proofs.OnePass.{passed-model, passed-keeps-sound, passed-state, passed-good}
 use Rattle.receiver.proofs.NoneTaken.{none-test}
 use Rattle.receiver.proofs.Offered.{every-cutting}
 use Rattle.receiver.proofs.Chained.{stepsOf, good-held, steps-bytes, runs, takes, offers, call-has, not-4, ends-sound, ends-at, closed-held}
@@ -112,8 +113,8 @@ module _ (law : Lawful peers Good)
     each (m .session) (m .store) cs (h .1) (made-sound s t m (h .0) f law g) (made-good s t m (h .0) f law g),
   )
   each s t (passes p ∷ cs) h f g = (
-    passed-model t p (h .1) s f,
-    each s (p .store) cs (h .2) (passed-keeps-sound t p (h .1) s f) (passed-good t p (h .1) s f g),
+    passed-model t p (h .0) s f,
+    each s (p .store) cs (h .1) (passed-keeps-sound t p (h .0) s f) (passed-good t p (h .0) s f g),
   )
 
   -- ---- 5
@@ -126,8 +127,8 @@ module _ (law : Lawful peers Good)
     never (m .session) (m .store) cs (h .1) (made-sound s t m (h .0) f law g) (made-good s t m (h .0) f law g),
   )
   never s t (passes p ∷ cs) h f g = (
-    passed-model t p (h .1) s f .number,
-    never s (p .store) cs (h .2) (passed-keeps-sound t p (h .1) s f) (passed-good t p (h .1) s f g),
+    passed-model t p (h .0) s f .number,
+    never s (p .store) cs (h .1) (passed-keeps-sound t p (h .0) s f) (passed-good t p (h .0) s f g),
   )
 
   -- ---- the claim, where the first record and store have their shape
@@ -214,9 +215,38 @@ module _ (law : Lawful peers Good)
     never-4 = tt;
   }
 
+  -- a time first: the claim is that of the calls behind it, from the store that it left
+  module _ (s : Session) (t : Store) (p : Passed) (cs : List Called) (promise : PassPromise t p) (f : sound s t ≡ true) (d : Demand3 s (p .store) cs) where
+    ran-on : (rest : List (Item Event)) → modelRan s (p .store) rest ≡ modelRan s t (event (p .milliseconds) ∷ rest)
+    unfolding modelRan feedAll
+    ran-on rest = ap (λ (k : State). feedAll peers k (unfinished s) rest) (passed-state t p promise s f)
+
+    -- the record after a stream, where the model ran so
+    abbrev recordAfter : Bool → Ran State Answer → Session
+    recordAfter stays r = cond stays s (holding (s .sending) (r .state .connection) (r .state .unfinished))
+
+    passed-first : Demand3 s t (passes p ∷ cs)
+    unfolding EachCall NeverUnsound cameTo takenBy lastSession lastStore responsesOf repliesOf bytesIn OffersTo AcknowledgedCalls
+    passed-first = record {
+      each = (passed-model t p promise s f, d .each);
+      taken = d .taken ∙ ap resultOf (ran-on (takenBy cs));
+      left-out = left-out;
+      record-is = d .record-is ∙ ap (recordAfter (eqb (length (bytesIn (takenBy cs))) 0)) (ran-on (takenBy cs));
+      whole = λ stream o. d .whole (o .0) (o .2) ∙ ap resultOf (ran-on (o .0) ∙ ap (modelRan s t) (o .1));
+      whole-record = λ stream o.
+          d .whole-record (o .0) (o .2)
+          ∙ (ap (recordAfter (eqb (length (bytesIn (o .0))) 0 || isClosed (s .connection))) (ran-on (o .0))
+          ∙ ap (λ (l : List (Item Event)). recordAfter (eqb (length (bytesIn l)) 0 || isClosed (s .connection)) (modelRan s t l)) (o .1));
+      exists = every-cutting law s t f;
+      acknowledged =
+          subst (λ (r : Ran State Answer). AllAlong post Acknowledged (startLedger (s .connection)) (r .ended)) (ran-on (takenBy cs)) (d .acknowledged);
+      acknowledged-calls = d .acknowledged-calls;
+      sound = d .sound;
+      never-4 = (passed-model t p promise s f .number, d .never-4);
+    }
+
   pub claimed : (s : Session) (t : Store) (cs : List Called) → sound s t ≡ true → Chain s t cs → Demand3 s t cs
   unfolding Chain
   claimed s t [] f h = none s t f
   claimed s t (reads m ∷ cs) f h = all-claimed s t (reads m ∷ cs) h f (good-held s t (h .0 .shaped) f)
-  claimed s t (passes p ∷ cs) f h =
-      all-claimed s t (passes p ∷ cs) h f (good-held s t (record { session = h .0; store = h .1 .shaped }) f)
+  claimed s t (passes p ∷ cs) f h = passed-first s t p cs (h .0) f (claimed s (p .store) cs (passed-keeps-sound t p (h .0) s f) (h .1))

@@ -23,6 +23,7 @@ use Rattle.receiver.specs.Demand3.{Called, reads, passes, Chain, OffersT
 use Rattle.receiver.specs.Corollaries.{SameByAnyDivision, AnyDivision, OfferedReachable, BytesOffered, BytesByReading, BytesRecord, ReadingTakes}
 use Rattle.receiver.proofs.Lawfully.{lawful}
 use Rattle.receiver.proofs.Chained.{stepsOf, good-held, offers}
+use Rattle.receiver.proofs.OnePass.{passed-keeps-sound, passed-state}
 use Rattle.receiver.proofs.Demand3.{demand-3}
 
 module _ (s : Session) (t : Store) (stream : List (Item Event)) (calls others : List Called) (f : sound s t ≡ true) (c : Chain s t calls) (d : Chain s t others)
@@ -61,11 +62,13 @@ none-reachable s t stream o =
     o
 
 pub only-reachable : OfferedReachable
-unfolding Chain
+unfolding Chain OffersTo reachable
 only-reachable s t stream [] f c o = none-reachable s t stream o
 only-reachable s t stream (reads m ∷ cs) f c o = chain-reachable s t stream (reads m ∷ cs) f (c .0 .shaped) c o
 only-reachable s t stream (passes p ∷ cs) f c o =
-    chain-reachable s t stream (passes p ∷ cs) f (record { session = c .0; store = c .1 .shaped }) c o
+    ap (reachable peers (heldBy s t)) (sym (o .1))
+    ∙ (ap (λ (k : State). reachable peers k (o .0)) (sym (passed-state t p (c .0) s f))
+    ∙ only-reachable s (p .store) (o .0) cs (passed-keeps-sound t p (c .0) s f) (c .1) (o .2))
 
 -- ---- bytes alone
 

@@ -132,4 +132,4 @@ ledger-along s t (reads m ∷ cs) c f g l k u o =
     (ways s t m (c .0))
 ledger-along s t (passes p ∷ cs) c f g l k u o =
     passed-next l u p cs
-    (ledger-along s (p .store) cs (c .2) (passed-keeps-sound t p (c .1) s f) (passed-good t p (c .1) s f g) l k u o)
+    (ledger-along s (p .store) cs (c .1) (passed-keeps-sound t p (c .0) s f) (passed-good t p (c .0) s f g) l k u o)

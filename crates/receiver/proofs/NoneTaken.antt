@@ -107,7 +107,7 @@ closed-none s t (reads m ∷ cs) o c =
     let z = closed-takes s t m (c .0) o in
     let e = same-record s t m (c .0) z in
     none-in m cs z (closed-none (m .session) (m .store) cs (ap (λ (x : Session). isClosed (x .connection)) e ∙ o) (c .1))
-closed-none s t (passes p ∷ cs) o c = passed-in p cs ∙ closed-none s (p .store) cs o (c .2)
+closed-none s t (passes p ∷ cs) o c = passed-in p cs ∙ closed-none s (p .store) cs o (c .1)
 
 -- a call that takes nothing leaves all of the stream
 left-over : (m : Made) (stream later : List (Item Event)) → m .outcome .taken ≡ 0 → bytes (take (m .outcome .taken) (m .piece)) ++ later ≡ stream
@@ -128,7 +128,7 @@ empty-none s t stream (reads m ∷ cs) n c o =
     (empty-none (m .session) (m .store) (o .1) cs (ap bytesIn (left-over m stream (o .1) z (o .2)) ∙ n) (c .1) (o .3))
 empty-none s t stream (passes p ∷ cs) n c o =
     passed-in p cs
-    ∙ empty-none s (p .store) (o .0) cs (sym (time-in (p .milliseconds) (o .0)) ∙ (ap bytesIn (o .1) ∙ n)) (c .2) (o .2)
+    ∙ empty-none s (p .store) (o .0) cs (sym (time-in (p .milliseconds) (o .0)) ∙ (ap bytesIn (o .1) ∙ n)) (c .1) (o .2)
 
 -- where a stream was offered and no byte was taken, the stream has none or the session was closed
 pub none-why : (s : Session) (t : Store) (stream : List (Item Event)) (cs : List Called) → Chain s t cs → OffersTo s stream cs → bytesIn (takenBy cs) ≡ []
@@ -148,7 +148,7 @@ none-why s t stream (passes p ∷ cs) c o h =
     ⊎-elim
     (λ r. inl (sym (ap bytesIn (o .1)) ∙ (time-in (p .milliseconds) (o .0) ∙ r)))
     inr
-    (none-why s (p .store) (o .0) cs (c .2) (o .2) (sym (passed-in p cs) ∙ h))
+    (none-why s (p .store) (o .0) cs (c .1) (o .2) (sym (passed-in p cs) ∙ h))
 
 no-length : (xs : List ℕ) → length xs ≡ 0 → xs ≡ []
 no-length [] h = refl

@@ -100,7 +100,7 @@ module _ (law : Lawful peers Good) where
         let d = every-cons onCall (happening e) steps q in
         let p = pass-promised t e (sh .store) (d .0) in
         let k = spent t e in
-        (sh .session, p, chain s (k .store) steps (passed-shaped t k p s f (sh .session)) (passed-keeps-sound t k p s f) (d .1))
+        (p, chain s (k .store) steps (passed-shaped t k p s f (sh .session)) (passed-keeps-sound t k p s f) (d .1))
 
     offered : (s : Session) (t : Store) (rest : List (Item Event)) (steps : List (Step Event)) → Shaped s t → sound s t ≡ true
         → every onCall steps ≡ true → every (readsIn (length room)) steps ≡ true → Offers peers (heldBy s t) rest steps

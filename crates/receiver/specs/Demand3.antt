@@ -15,7 +15,6 @@ use Rattle.session.specs.Answers.{refusalOf}
 use Rattle.session.specs.declared.Answer.{Answer}
 use Rattle.session.specs.declared.Answer.the-variants as answer
 use Rattle.session.specs.Session.{unfinished, isClosed, holding}
-use Rattle.session.specs.Shape.{SessionShape}
 use Rattle.session_soundness.specs.Sound.{sound}
 use Rattle.streams.specs.Model.{Item, event, Ended, Ran, bytes, bytesIn, feedAll}
 use Rattle.streams.specs.Calls.{Call, Response, Result, resultOf, Part, moment, onPart, timeline, begun, current, without, reachable}
@@ -33,11 +32,11 @@ pub data Called : Type 0 where
   passes : Passed → Called
 
 -- each call kept its promise, and got the store that the last call left and, to read, the record that the last reading call left. A passing
--- call isn't given the record; it has the shape of its type meanwhile
+-- call isn't given the record
 unfoldable pub Chain : Session → Store → List Called → Type 0
 Chain s t [] = Unit {0}
 Chain s t (reads m ∷ cs) = ReadPromise s t m × Chain (m .session) (m .store) cs
-Chain s t (passes p ∷ cs) = SessionShape s × PassPromise t p × Chain s (p .store) cs
+Chain s t (passes p ∷ cs) = PassPromise t p × Chain s (p .store) cs
 
 -- the reply that a call wrote: the front of its room
 unfoldable pub replyIn : Made → List ℕ
