@@ -1,7 +1,6 @@
 -- Each exported call is a call with the answer enum, in numbers: what is proved of lists of those carries over.
-use Prim.Native.Nat.{_≤_, _<_}
+use Prim.Native.Nat.{_≤_}
 use native.Mathlib.Omega.{arith}
-use mathlib.Core.Option.{some}
 use mathlib.Core.Path.{_≡_, refl}
 use mathlib.Core.List.{List, [], _∷_, map}
 use lib.ListN.{length}
@@ -10,7 +9,7 @@ use Rattle.store.specs.declared.Store.{Store}
 use Rattle.session.specs.declared.Session.{Session}
 use Rattle.session.specs.declared.Answer.{Answer}
 use Rattle.session.specs.declared.Answer.the-variants as answer
-use Rattle.session.specs.Answers.{refusalOf, answerNumber, answerValues}
+use Rattle.session.specs.Answers.{answerValues}
 use Rattle.receiver.specs.Promise.{Made, ReadPromise, callOf, outcomeOf}
 use Rattle.receiver.specs.Demand3.{Called, reads, passes, Chain}
 use Rattle.peers.specs.Numbers.{rawOutcome}
@@ -120,23 +119,3 @@ values-most (answer.RefusedAt number offset) = omega arith
 pub values-told : (m : Made) → rawValues (rawOf m) ≡ answerValues (m .outcome .answer)
 unfolding rawValues rawOutcome
 values-told m = pad-take 4 (answerValues (m .outcome .answer)) (values-most (m .outcome .answer))
-
--- a number below 256 is a refusal's
-pub refused-is : (a : Answer) → answerNumber a < 256 → refusalOf a ≡ some (answerNumber a)
-unfolding answerNumber refusalOf
-refused-is answer.More l = absurd (omega (arith, l))
-refused-is (answer.Hello process relative) l = absurd (omega (arith, l))
-refused-is answer.Status l = absurd (omega (arith, l))
-refused-is answer.Request l = absurd (omega (arith, l))
-refused-is answer.Finished l = absurd (omega (arith, l))
-refused-is answer.Partial l = absurd (omega (arith, l))
-refused-is answer.Confirmed l = absurd (omega (arith, l))
-refused-is answer.Heartbeat l = absurd (omega (arith, l))
-refused-is (answer.Error type) l = absurd (omega (arith, l))
-refused-is (answer.Table place) l = absurd (omega (arith, l))
-refused-is (answer.Switch place) l = absurd (omega (arith, l))
-refused-is (answer.Update table id entry how) l = absurd (omega (arith, l))
-refused-is (answer.Acknowledgement id update) l = absurd (omega (arith, l))
-refused-is (answer.Skipped type) l = absurd (omega (arith, l))
-refused-is (answer.Refused n) l = refl
-refused-is (answer.RefusedAt n offset) l = refl

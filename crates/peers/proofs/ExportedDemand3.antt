@@ -18,6 +18,7 @@ use Rattle.session.specs.declared.Answer.the-variants as answer
 use Rattle.session.specs.Answers.{refusalOf, answerNumber, answerValues}
 use Rattle.session.specs.Session.{unfinished}
 use Rattle.session.proofs.answers.OneToOne.{RefusedByte}
+use Rattle.session.proofs.answers.Refusals.{refused-is}
 use Rattle.session_soundness.specs.Sound.{sound}
 use Rattle.streams.specs.Model.{Item, event, Ended, bytes}
 use Rattle.streams.specs.Calls.{Part, timeline, without}
@@ -29,7 +30,7 @@ use Rattle.receiver.proofs.Demand3.{demand-3}
 use Rattle.receiver.proofs.Sharing.{refused-byte}
 use Rattle.peers.specs.Numbers.{rawOutcome}
 use Rattle.peers.specs.ExportedDemand3.{RawCalled, rawReads, rawReply, rawTaken, rawLastSession, rawLastStore, endsNumber, rawResponses, rawReplies, rawCameTo, responseInNumbers, inNumbers, RawCallAsModel, RawEachCall, RawOffersTo, RawWithinCuts, RawRooms, RawOffering, rawPost, RawRightReply, RawAcknowledgedCalls, RawNeverUnsound, ExportedDemand3, EveryListOfCalls}
-use Rattle.peers.proofs.AsMade.{rawOf, rawCalled, madesBy, mades-chain, mades-same, raw-chain, values-most, values-told, refused-is}
+use Rattle.peers.proofs.AsMade.{rawOf, rawCalled, madesBy, mades-chain, mades-same, raw-chain, values-most, values-told}
 
 -- ---- the test on the number is the test on the answer
 

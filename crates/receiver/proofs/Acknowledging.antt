@@ -107,7 +107,7 @@ module _ (s : Session) (t : Store) (m : Made) (p : ReadPromise s t m) where
   by-refusal n a (judging e j) =
       let r = sym (ap refusalOf (j .answer)) ∙ (sym (ap refusalOf (answer-is s t m p)) ∙ a) in
       let k = settled-refused (s .connection) t _ e (j .judged) n r in
-      inr (k .0, closed n (k .1 .0) e j (k .1 .1))
+      inr (k .closes, closed n (k .answer) e j (k .effect))
 
 pub refused-untouched : RefusedUntouched
 refused-untouched s t m n p a = by-refusal s t m p n a (ways s t m p)

@@ -6,10 +6,10 @@ use mathlib.Core.Path.{_≡_, refl, sym, ap, _∙_, subst}
 use mathlib.Core.Logic.{_⊎_, inl, inr}
 use mathlib.Core.Option.{Option, some, none}
 use mathlib.Core.Bool.{true, false, _||_}
-use mathlib.Core.List.{List, []}
+use mathlib.Core.List.{List, [], _∷_}
 use lib.ListN.{length, take, drop, getD}
 use lib.Dec.{eqb}
-use borrow.Author.Tests.{eqb-true, le-leb, lt-leb}
+use borrow.Author.Tests.{eqb-true, eqb-false, ne-eqb, le-leb, lt-leb}
 use Rattle.lists.specs.declared.Found.{Found}
 use Rattle.lists.specs.declared.Found.the-variants as found
 use Rattle.lists.specs.Lists.{firstPlace}
@@ -36,16 +36,19 @@ use Rattle.session.specs.declared.Commit.the-variants as commit
 use Rattle.session.specs.declared.Answer.{Answer}
 use Rattle.session.specs.declared.Answer.the-variants as answer
 use Rattle.session.specs.Session.{localName, remoteName, bindingAt, isUpdated}
+use Rattle.body.specs.declared.Failure.{Failure}
+use Rattle.body.specs.declared.Failure.the-variants as failure
 use Rattle.body.specs.declared.Fault.{Fault}
 use Rattle.body.specs.Fields.{Read, got, failed, spanIn}
-use Rattle.body.specs.Bodies.{Definition, Update, definitionFields, updateFields, formOf}
+use Rattle.body.specs.Bodies.{Definition, Update, definitionFields, switchFields, acknowledgementFields, updateFields, formOf}
+use Rattle.body.proofs.BodiesBreak.{bodies-break}
 use Rattle.message.specs.Targets.{keyedAs, goesTo}
 use Rattle.message.proofs.Kept.{failure-least, failure-most}
-use Rattle.session.specs.Answers.{refusalOf}
+use Rattle.session.specs.Answers.{refusalOf, answerValues}
 use Rattle.message.specs.Effects.{Effect, refuseWith, refuse, refusal, failureNumber, refuseBody, note, fieldsThen, control, controlAnswer, peerError, definedTable, defineAt, defineNew, defineNamed, agrees, definition, switchTo, switch, acknowledgement, skipped, updatedEntry, commitAt, commitEntry, withFields, followingId, updateOf, update, otherMessage, byForm, stickTable, done}
 use Rattle.body.specs.declared.update.Form.{Form}
 use Rattle.reassembly.specs.Judge.{Judged, waiting, settled, helloJudged, statusJudged, frameJudged, asksNone, judgeBytes, doneOf, judge}
-use Rattle.receiver.specs.Corollaries.{closes, fieldsOf}
+use Rattle.receiver.specs.Corollaries.{closes, fieldsOf, givesOffset, FieldFails, inDefinition, inSwitch, inAcknowledgement, inUpdate, BodyBroke, OffsetGiven}
 
 -- an answer that leaves the store as it is, and is no refusal
 abbrev pub Noted : Answer → Type 0
@@ -101,7 +104,7 @@ pub record Defining (c : Connection) (t : Store) (u : List ℕ) (fields : Defini
   pub inside : place < length (t .tables)
 
 pub data Kind (c : Connection) (t : Store) (u : List ℕ) : Effect → Type 0 where
-  refused : (n : ℕ) (a : Answer) → closes n ≡ true → refusalOf a ≡ some n → Kind c t u (refuseWith c n a)
+  refused : (n : ℕ) (a : Answer) → closes n ≡ true → refusalOf a ≡ some n → OffsetGiven c t u n (answerValues a) → Kind c t u (refuseWith c n a)
   noted : (d : Connection) (a : Answer) (reply : List ℕ) → Noted a → Kind c t u (note d a reply)
   errored : (type : ℕ) → Kind c t u (peerError c type)
   defined : (fields : Definition) (body : List ℕ) (place : ℕ) → Defining c t u fields body place
@@ -119,26 +122,30 @@ closes-high : (n : ℕ) → 20 ≤ n → n ≤ 30 → closes n ≡ true
 unfolding closes
 closes-high n a b = rw (le-leb 10 n (let z : 10 ≤ n = omega arith in z), lt-leb n 15 (let z : 15 < n = omega arith in z), le-leb 20 n a, le-leb n 30 b)
 
+-- those of a hello, a status and a frame have no offset, nor have those between 24 and 30; those of a body's field have one
+low-none : (n : ℕ) → n ≤ 22 → givesOffset n ≡ false
+unfolding givesOffset
+low-none n l = rw (ne-eqb n 23 (λ e. omega (arith, e, l)), ne-eqb n 24 (λ e. omega (arith, e, l)), ne-eqb n 30 (λ e. omega (arith, e, l)))
+
+between-none : (n : ℕ) → 25 ≤ n → n ≤ 29 → givesOffset n ≡ false
+unfolding givesOffset
+between-none n a b = rw (ne-eqb n 23 (λ e. omega (arith, e, a)), ne-eqb n 24 (λ e. omega (arith, e, a)), ne-eqb n 30 (λ e. omega (arith, e, b)))
+
+failure-offset : (f : Failure) → givesOffset (failureNumber f) ≡ true
+unfolding givesOffset failureNumber
+failure-offset failure.Short = refl
+failure-offset failure.OutOfRange = refl
+failure-offset failure.NotPlain = refl
+
 -- ---- messages of class 10
 
 module _ (c : Connection) (t : Store) (u : List ℕ) where
-  refuses : (n : ℕ) → closes n ≡ true → Kind c t u (refuse c n)
+  refuses : (n : ℕ) → closes n ≡ true → givesOffset n ≡ false → Kind c t u (refuse c n)
   unfolding refuse
-  refuses n h = refused n (answer.Refused n) h (unfold refusalOf in refl)
+  refuses n h o = refused n (answer.Refused n) h (unfold refusalOf in refl) (rw o (unfold answerValues in refl))
 
-  refused-with : (n : ℕ) → 20 ≤ n → n ≤ 30 → Kind c t u (refuse c n)
-  refused-with n a b = refuses n (closes-high n a b)
-
-  body-kind : (f : Fault) → Kind c t u (refuseBody c f)
-  unfolding refuseBody
-  body-kind f =
-      let n = failureNumber (f .failure) in
-      refused n (answer.RefusedAt n (f .start)) (closes-high n (failure-least (f .failure)) (failure-most (f .failure))) (unfold refusalOf in refl)
-
-  fields-kind : {A : Type 0} (r : Read A) (f : A → Effect) → ((a : A) → Kind c t u (f a)) → Kind c t u (fieldsThen (refuseBody c) r f)
-  unfolding fieldsThen
-  fields-kind (got a n) f g = g a
-  fields-kind (failed e) f g = body-kind e
+  refused-with : (n : ℕ) → 25 ≤ n → n ≤ 29 → Kind c t u (refuse c n)
+  refused-with n a b = refuses n (closes-high n (omega (arith, a)) (omega (arith, b))) (between-none n a b)
 
   switch-kind : (f : Found) → Kind c t u (switchTo c f)
   unfolding switchTo
@@ -148,6 +155,34 @@ module _ (c : Connection) (t : Store) (u : List ℕ) where
   module _ (kind start end : ℕ) (e : judgeFrame u ≡ frame.Body kind start end) where
     abbrev body : List ℕ
     body = bodyIn u start end
+
+    -- a field that fails
+    body-broke : (f : Fault) → FieldFails c t kind body f → BodyBroke c t u (failureNumber (f .failure)) (f .start ∷ [])
+    body-broke f h = record {
+      kind = kind;
+      start = start;
+      end = end;
+      framed = e;
+      body = body;
+      body-is = refl;
+      fault = f;
+      number-is = refl;
+      offset = refl;
+      fails = h;
+    }
+
+    body-kind : (f : Fault) → FieldFails c t kind body f → Kind c t u (refuseBody c f)
+    unfolding refuseBody answerValues
+    body-kind f h =
+        let n = failureNumber (f .failure) in
+        refused n (answer.RefusedAt n (f .start)) (closes-high n (failure-least (f .failure)) (failure-most (f .failure))) (unfold refusalOf in refl)
+        (rw (failure-offset (f .failure)) (body-broke f h))
+
+    fields-kind : {A : Type 0} (r : Read A) (f : A → Effect) → ((a : A) → Kind c t u (f a)) → ((x : Fault) → r ≡ failed x → FieldFails c t kind body x)
+        → Kind c t u (fieldsThen (refuseBody c) r f)
+    unfolding fieldsThen
+    fields-kind (got a n) f g h = g a
+    fields-kind (failed x) f g h = body-kind x (h x refl)
 
     -- a definition
     module _ (k : kind ≡ 130) (d : Definition) (after : ℕ) (r : definitionFields body ≡ got d after) where
@@ -174,7 +209,7 @@ module _ (c : Connection) (t : Store) (u : List ℕ) where
         → Kind c t u (fieldsThen (refuseBody c) r λ d. defineNamed c (t .tables) (d .id) (definedTable body d) (firstPlace (tableNamed (spanIn body (d .name))) (t .tables)))
     unfolding fieldsThen
     definition-kind k (got d after) r = named-kind k d after r (spanIn body (d .name)) _ refl
-    definition-kind k (failed f) r = body-kind f
+    definition-kind k (failed f) r = body-kind f (inDefinition k (r, bodies-break .definition body f r))
 
     abbrev now : ℕ
     now = c .current - 1
@@ -204,7 +239,9 @@ module _ (c : Connection) (t : Store) (u : List ℕ) where
       with-kind : (r : Read Update) → fieldsOf c t now form body ≡ r → Kind c t u (done c (t .entries) (withFields c body now r))
       unfolding withFields fieldsThen refusal done goesTo
       with-kind (got f after) q = commit-entry-kind f after _ _ q refl refl
-      with-kind (failed f) q = body-kind f
+      with-kind (failed f) q =
+          let x = eqb-false (c .current) 0 z in
+          body-kind f (inUpdate form now type (omega (arith, x)) previous (q, bodies-break .update form (getD (t .tables) now noTable) _ body f q))
 
     update-kind : (form : Form) → formOf kind ≡ some form → Kind c t u (done c (t .entries) (update form c (t .tables) body))
     unfolding update updateOf refusal done
@@ -227,11 +264,17 @@ module _ (c : Connection) (t : Store) (u : List ℕ) where
         (λ d.
         rw d
         (by-test (eqb kind 131)
-        (λ f. rw f (unfold switch in fields-kind _ _ (λ x. switch-kind _)))
+        (λ f.
+        rw f
+        (unfold switch in fields-kind (switchFields body) _ (λ x. switch-kind _)
+        (λ x q. inSwitch (eqb-true kind 131 f) (q, bodies-break .switch body x q))))
         (λ f.
         rw f
         (by-test (eqb kind 132)
-        (λ g. rw g (unfold acknowledgement in fields-kind _ _ (λ x. noted c _ [] tt)))
+        (λ g.
+        rw g
+        (unfold acknowledgement in fields-kind (acknowledgementFields body) _ (λ x. noted c _ [] tt)
+        (λ x q. inAcknowledgement (eqb-true kind 132 g) (q, bodies-break .acknowledgement body x q))))
         (λ g. rw g (unfold skipped in noted c _ [] tt))))))
 
     form-kind : (form : Option Form) → formOf kind ≡ form → Kind c t u (done c (t .entries) (byForm c (t .tables) kind body form))
@@ -261,13 +304,13 @@ module _ (c : Connection) (t : Store) (u : List ℕ) where
   unfolding helloJudged
   hello-kind hello.Waiting e = tt
   hello-kind (hello.Accepted p r) e = noted _ _ _ tt
-  hello-kind (hello.Refused n) e = let k = hello-refusal (localName c) (remoteName c) u n e in refuses c t u n (closes-low n (k .0) (omega (arith, k .1)))
+  hello-kind (hello.Refused n) e = let k = hello-refusal (localName c) (remoteName c) u n e in refuses c t u n (closes-low n (k .0) (omega (arith, k .1))) (low-none n (omega (arith, k .1)))
 
   status-kind : (h : Status) → judgeStatus u ≡ h → JudgedKind c t u (statusJudged c h)
   unfolding statusJudged
   status-kind status.Waiting e = tt
   status-kind status.Accepted e = noted _ _ _ tt
-  status-kind (status.Refused n) e = let k = status-refusal u n e in refuses c t u n (closes-low n (omega (arith, k .0)) (k .1))
+  status-kind (status.Refused n) e = let k = status-refusal u n e in refuses c t u n (closes-low n (omega (arith, k .0)) (k .1)) (low-none n (omega (arith, k .1)))
 
   frame-kind : (f : Frame) → judgeFrame u ≡ f → JudgedKind c t u (doneOf c (t .entries) (frameJudged c (t .tables) u f))
   unfolding doneOf frameJudged done refusal
@@ -275,7 +318,7 @@ module _ (c : Connection) (t : Store) (u : List ℕ) where
   frame-kind (frame.Control type) e = unfold control in noted c (controlAnswer type) _ (control-noted type)
   frame-kind (frame.Error type) e = errored type
   frame-kind (frame.Body kind start end) e = stick-kind c t u kind start end e
-  frame-kind (frame.Refused n) e = let k = refused-number u n e in refuses c t u n (closes-high n (k .0) (omega (arith, k .1)))
+  frame-kind (frame.Refused n) e = let k = refused-number u n e in refuses c t u n (closes-high n (k .0) (omega (arith, k .1))) (low-none n (k .1))
 
   none-kind : (j : Judged Effect) → JudgedKind c t u j → JudgedKind c t u (doneOf c (t .entries) (asksNone j))
   unfolding doneOf asksNone done

@@ -21,3 +21,4 @@ pub mod Corollaries
 pub mod ReadBack
 pub mod Sharing
 pub mod Sending
+pub mod Refusing

@@ -26,12 +26,12 @@ use Rattle.body.specs.Fields.{got}
 use Rattle.body.specs.Bodies.{Definition, Update, definitionFields, formOf}
 use Rattle.body.specs.declared.update.Form.{Form}
 use Rattle.message.specs.Changes.{noChange, tableChange, entryChange, changed}
-use Rattle.session.specs.Answers.{refusalOf}
+use Rattle.session.specs.Answers.{refusalOf, answerValues}
 use Rattle.session.proofs.answers.Refusals.{of-refusal, no-number, same-number}
 use Rattle.message.specs.Effects.{Effect, refuseWith, note, peerError, definedTable, defineAt, acknowledge, updatedEntry, commitAt}
 use Rattle.reassembly.specs.Judge.{settled, judge}
 use Rattle.receiver.specs.Model.{endsRefused, ends}
-use Rattle.receiver.specs.Corollaries.{closes, fieldsOf}
+use Rattle.receiver.specs.Corollaries.{closes, fieldsOf, OffsetGiven}
 use Rattle.receiver.proofs.EffectKinds as kinds
 use Rattle.receiver.proofs.EffectKinds.{Noted, Kind, bodyIn, kind-of}
 
@@ -75,9 +75,16 @@ defined-held : (body : List ℕ) (d : Definition) → tableHeld (definedTable bo
 unfolding definedTable makeTable tableHeld
 defined-held body d = refl
 
+-- a refusal with this number: it closes the connection with it, and has an offset or not
+pub record Refused (c : Connection) (t : Store) (u : List ℕ) (n : ℕ) (e : Effect) : Type 0 where
+  pub closes : closes n ≡ true
+  pub answer : Answer
+  pub effect : e ≡ refuseWith c n answer
+  pub offset : OffsetGiven c t u n (answerValues answer)
+
 module _ (c : Connection) (t : Store) (u : List ℕ) where
   kind-ends : (e : Effect) → Kind c t u e → ends (e .answer) ≡ true
-  kind-ends e (kinds.refused n a h q) = unfold refuseWith in refusal-ends n a h q
+  kind-ends e (kinds.refused n a h q o) = unfold refuseWith in refusal-ends n a h q
   kind-ends e (kinds.noted d a reply h) = unfold note in noted-ends a h
   kind-ends e (kinds.errored type) = unfold peerError note ends in refl
   kind-ends e (kinds.defined fields body place k) = unfold defineAt ends in refl
@@ -91,18 +98,22 @@ module _ (c : Connection) (t : Store) (u : List ℕ) where
   noted-refused : (a : Answer) (n : ℕ) → Noted a → refusalOf a ≡ some n → ⊥
   noted-refused a n h q = of-refusal (λ (b : Answer). Noted b → ⊥) n (λ k. k) (λ offset k. k) a q h
 
-  kind-refused : (e : Effect) (n : ℕ) → Kind c t u e → refusalOf (e .answer) ≡ some n → (closes n ≡ true) × ((a : Answer) × (e ≡ refuseWith c n a))
+  kind-refused : (e : Effect) (n : ℕ) → Kind c t u e → refusalOf (e .answer) ≡ some n → Refused c t u n e
   unfolding refuseWith note peerError defineAt commitAt refusalOf
-  kind-refused e n (kinds.refused k a h p) q =
+  kind-refused e n (kinds.refused k a h p o) q =
       let r : k ≡ n = same-number k n (sym p ∙ q) in
-      (subst (λ (x : ℕ). closes x ≡ true) r h, (a, ap (λ (x : ℕ). refuseWith c x a) r))
+      record {
+        closes = subst (λ (x : ℕ). closes x ≡ true) r h;
+        answer = a;
+        effect = ap (λ (x : ℕ). refuseWith c x a) r;
+        offset = subst (λ (x : ℕ). OffsetGiven c t u x (answerValues a)) r o;
+      }
   kind-refused e n (kinds.noted d a reply h) q = absurd (noted-refused a n h q)
   kind-refused e n (kinds.errored type) q = absurd (no-number n q)
   kind-refused e n (kinds.defined fields body place k) q = absurd (no-number n q)
   kind-refused e n (kinds.committed fields body place how k) q = absurd (no-number n q)
 
-  pub settled-refused : (e : Effect) → judge c t u ≡ settled e → (n : ℕ) → refusalOf (e .answer) ≡ some n
-      → (closes n ≡ true) × ((a : Answer) × (e ≡ refuseWith c n a))
+  pub settled-refused : (e : Effect) → judge c t u ≡ settled e → (n : ℕ) → refusalOf (e .answer) ≡ some n → Refused c t u n e
   settled-refused e q n a = kind-refused e n (kind-of c t u e q) a
 
   -- ---- the store stays for every answer but a table or an update
@@ -110,7 +121,7 @@ module _ (c : Connection) (t : Store) (u : List ℕ) where
   kind-stays : (e : Effect) → Kind c t u e → ((place : ℕ) → e .answer ≡ answer.Table place → ⊥)
       → ((table id place : ℕ) (how : Commit) → e .answer ≡ answer.Update table id place how → ⊥) → changed t (e .change) ≡ t
   unfolding refuseWith refusalOf note peerError defineAt commitAt changed noChange
-  kind-stays e (kinds.refused n a h r) f g = refl
+  kind-stays e (kinds.refused n a h r o) f g = refl
   kind-stays e (kinds.noted d a reply h) f g = refl
   kind-stays e (kinds.errored type) f g = refl
   kind-stays e (kinds.defined fields body place k) f g = absurd (f place refl)
@@ -124,7 +135,7 @@ module _ (c : Connection) (t : Store) (u : List ℕ) where
 
   kind-grows : (e : Effect) → Kind c t u e → (i : ℕ) → heldAt (t .tables) i ≡ true → heldAt (changed t (e .change) .tables) i ≡ true
   unfolding refuseWith refusalOf note peerError defineAt commitAt changed noChange tableChange entryChange putTable putEntry withEntries
-  kind-grows e (kinds.refused n a h r) i k = k
+  kind-grows e (kinds.refused n a h r o) i k = k
   kind-grows e (kinds.noted d a reply h) i k = k
   kind-grows e (kinds.errored type) i k = k
   kind-grows e (kinds.defined fields body place d) i k = put-held (t .tables) place (definedTable body fields) (defined-held body fields) i k
@@ -158,7 +169,7 @@ module _ (c : Connection) (t : Store) (u : List ℕ) (table id place : ℕ) (how
 
   kind-updated : (e : Effect) → Kind c t u e → e .answer ≡ answer.Update table id place how → Updated c t u table id place e
   unfolding refuseWith refusalOf note peerError defineAt commitAt changed entryChange updatedEntry makeEntry
-  kind-updated e (kinds.refused n a h r) q = absurd (no-number n (sym (ap refusalOf q) ∙ r))
+  kind-updated e (kinds.refused n a h r o) q = absurd (no-number n (sym (ap refusalOf q) ∙ r))
   kind-updated e (kinds.noted d a reply h) q = absurd (noted-update a h q)
   kind-updated e (kinds.errored type) q = absurd (let z : _≡_ {A = ℕ} 0 1 = cc in omega arith)
   kind-updated e (kinds.defined fields body p k) q = absurd (let z : _≡_ {A = ℕ} 0 1 = cc in omega arith)
@@ -212,7 +223,7 @@ module _ (c : Connection) (t : Store) (u : List ℕ) (place : ℕ) where
 
   kind-defined : (e : Effect) → Kind c t u e → e .answer ≡ answer.Table place → Defined c t u place e
   unfolding refuseWith refusalOf note peerError defineAt commitAt changed tableChange
-  kind-defined e (kinds.refused n a h r) q = absurd (no-number n (sym (ap refusalOf q) ∙ r))
+  kind-defined e (kinds.refused n a h r o) q = absurd (no-number n (sym (ap refusalOf q) ∙ r))
   kind-defined e (kinds.noted d a reply h) q = absurd (noted-table a h q)
   kind-defined e (kinds.errored type) q = absurd (let z : _≡_ {A = ℕ} 0 1 = cc in omega arith)
   kind-defined e (kinds.defined fields body p k) q =

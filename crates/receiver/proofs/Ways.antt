@@ -1,7 +1,7 @@
 -- How a call that kept its promise ended, on any record and store: it took nothing, its bytes wait, or they came to an answer.
 use Prim.Native.Nat.{ℕ, _≤_}
 use mathlib.Core.Path.{_≡_, refl, sym, ap, _∙_}
-use mathlib.Core.Logic.{_⊎_, inl, inr}
+use mathlib.Core.Logic.{_⊎_, inl, inr, ⊎-elim}
 use mathlib.Core.Bool.{true, false}
 use mathlib.Core.List.{List, [], _++_}
 use lib.ListN.{length, take, drop}
@@ -76,41 +76,44 @@ module _ (s : Session) (t : Store) (piece : List ℕ) where
     message-is : scanned .taken ≡ part .taken → unfinished s ++ take (scanned .taken) piece ≡ part .bytes
     message-is n = ap (λ (k : ℕ). unfinished s ++ take k piece) n ∙ sym (part-bytes (s .connection) (unfinished s) piece)
 
-    waited-way : part .ended ≡ false → Way s t piece scanned
+    waited-way : part .ended ≡ false → Waiting s t piece scanned
     unfolding judgedCall
     waited-way z =
         let q = is-part ∙ waited-call s t part z in
         let n = ap (λ (k : Call State Answer). k .taken) q in
-        waiting-on (record {
+        record {
           sound = f;
           reply = ap (λ (k : Call State Answer). k .reply) q;
           answer = ap (λ (k : Call State Answer). k .answer) q;
           state =
               ap (λ (k : Call State Answer). k .state) q
               ∙ ap (λ (u : List ℕ). record { connection = s .connection; unfinished = u; store = t }) (sym (message-is n));
-        })
+        }
 
     some-taken : part .ended ≡ true → part .taken ≡ 0 → ⊥
     some-taken z n = never z (ap (λ (a : Part). a .ended) (part-none (s .connection) (unfinished s) piece few n))
 
-    settled-way : part .ended ≡ true → Way s t piece scanned
+    settled-way : part .ended ≡ true → (e : Effect) × Judging s t piece scanned e
     unfolding judgedCall
     settled-way z =
         let j = judged-settled (waits (s .connection) (part .bytes)) (judge (s .connection) t (part .bytes)) (judged-as (s .connection) t (part .bytes)) (part-ended (s .connection) (unfinished s) piece few z) in
         let q = is-part ∙ settled-call s t part (j .0) z (j .1) in
-        let n = ap (λ (k : Call State Answer). k .taken) q in
-        judging (j .0) (record {
-          sound = f;
-          opened = o;
-          some = λ k. some-taken z (sym n ∙ k);
-          judged = ap (judge (s .connection) t) (message-is n) ∙ j .1;
-          reply = ap (λ (k : Call State Answer). k .reply) q;
-          answer = ap (λ (k : Call State Answer). k .answer) q;
-          state = ap (λ (k : Call State Answer). k .state) q;
-        })
+        let n = ap (λ (k : Call State Answer). k .taken) q in (
+          j .0,
+          record {
+            sound = f;
+            opened = o;
+            some = λ k. some-taken z (sym n ∙ k);
+            judged = ap (judge (s .connection) t) (message-is n) ∙ j .1;
+            reply = ap (λ (k : Call State Answer). k .reply) q;
+            answer = ap (λ (k : Call State Answer). k .answer) q;
+            state = ap (λ (k : Call State Answer). k .state) q;
+          },
+        )
 
-    open-way : Way s t piece scanned
-    open-way = by-test (part .ended) settled-way waited-way
+    -- with room enough: the bytes wait, or they came to an answer
+    pub open-way : Waiting s t piece scanned ⊎ ((e : Effect) × Judging s t piece scanned e)
+    open-way = by-test (part .ended) (λ z. inr (settled-way z)) (λ z. inl (waited-way z))
 
   pub way : (room : List ℕ) → Shaped s t → Way s t piece (callOf s t piece (length room))
   way room sh =
@@ -122,7 +125,7 @@ module _ (s : Session) (t : Store) (piece : List ℕ) where
       (λ f.
       by-test (isClosed (s .connection))
       (λ o. staying 2 (inr (inl refl)) (call-closed s t piece room l f o))
-      (λ o. rw (call-open s t piece room l f o) (open-way sh f o)))
+      (λ o. rw (call-open s t piece room l f o) (⊎-elim (λ w. waiting-on w) (λ k. judging (k .0) (k .1)) (open-way sh f o))))
       (λ f. staying 4 (inr (inr refl)) (call-unsound s t piece room l f)))
 
 -- ---- what a call that kept its promise gave

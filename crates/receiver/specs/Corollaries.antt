@@ -2,17 +2,17 @@
 use Prim.Native.Nat.{ℕ, _+_, _-_, _≤_, _<_, _^_}
 use mathlib.Core.Path.{_≡_}
 use mathlib.Core.Logic.{_⊎_}
-use mathlib.Core.List.{List, [], _++_, map, flatten}
+use mathlib.Core.List.{List, [], _∷_, _++_, map, flatten}
 use mathlib.Core.Option.{some}
-use mathlib.Core.Bool.{Bool, true, cond, _&&_, _||_}
+use mathlib.Core.Bool.{Bool, true, false, cond, _&&_, _||_}
 use lib.ListN.{length, take, drop, getD}
-use lib.Dec.{eqb, leb}
+use lib.Dec.{eqb, leb, ltb}
 use Rattle.lists.specs.Lists.{every}
 use Rattle.store.specs.declared.Store.{Store}
 use Rattle.store.specs.Store.{countsOf, makeEntry, noEntry, noTable}
 use Rattle.store.specs.Time.{passTime, Passed, PassPromise}
 use Rattle.frame.specs.declared.Frame.the-variants as frame
-use Rattle.frame.specs.Frame.{acknowledgementType, judgeFrame}
+use Rattle.frame.specs.Frame.{definitionType, switchType, acknowledgementType, judgeFrame}
 use Rattle.session.specs.declared.Session.{Session}
 use Rattle.session.specs.declared.Connection.{Connection}
 use Rattle.session.specs.declared.Commit.{Commit}
@@ -20,13 +20,15 @@ use Rattle.session.specs.declared.Sending.{Sending}
 use Rattle.session.specs.declared.Answer.{Answer}
 use Rattle.session.specs.declared.Answer.the-variants as answer
 use Rattle.session.specs.Answers.{refusalOf, refusalReply, answerNumber, answerValues}
-use Rattle.session.specs.Session.{unfinished, bindingAt, isClosed, holding, closedWith, withSending}
+use Rattle.session.specs.Session.{unfinished, bindingAt, isUpdated, isClosed, holding, closedWith, withSending}
 use Rattle.session_soundness.specs.Sound.{sound}
 use Rattle.opening.specs.Opening.{Role, refusedOpening, «open», openRoom}
 use Rattle.body.specs.declared.update.Form.{Form}
-use Rattle.body.specs.Fields.{Read, got, spanIn}
-use Rattle.body.specs.Bodies.{Update, updateFields, formOf, acknowledgementFields}
-use Rattle.message.specs.Effects.{acknowledge, followingId}
+use Rattle.body.specs.declared.Fault.{Fault}
+use Rattle.body.specs.Fields.{Read, got, failed, spanIn}
+use Rattle.body.specs.Bodies.{Update, updateFields, formOf, definitionFields, switchFields, acknowledgementFields}
+use Rattle.body.specs.Breaks.{Sized, noneSized, definitionSized, acknowledgementSized, updateSized, Broke}
+use Rattle.message.specs.Effects.{acknowledge, followingId, failureNumber}
 use Rattle.streams.specs.Model.{Item, bytes}
 use Rattle.streams.specs.Calls.{Call, pieces, reachable}
 use Rattle.receiver.specs.Model.{State, Event, heldBy, replyRoom, isByte, peers}
@@ -152,13 +154,26 @@ pub record OnlyClosed (s : Session) (t : Store) (m : Made) (n : ℕ) : Type 0 wh
   pub reply : replyIn m ≡ refusalReply n
   pub room : drop (m .outcome .«reply_len») (m .final) ≡ drop (m .outcome .«reply_len») (m .room)
 
--- "No refusal is given in any other case."
+-- "No refusal is given in any other case.": the number is 1, 2 or 4, or one that closes
 abbrev pub RefusedCall : Session → Store → Made → ℕ → Type 0
 RefusedCall s t m n =
     (((n ≡ 1) ⊎ ((n ≡ 2) ⊎ (n ≡ 4))) × NothingChanged s t m) ⊎ ((closes n ≡ true) × OnlyClosed s t m n)
 
 abbrev pub RefusedUntouched : Type 0
 RefusedUntouched = (s : Session) (t : Store) (m : Made) (n : ℕ) → ReadPromise s t m → refusalOf (m .outcome .answer) ≡ some n → RefusedCall s t m n
+
+-- "A call tests 1, then 4, then 2": room under 12, a record or store that isn't sound, a closed session. Each of these numbers is given where its
+-- test is the first that fails, and nowhere else
+abbrev pub TestedInOrder : Session → Store → (room number : ℕ) → Type 0
+TestedInOrder s t room n =
+    cond (ltb room replyRoom) (n ≡ 1)
+    (cond (sound s t)
+    (cond (isClosed (s .connection)) (n ≡ 2) ((n ≡ 1 → ⊥) × ((n ≡ 4 → ⊥) × (n ≡ 2 → ⊥))))
+    (n ≡ 4))
+
+-- of every call, refused or not
+abbrev pub TestsInOrder : Type 0
+TestsInOrder = (s : Session) (t : Store) (m : Made) → ReadPromise s t m → TestedInOrder s t (length (m .room)) (answerNumber (m .outcome .answer))
 
 pub record Untouched (t : Store) (m : Made) : Type 0 where
   pub store : m .store ≡ t
@@ -169,6 +184,52 @@ abbrev pub OthersUntouched : Type 0
 OthersUntouched =
     (s : Session) (t : Store) (m : Made) → ReadPromise s t m → ((place : ℕ) → m .outcome .answer ≡ answer.Table place → ⊥)
     → ((table id place : ℕ) (how : Commit) → m .outcome .answer ≡ answer.Update table id place how → ⊥) → Untouched t m
+
+-- ---- request 10: "Say where the body broke."
+
+-- "refusals 23, 24 and 30 give the offset"
+unfoldable pub givesOffset : ℕ → Bool
+givesOffset n = eqb n 23 || (eqb n 24 || eqb n 30)
+
+-- reading these fields of the body fails by f, whose failure is the reason. `Broke` says where: all before the offset is read; by 23 the body ends
+-- inside the field that starts there, by 24 and 30 that field is whole and decides
+abbrev pub FailsBy : {A : Type 0} → (List ℕ → Read A) → Sized → List ℕ → Fault → Type 0
+FailsBy fields sized body f = (fields body ≡ failed f) × Broke fields sized body f
+
+-- a field of the body fails, by the message's type. An update is one of the current table, and an incremental one has a previous ID: "In an update 27
+-- comes first, then 28, then fields"
+pub data FieldFails (c : Connection) (t : Store) (kind : ℕ) (body : List ℕ) (f : Fault) : Type 0 where
+  inDefinition : kind ≡ definitionType → FailsBy definitionFields definitionSized body f → FieldFails c t kind body f
+  inSwitch : kind ≡ switchType → FailsBy switchFields noneSized body f → FieldFails c t kind body f
+  inAcknowledgement : kind ≡ acknowledgementType → FailsBy acknowledgementFields acknowledgementSized body f → FieldFails c t kind body f
+  inUpdate : (form : Form) (table : ℕ) → formOf kind ≡ some form → c .current ≡ table + 1
+      → (form .explicit ≡ false → isUpdated (bindingAt c table) ≡ true)
+      → FailsBy (fieldsOf c t table form) (updateSized form (getD (t .tables) table noTable)) body f → FieldFails c t kind body f
+
+-- the message is one with a body; a field of it fails; the number is that of the failure, and "the offset in the body, from 0, at which the
+-- failing field starts" is the only value
+pub record BodyBroke (c : Connection) (t : Store) (message : List ℕ) (number : ℕ) (values : List ℕ) : Type 0 where
+  pub kind : ℕ
+  pub start : ℕ
+  pub end : ℕ
+  pub framed : judgeFrame message ≡ frame.Body kind start end
+  pub body : List ℕ
+  pub body-is : body ≡ take (end - start) (drop start message)
+  pub fault : Fault
+  pub number-is : number ≡ failureNumber (fault .failure)
+  pub offset : values ≡ fault .start ∷ []
+  pub fails : FieldFails c t kind body fault
+
+-- of a refusal with this number and these values: 23, 24 and 30 have the offset of a field of this message's body, every other number has no value
+abbrev pub OffsetGiven : Connection → Store → List ℕ → ℕ → List ℕ → Type 0
+OffsetGiven c t message number values = cond (givesOffset number) (BodyBroke c t message number values) (values ≡ [])
+
+abbrev pub RefusedAtField : Type 0
+RefusedAtField =
+    (s : Session) (t : Store) (m : Made) (n : ℕ) → ReadPromise s t m → refusalOf (m .outcome .answer) ≡ some n
+    → OffsetGiven (s .connection) t (messageOf s m) n (answerValues (m .outcome .answer))
+
+-- ---- a refused opening
 
 -- "1 and 3 in opening return a closed record with that number, all else empty or zero, .. and write nothing"
 pub record RefusedOpening (role : Role) (local remote before : List ℕ) (n : ℕ) : Type 0 where

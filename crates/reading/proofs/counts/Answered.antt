@@ -115,7 +115,7 @@ module _ (t : Store) (size : length (t .entries) ≡ 128) (right : t .counts ≡
   module _ (c : Connection) (u : List ℕ) where
     kind-counts : (e : Effect) → Kind c t u e → answeredCounts (e .answer) (t .counts) ≡ changed t (e .change) .counts
     unfolding answeredCounts refuseWith note peerError defineAt commitAt changed noChange tableChange entryChange putTable putEntry withEntries
-    kind-counts e (kinds.refused n a h r) =
+    kind-counts e (kinds.refused n a h r o) =
         other-counts a (t .counts) (λ table id place how q. no-number n (unfold refusalOf in sym (ap refusalOf q) ∙ r))
     kind-counts e (kinds.noted d a reply h) = other-counts a (t .counts) (λ table id place how q. subst Noted q h)
     kind-counts e (kinds.errored type) = refl
