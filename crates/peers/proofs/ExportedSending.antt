@@ -3,13 +3,13 @@ use Prim.Native.Nat.{ℕ, _+_, _^_, _≤_, _<_}
 use native.Mathlib.Omega.{arith}
 use mathlib.Core.Path.{_≡_, refl, sym, ap, subst, _∙_}
 use mathlib.Core.Logic.{_⊎_, inl, inr, ⊎-elim}
-use mathlib.Core.Bool.{true, false}
-use mathlib.Core.List.{List, [], _∷_, map, flatten}
+use mathlib.Core.Bool.{Bool, true, false, cond, true≢false}
+use mathlib.Core.List.{List, [], _∷_, _++_, map, flatten}
 use lib.ListN.{length, length-append, length-map, List·getD-eq-default}
 use lib.Dec.{eqb}
 use borrow.Author.Tests.{eq-eqb, le-ltb, ltb-true}
 use Rattle.lists.specs.Lists.{every, among, front}
-use Rattle.lists.proofs.Cases.{never, split, lt-or-le, and-first, and-second}
+use Rattle.lists.proofs.Cases.{by-test, never, split, lt-or-le, and-first, and-second}
 use Rattle.lists.proofs.Maps.{mapped-at}
 use Rattle.store.specs.declared.Entry.{Entry}
 use Rattle.store.specs.declared.Store.{Store}
@@ -29,8 +29,8 @@ use Rattle.session_soundness.specs.Sound.{sound}
 use Rattle.session_soundness.proofs.Records.{sound-store}
 use Rattle.body.specs.Encodings.{messageBytes}
 use Rattle.streams.specs.Model.{Item, Ran, bytes, feedAll}
-use Rattle.streams.specs.Calls.{Call, resultOf}
-use Rattle.streams.proofs.Reachable.{pieces-timeline}
+use Rattle.streams.specs.Calls.{Call, resultOf, eventless}
+use Rattle.streams.proofs.Reachable.{bytes-eventless, pieces-timeline}
 use Rattle.receiver.specs.Model.{State, Event, heldBy, replyRoom, isByte, peers}
 use Rattle.receiver.specs.Promise.{Shaped, callOf, outcomeOf, sessionOf}
 use Rattle.receiver.specs.Demand3.{modelRan}
@@ -50,10 +50,10 @@ use Rattle.peers.specs.Numbers.{rawOutcome}
 use Rattle.peers.specs.Reading.{RawMade, RawPromise}
 use Rattle.peers.specs.Sending.{RawSendMade, RawSendPromise, sentBytes}
 use Rattle.peers.specs.ExportedDemand3.{RawCalled, rawReads, rawPasses, RawChain, rawLastSession, rawLastStore, RawResult, rawCameTo, inNumbers, RawOffersTo}
-use Rattle.peers.specs.ExportedSending.{RawSentOrRefused, RawSentSound, RoomsSuffice, SendRooms, NoneRefused, sendsIn, NothingElseWrites, Sender, Teaching, PastHandshake, Reader, BeingTaught, Taught, joinedMessages, EveryStoreTaught, TeachingNotRefused, ReadingExists, EveryTeachingExists, AnyCall, reads, passes, sends, AnyChain, anyLastSession, anyLastStore, readsWith, leftOut, SendingLeftOut}
+use Rattle.peers.specs.ExportedSending.{RawSentOrRefused, RawSentSound, RoomsSuffice, SendRooms, NoneRefused, sendsIn, sentIn, NothingElseWrites, StaysOpen, Sender, AskedOnce, Teaching, PastHandshake, Reader, BeingTaught, Taught, joinedMessages, EveryStoreTaught, TeachingNotRefused, ReadingExists, EveryTeachingExists, AnyCall, reads, passes, sends, AnyChain, anyLastSession, anyLastStore, readsWith, leftOut, SendingApart, SendingLeftOut}
 use Rattle.peers.proofs.ExportedDemand3.{exported-demand-3}
 use Rattle.peers.proofs.ExportedCorollaries.{raw-bytes-offered, raw-sending-stays}
-use Rattle.peers.proofs.SendingCalls.{WasSent, was-sent, sent-bytes, sent-state, sent-or-refused, keeps-sound, leaves-with, shape-with, sent-shaped, sendOf, send-promised}
+use Rattle.peers.proofs.SendingCalls.{WasSent, was-sent, sent-bytes, sent-state, send-refused, refused-bytes, sent-or-refused, keeps-sound, leaves-with, shape-with, sent-shaped, sendOf, send-promised}
 
 pub raw-sent-or-refused : RawSentOrRefused
 raw-sent-or-refused = sent-or-refused
@@ -102,6 +102,56 @@ pub read-sound : (s : Session) (t : Store) (m : RawMade) → RawPromise s t m �
 unfolding RawChain rawLastSession rawLastStore
 read-sound s t m p f = exported-demand-3 s t (rawReads m ∷ []) f (p, tt) .sound
 
+-- ---- what calls of any kind wrote
+
+abbrev joinedFor : Store → Sending → List Asked → List ℕ
+joinedFor t x asked = flatten (messagesFor t x asked)
+
+-- a sending call and those behind it, which wrote the messages of the ones with number 0
+module _ (s : Session) (t : Store) (m : RawSendMade) (p : RawSendPromise s t m) (cs : List AnyCall)
+    (rest : joinedMessages cs ≡ joinedFor t (m .session .sending) (map askedIn (sentIn cs))) where
+  abbrev asked : List Asked
+  asked = map askedIn (sentIn cs)
+
+  -- by the call's test
+  abbrev wanted : Bool → List ℕ
+  wanted zero = joinedFor t (s .sending) (map askedIn (cond zero (m ∷ sentIn cs) (sentIn cs)))
+
+  tested : (zero : Bool) → eqb (m .outcome .number) 0 ≡ zero → eqb (numberFor s t (length (m .room)) (m .asked)) 0 ≡ zero
+  tested zero e = ap (λ (n : ℕ). eqb n 0) (sym (p .number)) ∙ e
+
+  by-sent : eqb (m .outcome .number) 0 ≡ true → sentBytes m ++ joinedMessages cs ≡ wanted true
+  unfolding messagesFor flatten
+  by-sent e =
+      let w = was-sent s t m p (tested true e) in
+      let k = rest ∙ ap (λ (x : Sending). joinedFor t x asked) (sent-state s t m w) in
+      λ i. sent-bytes s t m w i ++ k i
+
+  by-refused : eqb (m .outcome .number) 0 ≡ false → sentBytes m ++ joinedMessages cs ≡ wanted false
+  by-refused e =
+      let r = send-refused s t m p (tested false e) in
+      ap (λ (bs : List ℕ). bs ++ joinedMessages cs) (refused-bytes s t m r) ∙ (rest ∙ ap (λ (z : Session). joinedFor t (z .sending) asked) (r .session))
+
+  by-either : sentBytes m ++ joinedMessages cs ≡ wanted (eqb (m .outcome .number) 0)
+  by-either = by-test (eqb (m .outcome .number) 0) (λ e. by-sent e ∙ ap wanted (sym e)) (λ e. by-refused e ∙ ap wanted (sym e))
+
+-- they wrote the messages of those with number 0, whatever record they began on
+all-written : (t : Store) (cs : List AnyCall) (s : Session) → AnyChain s t cs → NothingElseWrites t cs
+    → joinedMessages cs ≡ joinedFor t (s .sending) (map askedIn (sentIn cs))
+unfolding AnyChain NothingElseWrites sendsIn sentIn messagesFor flatten
+all-written t [] s c o = refl
+all-written t (reads m ∷ cs) s c o =
+    all-written t cs (m .session) (subst (λ (v : Store). AnyChain (m .session) v cs) (o .0) (c .1)) (o .1)
+    ∙ ap (λ (x : Sending). joinedFor t x (map askedIn (sentIn cs))) (raw-sending-stays s t m (c .0))
+all-written t (passes p ∷ cs) s c o = all-written t cs s (subst (λ (v : Store). AnyChain s v cs) (o .0) (c .1)) (o .1)
+all-written t (sends m ∷ cs) s c o = by-either s t m (c .0) cs (all-written t cs (m .session) (c .1) o)
+
+taught-messages : (s : Session) (t : Store) (ids : List TableIds) (cs : List AnyCall) → Teaching s t ids cs
+    → joinedMessages cs ≡ joinedFor t (s .sending) (askedFor t ids)
+taught-messages s t ids cs g = all-written t cs s (g .chain) (g .others) ∙ ap (joinedFor t (s .sending)) (g .asked)
+
+-- ---- none is refused
+
 -- a reading call that leaves the store and the session open leaves a sender
 still-sender : (s : Session) (t : Store) (m : RawMade) → RawPromise s t m → m .store ≡ t → isClosed (m .session .connection) ≡ false → sound s t ≡ true
     → PastHandshake s → (sound (m .session) t ≡ true) × PastHandshake (m .session)
@@ -109,47 +159,44 @@ still-sender s t m p q o f h =
     let e = ap (λ (z : Session). z .connection .phase) (p .session) ∙ established-stays s t (m .piece) (length (m .room)) (h .established) in
     (subst (λ (v : Store). sound (m .session) v ≡ true) q (read-sound s t m p f), record { opened = o; established = e })
 
--- none is refused, and each writes its message
-record AllSent (s : Session) (t : Store) (cs : List AnyCall) : Type 0 where
-  pub none : NoneRefused (sendsIn cs)
-  pub messages : map sentBytes (sendsIn cs) ≡ messagesFor t (s .sending) (map askedIn (sendsIn cs))
-
 all-sent : (t : Store) (cs : List AnyCall) (s : Session) → sound s t ≡ true → PastHandshake s → allCanSend t (s .sending) (map askedIn (sendsIn cs)) ≡ true
-    → RoomsSuffice (sendsIn cs) → AnyChain s t cs → NothingElseWrites t cs → AllSent s t cs
-unfolding RoomsSuffice AnyChain NothingElseWrites sendsIn NoneRefused messagesFor
-all-sent t [] s f h k r c o = record { none = tt; messages = refl }
-all-sent t (reads m ∷ cs) s f h k r c o =
-    let g = still-sender s t m (c .0) (o .0) (o .1) f h in
+    → RoomsSuffice (sendsIn cs) → AnyChain s t cs → NothingElseWrites t cs → StaysOpen cs → NoneRefused (sendsIn cs)
+unfolding RoomsSuffice AnyChain NothingElseWrites StaysOpen sendsIn NoneRefused
+all-sent t [] s f h k r c o z = tt
+all-sent t (reads m ∷ cs) s f h k r c o z =
+    let g = still-sender s t m (c .0) (o .0) (z .0) f h in
     let same : m .session .sending ≡ s .sending = raw-sending-stays s t m (c .0) in
-    let rest =
     all-sent t cs (m .session) (g .0) (g .1) (ap (λ (x : Sending). allCanSend t x (map askedIn (sendsIn cs))) same ∙ k) r
-    (subst (λ (v : Store). AnyChain (m .session) v cs) (o .0) (c .1)) (o .2) in
-    record {
-      none = rest .none;
-      messages = rest .messages ∙ ap (λ (x : Sending). messagesFor t x (map askedIn (sendsIn cs))) same;
-    }
-all-sent t (passes p ∷ cs) s f h k r c o =
-    let rest = all-sent t cs s f h k r (subst (λ (v : Store). AnyChain s v cs) (o .0) (c .2)) (o .1) in
-    record { none = rest .none; messages = rest .messages }
-all-sent t (sends m ∷ cs) s f h k r c o =
-    let asked = map askedIn (sendsIn cs) in
-    let n = next-of s t m asked (c .0) f h k (r .0) in
-    let rest = all-sent t cs (m .session) (n .sound) (n .past) (n .there) (r .1) (c .1) o in
-    let e : map sentBytes (sendsIn cs) ≡ messagesFor t (messageFor t (s .sending) (m .asked) .sending) asked =
-    rest .messages ∙ ap (λ (y : Sending). messagesFor t y asked) (sent-state s t m (n .was)) in
-    record {
-      none = (n .was .number, rest .none);
-      messages = λ i. sent-bytes s t m (n .was) i ∷ e i;
-    }
+    (subst (λ (v : Store). AnyChain (m .session) v cs) (o .0) (c .1)) (o .1) (z .1)
+all-sent t (passes p ∷ cs) s f h k r c o z = all-sent t cs s f h k r (subst (λ (v : Store). AnyChain s v cs) (o .0) (c .1)) (o .1) z
+all-sent t (sends m ∷ cs) s f h k r c o z =
+    let n = next-of s t m (map askedIn (sendsIn cs)) (c .0) f h k (r .0) in
+    (n .was .number, all-sent t cs (m .session) (n .sound) (n .past) (n .there) (r .1) (c .1) o z)
 
-taught-sent : (s : Session) (t : Store) (ids : List TableIds) (cs : List AnyCall) → Teaching s t ids cs → AllSent s t cs
-taught-sent s t ids cs g =
-    all-sent t cs s (g .sender .sound) (g .sender .past)
-    (ap (allCanSend t (s .sending)) (g .asked) ∙ all-can-be-sent t ids (s .sending) (g .sends-all))
-    (g .rooms) (g .chain) (g .others)
+sent-all : (cs : List AnyCall) → NoneRefused (sendsIn cs) → sentIn cs ≡ sendsIn cs
+unfolding sendsIn sentIn NoneRefused
+sent-all [] n = refl
+sent-all (reads m ∷ cs) n = sent-all cs n
+sent-all (passes p ∷ cs) n = sent-all cs n
+sent-all (sends m ∷ cs) n =
+    ap (λ (zero : Bool). cond zero (m ∷ sentIn cs) (sentIn cs)) (eq-eqb (m .outcome .number) 0 (n .0))
+    ∙ ap (λ (ms : List RawSendMade). m ∷ ms) (sent-all cs (n .1))
 
 pub teaching-not-refused : TeachingNotRefused
-teaching-not-refused s t ids cs g = taught-sent s t ids cs g .none
+teaching-not-refused s t ids cs g =
+    let none =
+    all-sent t cs s (g .sender .sound) (g .sender .past)
+    (ap (allCanSend t (s .sending)) (g .asked) ∙ all-can-be-sent t ids (s .sending) (g .sends-all))
+    (g .rooms) (g .chain) (g .others) (g .opened) in (
+      none,
+      record {
+        sound = g .sender .sound;
+        sends-all = g .sends-all;
+        asked = ap (map askedIn) (sent-all cs none) ∙ g .asked;
+        chain = g .chain;
+        others = g .others;
+      },
+    )
 
 -- ---- such calls exist
 
@@ -204,9 +251,14 @@ unfolding NothingElseWrites
 sends-alone t [] = tt
 sends-alone t (m ∷ ms) = sends-alone t ms
 
-sends-teach : (s : Session) (t : Store) (ids : List TableIds) (room : List ℕ) → Shaped s t → Sender s t → SendsAll t ids → sendRoom ≤ length room
-    → Teaching s t ids (map sends (sendsOf s t room (askedFor t ids)))
-sends-teach s t ids room sh sender sends-all l =
+sends-open : (ms : List RawSendMade) → StaysOpen (map sends ms)
+unfolding StaysOpen
+sends-open [] = tt
+sends-open (m ∷ ms) = sends-open ms
+
+sends-once : (s : Session) (t : Store) (ids : List TableIds) (room : List ℕ) → Shaped s t → Sender s t → SendsAll t ids → sendRoom ≤ length room
+    → AskedOnce s t ids (map sends (sendsOf s t room (askedFor t ids)))
+sends-once s t ids room sh sender sends-all l =
     let asked = askedFor t ids in
     let made = sendsOf s t room asked in
     record {
@@ -218,11 +270,8 @@ sends-teach s t ids room sh sender sends-all l =
           sends-chain t room (sh .store) l asked s (sh .session) (sender .sound) (sender .past) (all-can-be-sent t ids (s .sending) sends-all)
           (asked-fit t (sh .store) (sound-store s t (sender .sound)) ids (sends-all .each));
       others = sends-alone t made;
+      opened = sends-open made;
     }
-
-taught-messages : (s : Session) (t : Store) (ids : List TableIds) (cs : List AnyCall) → Teaching s t ids cs
-    → joinedMessages cs ≡ flatten (messagesFor t (s .sending) (askedFor t ids))
-taught-messages s t ids cs g = ap flatten (taught-sent s t ids cs g .messages ∙ ap (messagesFor t (s .sending)) (g .asked))
 
 reading-exists : (q : Session) (e : Store) (cuts : List (List ℕ)) (room : List ℕ) → Shaped q e → Reader q e → every isByte (flatten cuts) ≡ true
     → replyRoom ≤ length room → ReadingExists q e cuts room
@@ -243,10 +292,14 @@ pub every-teaching-exists : EveryTeachingExists
 every-teaching-exists s t ids room sh sender sends-all l q e reply qh reader k =
     let asked = askedFor t ids in
     let made = sendsOf s t room asked in
-    let g = sends-teach s t ids room sh sender sends-all l in
+    let once = sends-once s t ids room sh sender sends-all l in
+    let n = teaching-not-refused s t ids (map sends made) once in
+    let g = n .1 in
     record {
       made = made;
       rooms = sends-rooms s t room asked;
+      once = once;
+      none-refused = n .0;
       teaching = g;
       reading = λ cuts w.
           reading-exists q e cuts reply qh reader
@@ -321,18 +374,20 @@ chain-shape : (s : Session) (t : Store) (cs : List AnyCall) → AnyChain s t cs 
 unfolding AnyChain
 chain-shape s t [] c = inl refl
 chain-shape s t (reads m ∷ cs) c = inr (c .0 .shaped .store)
-chain-shape s t (passes p ∷ cs) c = inr (c .1 .shaped)
+chain-shape s t (passes p ∷ cs) c = inr (c .0 .shaped)
 chain-shape s t (sends m ∷ cs) c = inr (c .0 .store-shape)
 
-none-sent : (cs : List AnyCall) → cs ≡ [] → map askedIn (sendsIn cs) ≡ []
-unfolding sendsIn
-none-sent cs e = ap (λ (ds : List AnyCall). map askedIn (sendsIn ds)) e
+none-sent : (cs : List AnyCall) → cs ≡ [] → map askedIn (sentIn cs) ≡ []
+unfolding sentIn
+none-sent cs e = ap (λ (ds : List AnyCall). map askedIn (sentIn ds)) e
 
-calls-shape : (q : Session) (t : Store) (calls : List RawCalled) → RawChain q t calls → (calls ≡ []) ⊎ (ConnectionShape (q .connection) × StoreShape t)
-unfolding RawChain
-calls-shape q t [] c = inl refl
-calls-shape q t (rawReads m ∷ calls) c = inr (c .0 .shaped .session .connection, c .0 .shaped .store)
-calls-shape q t (rawPasses p ∷ calls) c = inr (c .0 .connection, c .1 .shaped)
+-- a stream of bytes alone is offered by reading calls
+calls-shape : (q : Session) (t : Store) (bs : List ℕ) (calls : List RawCalled) → RawChain q t calls → RawOffersTo q (bytes bs) calls
+    → (calls ≡ []) ⊎ (ConnectionShape (q .connection) × StoreShape t)
+unfolding RawChain RawOffersTo
+calls-shape q t bs [] c o = inl refl
+calls-shape q t bs (rawReads m ∷ calls) c o = inr (c .0 .shaped .session .connection, c .0 .shaped .store)
+calls-shape q t bs (rawPasses p ∷ calls) c o = absurd (true≢false (sym (ap eventless (o .1) ∙ bytes-eventless Event bs) ∙ unfold eventless in refl))
 
 -- without calls nothing was offered
 none-offered : (q : Session) (stream : List (Item Event)) → isClosed (q .connection) ≡ false → RawOffersTo q stream [] → stream ≡ []
@@ -366,7 +421,7 @@ module _ (s : Session) (t : Store) (ids : List TableIds) (cs : List AnyCall) (g 
 
   taught-nothing : askedFor t ids ≡ [] → ModelTaught t ids ran
   taught-nothing a =
-      nothing-taught t ids (s .sending) (q .connection) e (sound-store s t (g .sender .sound)) (g .sends-all) a (h .reader .past .opened)
+      nothing-taught t ids (s .sending) (q .connection) e (sound-store s t (g .sound)) (g .sends-all) a (h .reader .past .opened)
       (sound-store q e (h .reader .sound)) (h .reader .empty)
 
   model-taught : ModelTaught t ids ran
@@ -374,14 +429,14 @@ module _ (s : Session) (t : Store) (ids : List TableIds) (cs : List AnyCall) (g 
       split (chain-shape s t cs (g .chain))
       (λ none. taught-nothing (sym (g .asked) ∙ none-sent cs none))
       (λ shape.
-      split (calls-shape q e calls (h .chain))
+      split (calls-shape q e (joinedMessages cs) calls (h .chain) (h .offers))
       (λ none.
       taught-nothing
       (none-asked t (s .sending) (askedFor t ids)
       (sym joined ∙ no-bytes (joinedMessages cs) (none-offered q (bytes (joinedMessages cs)) (h .reader .past .opened)
       (subst (RawOffersTo q (bytes (joinedMessages cs))) none (h .offers))))))
       (λ shapes.
-      every-model-taught t ids (s .sending) (q .connection) e shape (sound-store s t (g .sender .sound)) (g .sends-all) (shapes .0)
+      every-model-taught t ids (s .sending) (q .connection) e shape (sound-store s t (g .sound)) (g .sends-all) (shapes .0)
       (h .reader .past .opened) (h .reader .past .established) (shapes .1) (sound-store q e (h .reader .sound)) (h .reader .empty)))
 
   ran-is : modelRan q e (bytes (joinedMessages cs)) ≡ ran
@@ -430,8 +485,8 @@ apart x y (reads m ∷ cs) s t f g c =
     let n = apart x y cs (m .session) (m .store) (read-sound s t m (c .0) f) (read-sound (withSending s x) t (readsWith x m) p g) (c .1) in
     record { chain = (p, n .chain); session = n .session; store = n .store; sound = n .sound }
 apart x y (passes q ∷ cs) s t f g c =
-    let n = apart x y cs s (q .store) (passed-keeps-sound t q (c .1) s f) (passed-keeps-sound t q (c .1) (withSending s x) g) (c .2) in
-    record { chain = (shape-with s x (c .0) y, c .1, n .chain); session = n .session; store = n .store; sound = n .sound }
+    let n = apart x y cs s (q .store) (passed-keeps-sound t q (c .0) s f) (passed-keeps-sound t q (c .0) (withSending s x) g) (c .1) in
+    record { chain = (c .0, n .chain); session = n .session; store = n .store; sound = n .sound }
 apart x y (sends m ∷ cs) s t f g c =
     let e = leaves-with s t m (c .0) x in
     let n = apart x y cs (m .session) t (keeps-sound s t m (c .0) f) (subst (λ (z : Session). sound z t ≡ true) (sym e) g) (c .1) in
@@ -442,15 +497,18 @@ apart x y (sends m ∷ cs) s t f g c =
       sound = n .sound;
     }
 
-first-shape : (s : Session) (t : Store) (c : AnyCall) (cs : List AnyCall) → AnyChain s t (c ∷ cs) → SessionShape s
-unfolding AnyChain
-first-shape s t (reads m) cs k = k .0 .shaped .session
-first-shape s t (passes p) cs k = k .0
-first-shape s t (sends m) cs k = k .0 .session-shape
+-- a list whose first call is given the record
+left-out-from : (s : Session) (t : Store) (cs : List AnyCall) → SessionShape s → sound s t ≡ true → AnyChain s t cs → SendingApart s t cs
+unfolding withSending
+left-out-from s t cs sh f k =
+    let a = apart (s .sending) (sh .sending) cs s t f f k in
+    record { chain = a .chain; session = a .session; store = a .store; sound = a .sound }
 
 pub sending-left-out : SendingLeftOut
 unfolding AnyChain RawChain leftOut rawLastSession rawLastStore anyLastSession anyLastStore withSending
 sending-left-out s t [] f k = record { chain = tt; session = refl; store = refl; sound = f }
-sending-left-out s t (c ∷ cs) f k =
-    let a = apart (s .sending) (first-shape s t c cs k .sending) (c ∷ cs) s t f f k in
-    record { chain = a .chain; session = a .session; store = a .store; sound = a .sound }
+sending-left-out s t (reads m ∷ cs) f k = left-out-from s t (reads m ∷ cs) (k .0 .shaped .session) f k
+sending-left-out s t (passes p ∷ cs) f k =
+    let a = sending-left-out s (p .store) cs (passed-keeps-sound t p (k .0) s f) (k .1) in
+    record { chain = (k .0, a .chain); session = a .session; store = a .store; sound = a .sound }
+sending-left-out s t (sends m ∷ cs) f k = left-out-from s t (sends m ∷ cs) (k .0 .session-shape) f k

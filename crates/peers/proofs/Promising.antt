@@ -22,7 +22,9 @@ use Rattle.sending.specs.Sending.{Asked, definition, entry, Askable, Message, m
 use Rattle.sending.specs.Finish.{askedBy}
 use Rattle.sending.proofs.plans.Numbers.{Sends, sends}
 use Rattle.teaching.specs.Teaching.{idOf, messageMost}
+use Rattle.teaching.specs.ReadBack.{MessageBack}
 use Rattle.teaching.proofs.CanBeSent.{message-fits}
+use Rattle.teaching.proofs.ReadBack.{messages-read-back}
 use Rattle.peers.specs.declared.numbers.RawOutcome.{RawOutcome}
 use Rattle.peers.specs.declared.numbers.RawSent.{RawSent}
 use Rattle.peers.specs.Numbers.{rawOutcome, sentNumbers}
@@ -63,12 +65,17 @@ pub number-sends : (s : Session) (t : Store) (room : ℕ) (a : Asked) → eqb (n
 unfolding numberFor
 number-sends s t room a e = sends (sound s t) s room (canSend t (s .sending) a) (eqb-true (numberFor s t room a) 0 e)
 
--- a message that is sent isn't longer than any
-pub sent-short : (s : Session) (t : Store) (room : ℕ) (a : Asked) → StoreShape t → Askable a → eqb (numberFor s t room a) 0 ≡ true
-    → length (messageFor t (s .sending) a .bytes) ≤ messageMost
-sent-short s t room a shape fits e =
-    let k = number-sends s t room a e in
-    message-fits t (s .sending) a shape (sound-store s t (k .is-sound)) (k .can-send) (asked-id a fits)
+-- a message that is sent isn't longer than any, and reads back
+module _ (s : Session) (t : Store) (room : ℕ) (a : Asked) (shape : StoreShape t) (fits : Askable a) (e : eqb (numberFor s t room a) 0 ≡ true) where
+  pub sent-short : length (messageFor t (s .sending) a .bytes) ≤ messageMost
+  sent-short =
+      let k = number-sends s t room a e in
+      message-fits t (s .sending) a shape (sound-store s t (k .is-sound)) (k .can-send) (asked-id a fits)
+
+  pub sent-back : MessageBack t (s .sending) a
+  sent-back =
+      let k = number-sends s t room a e in
+      messages-read-back t (s .sending) a shape (sound-store s t (k .is-sound)) (k .can-send) (asked-id a fits)
 
 module _ (s : Session) (t : Store) (m : SendMade) (p : SendPromise s t m) where
   abbrev number : ℕ

@@ -4,7 +4,7 @@ use native.Mathlib.Omega.{arith}
 use mathlib.Core.Path.{_≡_, refl, sym, ap, subst, _∙_}
 use mathlib.Core.Logic.{_⊎_, inl, inr, ⊎-elim}
 use mathlib.Core.Bool.{Bool, true, false, cond}
-use mathlib.Core.List.{List}
+use mathlib.Core.List.{List, []}
 use lib.ListN.{length, take, drop}
 use lib.Dec.{ltb, eqb}
 use borrow.Author.Tests.{eqb-true}
@@ -23,9 +23,10 @@ use Rattle.sending.proofs.plans.Numbers.{Sends}
 use Rattle.sending.proofs.finish.Ending.{held-place}
 use Rattle.sending.proofs.Leaving.{sent-sound}
 use Rattle.teaching.specs.Teaching.{messageMost}
+use Rattle.teaching.specs.ReadBack.{MessageBack}
 use Rattle.peers.specs.Sending.{RawSendMade, sentLength, RawSendPromise, sentBytes}
 use Rattle.peers.specs.ExportedSending.{RawSendRefused, RawMessageSent, RawSentOrRefused, RawSentSound}
-use Rattle.peers.proofs.Promising.{number-sends, sent-short}
+use Rattle.peers.proofs.Promising.{number-sends, sent-short, sent-back}
 
 -- ---- a message sent
 
@@ -36,6 +37,7 @@ pub record WasSent (s : Session) (t : Store) (m : RawSendMade) : Type 0 where
   pub final : m .final ≡ front (messageFor t (s .sending) (m .asked) .bytes) (m .room)
   pub sends : Sends (sound s t) s (length (m .room)) (canSend t (s .sending) (m .asked))
   pub short : length (messageFor t (s .sending) (m .asked) .bytes) ≤ messageMost
+  pub back : MessageBack t (s .sending) (m .asked)
 
 pub was-sent : (s : Session) (t : Store) (m : RawSendMade) → RawSendPromise s t m → eqb (numberFor s t (length (m .room)) (m .asked)) 0 ≡ true → WasSent s t m
 unfolding sentLength sessionAfter roomAfter
@@ -46,6 +48,7 @@ was-sent s t m p e = record {
   final = p .final ∙ rw e;
   sends = number-sends s t (length (m .room)) (m .asked) e;
   short = sent-short s t (length (m .room)) (m .asked) (p .store-shape) (p .askable) e;
+  back = sent-back s t (length (m .room)) (m .asked) (p .store-shape) (p .askable) e;
 }
 
 module _ (s : Session) (t : Store) (m : RawSendMade) (w : WasSent s t m) where
@@ -62,6 +65,7 @@ module _ (s : Session) (t : Store) (m : RawSendMade) (w : WasSent s t m) where
   message-sent = record {
     number = w .number;
     message = sent-bytes;
+    back = w .back;
     session = ap (λ (z : Session). withSending z (s .sending)) (w .session);
     len = omega (arith, w .len, w .short);
     room =
@@ -102,14 +106,19 @@ refusal-is : (allowed : Bool) (s : Session) (room : ℕ) (there : Bool) → eqb 
 unfolding sendNumber
 refusal-is allowed s room there = told-refusal allowed (isClosed (s .connection)) (ltb room sendRoom) (eqb (s .connection .phase) established) there
 
-send-refused : (s : Session) (t : Store) (m : RawSendMade) → RawSendPromise s t m → eqb (numberFor s t (length (m .room)) (m .asked)) 0 ≡ false → RawSendRefused s m
+pub send-refused : (s : Session) (t : Store) (m : RawSendMade) → RawSendPromise s t m → eqb (numberFor s t (length (m .room)) (m .asked)) 0 ≡ false → RawSendRefused s t m
 unfolding sentLength sessionAfter roomAfter numberFor
 send-refused s t m p e = record {
   number = subst Refusal (sym (p .number)) (refusal-is (sound s t) s (length (m .room)) (canSend t (s .sending) (m .asked)) e);
+  in-order = p .number;
   len = p .len ∙ rw e;
   session = p .session ∙ rw e;
   room = p .final ∙ rw e;
 }
+
+pub refused-bytes : (s : Session) (t : Store) (m : RawSendMade) → RawSendRefused s t m → sentBytes m ≡ []
+unfolding sentBytes
+refused-bytes s t m r = ap (λ (n : ℕ). take n (m .final)) (r .len)
 
 pub sent-or-refused : RawSentOrRefused
 sent-or-refused s t m p =

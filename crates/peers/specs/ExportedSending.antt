@@ -3,31 +3,33 @@ use Prim.Native.Nat.{ℕ, _≤_}
 use mathlib.Core.Path.{_≡_}
 use mathlib.Core.Logic.{_⊎_}
 use mathlib.Core.List.{List, [], _∷_, map, flatten}
-use mathlib.Core.Bool.{true, false}
+use mathlib.Core.Bool.{true, false, cond}
 use lib.ListN.{length, drop}
+use lib.Dec.{eqb}
 use Rattle.store.specs.declared.Store.{Store}
 use Rattle.store.specs.Contents.{SameContents, withExpiries}
 use Rattle.store.specs.Time.{Passed, PassPromise}
 use Rattle.session.specs.declared.Sending.{Sending}
 use Rattle.session.specs.declared.Session.{Session}
 use Rattle.session.specs.Session.{isClosed, established, unfinished, withSending}
-use Rattle.session.specs.Shape.{SessionShape}
 use Rattle.session_soundness.specs.Sound.{sound}
 use Rattle.streams.specs.Model.{bytes}
 use Rattle.streams.specs.Calls.{pieces}
 use Rattle.receiver.specs.Model.{replyRoom}
 use Rattle.receiver.specs.Promise.{Shaped}
-use Rattle.sending.specs.Sending.{sendRoom, messageFor}
+use Rattle.sending.specs.Sending.{sendRoom, messageFor, numberFor}
 use Rattle.teaching.specs.Teaching.{TableIds, SendsAll, askedFor, acknowledgementsFor, isEmpty, messageMost}
+use Rattle.teaching.specs.ReadBack.{MessageBack}
 use Rattle.peers.specs.Reading.{RawMade, RawPromise}
 use Rattle.peers.specs.Sending.{RawSendMade, RawSendPromise, sentBytes}
 use Rattle.peers.specs.ExportedDemand3.{RawCalled, rawReads, rawPasses, RawChain, rawLastSession, rawLastStore, rawReplies, RawOffersTo, RawWithinCuts, RawRooms}
 
 -- ---- one call, on any record and store
 
--- a refused call, "nothing written, no change": by 4, 2, 31, 34 or 32
-pub record RawSendRefused (s : Session) (m : RawSendMade) : Type 0 where
+-- a refused call, "nothing written, no change": by 4, 2, 31, 34 or 32, in this order by `numberFor`
+pub record RawSendRefused (s : Session) (t : Store) (m : RawSendMade) : Type 0 where
   pub number : (m .outcome .number ≡ 4) ⊎ ((m .outcome .number ≡ 2) ⊎ ((m .outcome .number ≡ 31) ⊎ ((m .outcome .number ≡ 34) ⊎ (m .outcome .number ≡ 32))))
+  pub in-order : m .outcome .number ≡ numberFor s t (length (m .room)) (m .asked)
   pub len : m .outcome .len ≡ 0
   pub session : m .session ≡ s
   pub room : m .final ≡ m .room
@@ -37,6 +39,9 @@ pub record RawMessageSent (s : Session) (t : Store) (m : RawSendMade) : Type 0 w
   pub number : m .outcome .number ≡ 0
   -- the message that the definitions say, of the store and the sending state alone
   pub message : sentBytes m ≡ messageFor t (s .sending) (m .asked) .bytes
+  -- "one whole message": a reader waits at each shorter first part of these bytes, and all of them are one message, with the fields of the table, or of
+  -- the entry, which reads without a remaining time as its table says
+  pub back : MessageBack t (s .sending) (m .asked)
   pub session : withSending (m .session) (s .sending) ≡ s
   -- a law gives the greatest length: every message fits the room that is asked for
   pub len : m .outcome .len ≤ messageMost
@@ -44,7 +49,7 @@ pub record RawMessageSent (s : Session) (t : Store) (m : RawSendMade) : Type 0 w
   pub size : length (m .final) ≡ length (m .room)
 
 abbrev pub RawSentOrRefused : Type 0
-RawSentOrRefused = (s : Session) (t : Store) (m : RawSendMade) → RawSendPromise s t m → RawMessageSent s t m ⊎ RawSendRefused s m
+RawSentOrRefused = (s : Session) (t : Store) (m : RawSendMade) → RawSendPromise s t m → RawMessageSent s t m ⊎ RawSendRefused s t m
 
 -- a record that was sound with the store stays sound with it. No other record and no store is lent to be written
 abbrev pub RawSentSound : Type 0
@@ -61,7 +66,7 @@ pub data AnyCall : Type 0 where
 unfoldable pub AnyChain : Session → Store → List AnyCall → Type 0
 AnyChain s t [] = Unit {0}
 AnyChain s t (reads m ∷ cs) = RawPromise s t m × AnyChain (m .session) (m .store) cs
-AnyChain s t (passes p ∷ cs) = SessionShape s × PassPromise t p × AnyChain s (p .store) cs
+AnyChain s t (passes p ∷ cs) = PassPromise t p × AnyChain s (p .store) cs
 AnyChain s t (sends m ∷ cs) = RawSendPromise s t m × AnyChain (m .session) t cs
 
 -- record and store at the end
@@ -86,46 +91,38 @@ sendsIn (reads m ∷ cs) = sendsIn cs
 sendsIn (passes p ∷ cs) = sendsIn cs
 sendsIn (sends m ∷ cs) = m ∷ sendsIn cs
 
+-- those with number 0, which wrote their message; a refused one has "nothing written, no change", so the host may ask again
+unfoldable pub sentIn : List AnyCall → List RawSendMade
+sentIn [] = []
+sentIn (reads m ∷ cs) = sentIn cs
+sentIn (passes p ∷ cs) = sentIn cs
+sentIn (sends m ∷ cs) = cond (eqb (m .outcome .number) 0) (m ∷ sentIn cs) (sentIn cs)
+
 -- "nothing else writing": other calls may stand between the sending ones, of acknowledgements and heartbeats that are read for instance, where they
--- leave the store as it was, and the session open
+-- leave the store as it was
 unfoldable pub NothingElseWrites : Store → List AnyCall → Type 0
 NothingElseWrites t [] = Unit {0}
-NothingElseWrites t (reads m ∷ cs) = (m .store ≡ t) × (isClosed (m .session .connection) ≡ false) × NothingElseWrites t cs
+NothingElseWrites t (reads m ∷ cs) = (m .store ≡ t) × NothingElseWrites t cs
 NothingElseWrites t (passes p ∷ cs) = (p .store ≡ t) × NothingElseWrites t cs
 NothingElseWrites t (sends m ∷ cs) = NothingElseWrites t cs
 
--- "room under 1,036 bytes" is refused: each call has as much
-unfoldable pub RoomsSuffice : List RawSendMade → Type 0
-RoomsSuffice [] = Unit {0}
-RoomsSuffice (m ∷ ms) = (sendRoom ≤ length (m .room)) × RoomsSuffice ms
+-- "With every table and entry sent once, nothing else writing": the calls of any kind that sent each of them once, whatever was refused between.
+-- "Given a session past its handshake": each that wrote met one, since its number isn't 34
+pub record Teaching (s : Session) (t : Store) (ids : List TableIds) (calls : List AnyCall) : Type 0 where
+  pub sound : sound s t ≡ true
+  pub sends-all : SendsAll t ids
+  pub asked : map (λ (m : RawSendMade). m .asked) (sentIn calls) ≡ askedFor t ids
+  pub chain : AnyChain s t calls
+  pub others : NothingElseWrites t calls
 
--- each call has this room
-unfoldable pub SendRooms : List ℕ → List RawSendMade → Type 0
-SendRooms room [] = Unit {0}
-SendRooms room (m ∷ ms) = (m .room ≡ room) × SendRooms room ms
+-- the messages of all sending calls, joined: a refused one's has no bytes
+abbrev pub joinedMessages : List AnyCall → List ℕ
+joinedMessages calls = flatten (map sentBytes (sendsIn calls))
 
-unfoldable pub NoneRefused : List RawSendMade → Type 0
-NoneRefused [] = Unit {0}
-NoneRefused (m ∷ ms) = (m .outcome .number ≡ 0) × NoneRefused ms
-
--- "Given a session past its handshake": open, and established
+-- "a session past its handshake": open, and established
 pub record PastHandshake (s : Session) : Type 0 where
   pub opened : isClosed (s .connection) ≡ false
   pub established : s .connection .phase ≡ established
-
--- the sender: a sound record past its handshake, with a store
-pub record Sender (s : Session) (t : Store) : Type 0 where
-  pub sound : sound s t ≡ true
-  pub past : PastHandshake s
-
--- and calls of any kind that send every table and entry once, each with room enough
-pub record Teaching (s : Session) (t : Store) (ids : List TableIds) (calls : List AnyCall) : Type 0 where
-  pub sender : Sender s t
-  pub sends-all : SendsAll t ids
-  pub asked : map (λ (m : RawSendMade). m .asked) (sendsIn calls) ≡ askedFor t ids
-  pub rooms : RoomsSuffice (sendsIn calls)
-  pub chain : AnyChain s t calls
-  pub others : NothingElseWrites t calls
 
 -- the reader: "a second open session past its handshake, with no unfinished bytes and an empty store"
 pub record Reader (q : Session) (e : Store) : Type 0 where
@@ -149,22 +146,57 @@ pub record Taught (t : Store) (ids : List TableIds) (q : Session) (e : Store) (c
   pub same : SameContents (withExpiries t) (rawLastStore e calls)
   pub replies : rawReplies calls ≡ acknowledgementsFor ids
 
--- the messages of all sending calls, joined
-abbrev pub joinedMessages : List AnyCall → List ℕ
-joinedMessages calls = flatten (map sentBytes (sendsIn calls))
-
--- any sound store, any IDs, any rooms that are large enough, any division of the joined messages into reading calls
+-- any sound store, any IDs, any calls that were refused, any division of the joined messages into reading calls
 abbrev pub EveryStoreTaught : Type 0
 EveryStoreTaught =
     (s : Session) (t : Store) (ids : List TableIds) (teaching : List AnyCall) → Teaching s t ids teaching
     → (q : Session) (e : Store) (reading : List RawCalled) → BeingTaught q e (joinedMessages teaching) reading
     → Taught t ids q e reading
 
+-- ---- none is refused
+
+-- "31 room under 1,036 bytes": each call has as much
+unfoldable pub RoomsSuffice : List RawSendMade → Type 0
+RoomsSuffice [] = Unit {0}
+RoomsSuffice (m ∷ ms) = (sendRoom ≤ length (m .room)) × RoomsSuffice ms
+
+unfoldable pub NoneRefused : List RawSendMade → Type 0
+NoneRefused [] = Unit {0}
+NoneRefused (m ∷ ms) = (m .outcome .number ≡ 0) × NoneRefused ms
+
+-- no reading call closes the session
+unfoldable pub StaysOpen : List AnyCall → Type 0
+StaysOpen [] = Unit {0}
+StaysOpen (reads m ∷ cs) = (isClosed (m .session .connection) ≡ false) × StaysOpen cs
+StaysOpen (passes p ∷ cs) = StaysOpen cs
+StaysOpen (sends m ∷ cs) = StaysOpen cs
+
+-- the sender: "a session past its handshake and a store", sound
+pub record Sender (s : Session) (t : Store) : Type 0 where
+  pub sound : sound s t ≡ true
+  pub past : PastHandshake s
+
+-- and calls that ask for each table and entry once, each with room enough, while the session stays open and nothing else changes the store
+pub record AskedOnce (s : Session) (t : Store) (ids : List TableIds) (calls : List AnyCall) : Type 0 where
+  pub sender : Sender s t
+  pub sends-all : SendsAll t ids
+  pub asked : map (λ (m : RawSendMade). m .asked) (sendsIn calls) ≡ askedFor t ids
+  pub rooms : RoomsSuffice (sendsIn calls)
+  pub chain : AnyChain s t calls
+  pub others : NothingElseWrites t calls
+  pub opened : StaysOpen calls
+
+-- none of them is refused, so that they teach the store
 abbrev pub TeachingNotRefused : Type 0
 TeachingNotRefused =
-    (s : Session) (t : Store) (ids : List TableIds) (calls : List AnyCall) → Teaching s t ids calls → NoneRefused (sendsIn calls)
+    (s : Session) (t : Store) (ids : List TableIds) (calls : List AnyCall) → AskedOnce s t ids calls → NoneRefused (sendsIn calls) × Teaching s t ids calls
 
 -- ---- such calls exist
+
+-- each call has this room
+unfoldable pub SendRooms : List ℕ → List RawSendMade → Type 0
+SendRooms room [] = Unit {0}
+SendRooms room (m ∷ ms) = (m .room ≡ room) × SendRooms room ms
 
 -- reading calls that offer the cuts' bytes, each with this reply room: no piece crosses a cut
 pub record ReadingExists (q : Session) (e : Store) (cuts : List (List ℕ)) (room : List ℕ) : Type 0 where
@@ -177,10 +209,13 @@ pub record ReadingExists (q : Session) (e : Store) (cuts : List (List ℕ)) (roo
 pub record TeachingExists (s : Session) (t : Store) (ids : List TableIds) (room : List ℕ) (q : Session) (e : Store) (reply : List ℕ) : Type 0 where
   pub made : List RawSendMade
   pub rooms : SendRooms room made
+  pub once : AskedOnce s t ids (map sends made)
+  pub none-refused : NoneRefused (sendsIn (map sends made))
   pub teaching : Teaching s t ids (map sends made)
   pub reading : (cuts : List (List ℕ)) → flatten cuts ≡ joinedMessages (map sends made) → ReadingExists q e cuts reply
 
--- for every sender, all IDs and every reader, with any rooms that are large enough, there are calls as `EveryStoreTaught` asks for
+-- for every sender, all IDs and every reader, with any rooms that are large enough, there are calls as `EveryStoreTaught` asks for, none of them
+-- refused
 abbrev pub EveryTeachingExists : Type 0
 EveryTeachingExists =
     (s : Session) (t : Store) (ids : List TableIds) (room : List ℕ) → Shaped s t → Sender s t → SendsAll t ids → sendRoom ≤ length room
