@@ -12,9 +12,9 @@ use Rattle.lists.specs.Lists.{front, every}
 use Rattle.lists.proofs.Cases.{by-test, and-first, and-second}
 use Rattle.store.specs.declared.Entry.{Entry}
 use Rattle.store.specs.declared.Store.{Store}
-use Rattle.store.specs.Store.{noEntry, noTable, emptyStore}
+use Rattle.store.specs.Store.{noEntry, noTable}
+use Rattle.store.specs.Sound.{soundStore}
 use Rattle.store.specs.Time.{Passed}
-use Rattle.store.proofs.Ruled.{empty-sound}
 use Rattle.session.specs.declared.Sending.{Sending}
 use Rattle.session.specs.declared.Session.{Session}
 use Rattle.session.specs.declared.Commit.{Commit}
@@ -280,16 +280,15 @@ every-connection records t steps i c f = record {
   sound = sound-last records t i steps c f;
 }
 
-opened-sound : (role : Role) (local remote room : List ℕ) (o : RawOpened) → o ≡ rawOpened (openedOf («open» role local remote (length room)))
-    → sound (o .session) emptyStore ≡ true
+opened-sound : (role : Role) (local remote room : List ℕ) (o : RawOpened) (t : Store) → o ≡ rawOpened (openedOf («open» role local remote (length room)))
+    → soundStore t ≡ true → sound (o .session) t ≡ true
 unfolding rawOpened openedOf
-opened-sound role local remote room o e =
-    subst (λ (x : RawOpened). sound (x .session) emptyStore ≡ true) (sym e) (open-sound role local remote (length room) emptyStore empty-sound)
+opened-sound role local remote room o t e f =
+    subst (λ (x : RawOpened). sound (x .session) t ≡ true) (sym e) (open-sound role local remote (length room) t f)
 
 pub every-opened-connection : EveryOpenedConnection
-every-opened-connection records steps i role local remote room o e q c =
-    every-connection records emptyStore steps i c
-    (subst (λ (x : Session). sound x emptyStore ≡ true) (sym q) (opened-sound role local remote room o e))
+every-opened-connection records t steps i role local remote room o e q f c =
+    every-connection records t steps i c (subst (λ (x : Session). sound x t ≡ true) (sym q) (opened-sound role local remote room o t e f))
 
 -- ---- in any order
 

@@ -1,20 +1,29 @@
 -- The corollaries for the exported calls, from those for calls with the answer enum.
-use Prim.Native.Nat.{ℕ, _<_}
+use Prim.Native.Nat.{ℕ, _<_, _≤_}
 use native.Mathlib.Omega.{arith}
 use mathlib.Core.Path.{_≡_, refl, sym, ap, _∙_, subst}
 use mathlib.Core.Logic.{_⊎_, inl, inr, ⊎-elim}
 use mathlib.Core.Option.{some}
 use mathlib.Core.Bool.{true, _&&_}
 use mathlib.Core.List.{List, [], _∷_, _++_, map, flatten, map-append}
-use lib.ListN.{length, take, getD}
+use lib.ListN.{length, take, getD, length-map, List·getD-eq-default}
 use lib.Dec.{eqb}
 use borrow.Author.Tests.{eqb-true, eqb-false, ne-eqb}
-use Rattle.lists.proofs.Cases.{by-test, and-false, cond-false}
+use Rattle.lists.specs.Lists.{firstPlace}
+use Rattle.lists.specs.declared.Found.{Found}
+use Rattle.lists.specs.declared.Found.the-variants as found
+use Rattle.lists.proofs.Cases.{by-test, never, and-false, cond-false, lt-or-le}
+use Rattle.lists.proofs.Places.{first-at, first-nothing}
 use Rattle.store.specs.declared.Entry.{Entry}
 use Rattle.store.specs.declared.Store.{Store}
-use Rattle.store.specs.Store.{noEntry}
-use Rattle.store.specs.Time.{Passed}
-use Rattle.store.proofs.Passing.{passed-twice}
+use Rattle.store.specs.declared.entries.Place.the-variants as places
+use Rattle.store.specs.Store.{entryFree, freeEntry, withEntries, noEntry}
+use Rattle.store.specs.Shape.{StoreShape}
+use Rattle.store.specs.Places.{freeOf, placeOf}
+use Rattle.store.specs.Sound.{soundStore}
+use Rattle.store.specs.Time.{entryTimed, passEntry, passTime, Passed, PassPromise}
+use Rattle.store.proofs.Facts.{sound-facts}
+use Rattle.store.proofs.Passing.{pass-removes, no-entry-timed, entry-passes, pass-shape, pass-sound, passed-twice}
 use Rattle.session.specs.declared.Session.{Session}
 use Rattle.session.specs.declared.Commit.{Commit}
 use Rattle.session.specs.declared.Commit.the-variants as commit
@@ -23,23 +32,32 @@ use Rattle.session.specs.declared.Answer.the-variants as answer
 use Rattle.session.specs.Answers.{refusalOf, answerNumber, answerValues, refusalReply}
 use Rattle.session.specs.Session.{unfinished, holding, closedWith, bindingAt}
 use Rattle.session.proofs.answers.OneToOne.{RefusedByte}
+use Rattle.session.proofs.answers.Refusals.{refused-is}
 use Rattle.session_soundness.specs.Sound.{sound}
-use Rattle.opening.specs.Opening.{Role, Opening, «open», openedOf, openRoom}
+use Rattle.session_soundness.proofs.Records.{sound-store}
+use Rattle.opening.specs.Opening.{Role, answerer, Opening, «open», openedOf, openRoom}
+use Rattle.opening.proofs.SoundOpening.{open-sound}
 use Rattle.streams.specs.Model.{Item, byte, bytes, bytesIn}
-use Rattle.streams.specs.Calls.{pieces}
-use Rattle.receiver.specs.Model.{Event, heldBy}
-use Rattle.receiver.specs.Promise.{Made, ReadPromise}
+use Rattle.streams.specs.Calls.{Call, pieces}
+use Rattle.receiver.specs.Model.{State, Event, heldBy}
+use Rattle.receiver.specs.Promise.{Made, ReadPromise, callOf}
 use Rattle.receiver.specs.Ledger.{isAcknowledgement}
 use Rattle.receiver.specs.Demand3.{Called, reads, passes, Chain, OffersTo, lastSession}
-use Rattle.receiver.specs.Corollaries.{EntryHeld, NothingChanged, OnlyClosed}
+use Rattle.receiver.specs.Corollaries.{messageOf, EntryHeld, NothingChanged, OnlyClosed, TestedInOrder, OffsetGiven}
 use Rattle.receiver.proofs.Corollaries.{only-reachable, bytes-offered, bytes-by-reading, bytes-record}
-use Rattle.receiver.proofs.OnePass.{refused-pass-untouched, passed-records-sound}
+use Rattle.receiver.proofs.Chained.{good-held}
+use Rattle.receiver.proofs.Lawfully.{lawful}
+use Rattle.receiver.proofs.Offered.{next-shaped}
+use Rattle.receiver.proofs.OnePass.{passed-as-model, passed-or-refused, refused-pass-untouched, passed-records-sound}
+use Rattle.receiver.proofs.Ways.{Way, staying, waiting-on, judging, ways}
 use Rattle.receiver.proofs.Acknowledging.{refused-untouched, others-untouched, held-when-acknowledged, refused-opening-untouched}
+use Rattle.receiver.proofs.Refusing.{refused-at-field, tests-in-order}
 use Rattle.receiver.proofs.Sharing.{other-records-sound, refused-byte}
 use Rattle.reading.specs.Counts.{committedCounts, answeredCounts}
 use Rattle.reading.proofs.counts.Answered.{other-counts}
 use Rattle.reading.proofs.counts.Promised.{read-counts}
 use Rattle.receiver.proofs.Sending.{sending-stays}
+use Rattle.message.specs.Targets.{keyedAs, goesTo}
 use Rattle.message_bytes.specs.MessageBytes.{UpdateMessage, DefinitionMessage, tableAt, entryAt}
 use Rattle.message_bytes.specs.LastUpdates.{lastEntry, NoneUpdates, passing, Since, NeverUpdated, LastUpdate}
 use Rattle.message_bytes.proofs.LastUpdates.{bytes-of-every-entry}
@@ -48,8 +66,8 @@ use Rattle.peers.specs.declared.numbers.RawOpened.{RawOpened}
 use Rattle.peers.specs.Numbers.{rawOutcome, rawOpened}
 use Rattle.peers.specs.Reading.{RawMade, RawPromise}
 use Rattle.peers.specs.ExportedDemand3.{RawCalled, rawReads, rawPasses, RawChain, rawValues, rawReply, rawTaken, rawLastSession, RawResult, rawCameTo, RawOffersTo}
-use Rattle.peers.specs.ExportedCorollaries.{RawSameByAnyDivision, RawAnyDivision, RawOfferedReachable, RawBytesOffered, RawBytesByReading, RawBytesRecord, RawReadingTakes, rawMessage, ToldUpdate, RawEntryHeld, RawHeldWhenAcknowledged, answering, rawLastEntry, RawNoneUpdates, rawPassing, RawNeverUpdated, RawLastUpdate, RawBytesOfEveryEntry, ToldTable, RawDefinition, RawBytesOfDefinition, RawNothingChanged, RawOnlyClosed, RawRefusedCall, RawRefusedUntouched, RawUntouched, RawOthersUntouched, rawCounts, RawCountsKept, RawRefusedOpening, RawRefusedOpeningUntouched, RawOtherRecordsSound, PassingCalls, RawSendingStays}
-use Rattle.peers.proofs.AsMade.{rawOf, rawCalled, madeBy, made-promised, made-same, madesBy, mades-chain, mades-same, values-told, refused-is}
+use Rattle.peers.specs.ExportedCorollaries.{RawSameByAnyDivision, RawAnyDivision, RawOfferedReachable, RawBytesOffered, RawBytesByReading, RawBytesRecord, RawReadingTakes, rawMessage, ToldUpdate, RawEntryHeld, RawHeldWhenAcknowledged, answering, rawLastEntry, RawNoneUpdates, rawPassing, RawNeverUpdated, RawLastUpdate, RawBytesOfEveryEntry, ToldTable, RawDefinition, RawBytesOfDefinition, RawNothingChanged, RawOnlyClosed, RawRefusedCall, RawRefusedUntouched, RawTestsInOrder, RawBodyBroke, RawUntouched, RawOthersUntouched, rawCounts, RawCountsKept, KeptStore, RawStoreSound, RawRefusedOpening, RawRefusedOpeningUntouched, RawOtherRecordsSound, FreedPlace, PassingCalls, RawSendingStays}
+use Rattle.peers.proofs.AsMade.{rawOf, rawCalled, madeBy, made-promised, made-same, madesBy, mades-chain, mades-same, values-told}
 use Rattle.peers.proofs.ExportedDemand3.{same-reply, same-taken, same-session, same-store, offered, offering, exported-demand-3}
 
 -- ---- any division
@@ -180,6 +198,22 @@ unfolding rawOutcome
 raw-refused-untouched s t m p =
     by-made (λ (x : RawMade). x .outcome .number < 256 → RawRefusedCall s t x) s t m p (refused s t (madeBy s t m) (made-promised s t m p))
 
+pub raw-tests-in-order : RawTestsInOrder
+unfolding rawOutcome
+raw-tests-in-order s t m p =
+    by-made (λ (x : RawMade). TestedInOrder s t (length (x .room)) (x .outcome .number)) s t m p
+    (tests-in-order s t (madeBy s t m) (made-promised s t m p))
+
+pub raw-body-broke : RawBodyBroke
+unfolding rawOutcome
+raw-body-broke s t m p =
+    by-made (λ (x : RawMade). x .outcome .number < 256 → OffsetGiven (s .connection) t (rawMessage s x) (x .outcome .number) (rawValues x)) s t m p
+    (λ l.
+    let made = madeBy s t m in
+    let n = answerNumber (made .outcome .answer) in
+    subst (OffsetGiven (s .connection) t (messageOf s made) n) (sym (values-told made))
+    (refused-at-field s t made n (made-promised s t m p) (refused-is (made .outcome .answer) l)))
+
 pub raw-others-untouched : RawOthersUntouched
 unfolding rawOutcome
 raw-others-untouched s t m p =
@@ -258,6 +292,83 @@ unfolding rawOutcome
 raw-counts-kept s t m p =
     by-made (λ (x : RawMade). x .store .counts ≡ rawCounts (x .outcome .number) (rawValues x) (t .counts)) s t m p
     (counts-told s t (madeBy s t m) (made-promised s t m p))
+
+-- ---- the store
+
+-- a reading call leaves a store of the same shape
+left-shape : (s : Session) (t : Store) (m : Made) → ReadPromise s t m → Way s t (m .piece) (callOf s t (m .piece) (length (m .room))) → StoreShape (m .store)
+unfolding heldBy
+left-shape s t m p (staying n h q) = subst StoreShape (sym (p .store ∙ ap (λ (k : Call State Answer). k .state .store) q)) (p .shaped .store)
+left-shape s t m p (waiting-on w) = subst StoreShape (sym (p .store ∙ ap (λ (k : State). k .store) (w .state))) (p .shaped .store)
+left-shape s t m p (judging e j) = next-shaped lawful s t m p (j .sound) (good-held s t (p .shaped) (j .sound)) .store
+
+-- soundness of the store alone is that with a record which is sound with every sound store
+abbrev spare : Session
+spare = «open» answerer [] [] 0 .session
+
+kept-store : (t : Store) → soundStore t ≡ true → StoreShape t → KeptStore t
+kept-store t f sh = record { sound = f; counts = sound-facts t f .counts; shape = sh }
+
+pub raw-store-sound : RawStoreSound
+raw-store-sound s t m p f =
+    let made = madeBy s t m in
+    let promised = made-promised s t m p in
+    kept-store (m .store) (sound-store spare (m .store) (raw-other-records-sound s t m spare p (open-sound answerer [] [] 0 t f)))
+    (left-shape s t made promised (ways s t made promised))
+
+passed-store : (t : Store) (p : Passed) → PassPromise t p → soundStore t ≡ true → KeptStore (p .store)
+passed-store t p promise f =
+    let e = p .milliseconds in
+    subst KeptStore (sym (passed-as-model t p promise f .store))
+    (kept-store (passTime e t) (pass-sound e t f) (pass-shape e t (promise .shaped)))
+
+-- ---- places that time frees
+
+no-entry-free : entryFree noEntry ≡ true
+unfolding entryFree noEntry
+no-entry-free = refl
+
+-- the lowest free place isn't above a free one
+lowest-free : (t : Store) (place : ℕ) → place < length (t .entries) → entryFree (getD (t .entries) place noEntry) ≡ true → (f : Found) → freeEntry t ≡ f
+    → (lowest : ℕ) × ((freeEntry t ≡ found.At lowest) × (lowest ≤ place))
+unfolding freeEntry
+lowest-free t place l free (found.At i) e =
+    ⊎-elim
+    (λ less. never free (first-at entryFree (t .entries) i e .lower place noEntry less))
+    (λ most. (i, (e, most)))
+    (lt-or-le place i)
+lowest-free t place l free found.Nothing e = never free (first-nothing entryFree (t .entries) e place noEntry l)
+
+-- an entry whose key isn't held goes to it
+goes-free : (t : Store) (lowest : ℕ) → freeEntry t ≡ found.At lowest → (e : Entry) → firstPlace (keyedAs e) (t .entries) ≡ found.Nothing
+    → goesTo (t .entries) e ≡ places.Free lowest
+unfolding freeEntry goesTo placeOf freeOf
+goes-free t lowest next e none = λ i. placeOf (none i) (next i)
+
+pass-many : (e : ℕ) (t : Store) → length (passTime e t .entries) ≡ length (t .entries)
+unfolding passTime withEntries
+pass-many e t = length-map (t .entries) (passEntry e)
+
+freed : (t : Store) (p : Passed) (place : ℕ) → PassPromise t p → p .number ≡ 0 → entryTimed (getD (t .entries) place noEntry) ≡ true
+    → getD (t .entries) place noEntry .remaining ≤ p .milliseconds → FreedPlace (p .store) place
+freed t p place promise z timed most =
+    let e = p .milliseconds in
+    let left = passed-or-refused t p promise .passed z in
+    let cleared : getD (p .store .entries) place noEntry ≡ noEntry =
+    ap (λ (x : Store). getD (x .entries) place noEntry) left
+    ∙ (entry-passes e t place ∙ pass-removes e (getD (t .entries) place noEntry) timed most)
+    in
+    let free = ap entryFree cleared ∙ no-entry-free in
+    let inside = within (t .entries) place timed in
+    let n = lowest-free (p .store) place (omega (arith, inside, passed-many t p left)) free (freeEntry (p .store)) refl in
+    record { cleared = cleared; free = free; lowest = n .0; next = n .1 .0; not-above = n .1 .1; used = goes-free (p .store) (n .0) (n .1 .0) }
+  where
+    within : (es : List Entry) (i : ℕ) → entryTimed (getD es i noEntry) ≡ true → i < length es
+    within es i h =
+        ⊎-elim (λ l. l) (λ l. never h (ap entryTimed (List·getD-eq-default es noEntry l) ∙ no-entry-timed)) (lt-or-le i (length es))
+
+    passed-many : (t : Store) (p : Passed) → p .store ≡ passTime (p .milliseconds) t → length (p .store .entries) ≡ length (t .entries)
+    passed-many t p e = ap (λ (x : Store). length (x .entries)) e ∙ pass-many (p .milliseconds) t
 
 -- ---- the bytes of every entry
 
@@ -432,7 +543,7 @@ raw-bytes-of-every-entry s t calls place c =
 -- ---- a call that passes time
 
 pub passing-calls : PassingCalls
-passing-calls = record { refused = refused-pass-untouched; records = passed-records-sound; twice = passed-twice }
+passing-calls = record { refused = refused-pass-untouched; records = passed-records-sound; sound = passed-store; freed = freed; twice = passed-twice }
 
 -- ---- the sending state
 

@@ -26,7 +26,7 @@ use Rattle.peers.specs.ExportedDemand3.{RawCalled, RawChain, RawResult, 
 use Rattle.peers.specs.ExportedCorollaries.{Started}
 use Rattle.peers.specs.ExportedListing.{listedNumbers, OpenedEast, RawListingCame, RawListingByCalls, RawListingOffered}
 use Rattle.peers.proofs.ExportedCorollaries.{raw-bytes-record}
-use Rattle.peers.proofs.FromTheStart.{from-the-start}
+use Rattle.peers.proofs.FromTheStart.{from-the-empty-store}
 
 abbrev start : Session
 start = opened answerer east west
@@ -47,7 +47,7 @@ in-numbers : inNumbers listedResult .responses ≡ listedNumbers
 unfolding inNumbers listedResult listed listedNumbers answerNumber answerValues
 in-numbers = refl
 
-module _ (calls : List RawCalled) (d : Started start calls) (c : RawChain start emptyStore calls) (o : RawOffersTo start (bytes listing) calls) where
+module _ (calls : List RawCalled) (d : Started start emptyStore calls) (c : RawChain start emptyStore calls) (o : RawOffersTo start (bytes listing) calls) where
   came : rawCameTo start emptyStore calls ≡ inNumbers listedResult
   came = d .demand .whole (bytes listing) o ∙ ap inNumbers listing-holds
 
@@ -66,11 +66,12 @@ module _ (calls : List RawCalled) (d : Started start calls) (c : RawChain start 
 
 pub raw-listing-by-calls : RawListingByCalls
 raw-listing-by-calls o calls h c q =
-    subst (λ (s : Session). Started s calls → RawChain s emptyStore calls → RawOffersTo s (bytes listing) calls → RawListingCame s calls)
-    (sym (start-opened o h)) (listed-by-calls calls) (from-the-start answerer east west (h .0) o calls (h .1 .1) c) c q
+    subst (λ (s : Session). Started s emptyStore calls → RawChain s emptyStore calls → RawOffersTo s (bytes listing) calls → RawListingCame s calls)
+    (sym (start-opened o h)) (listed-by-calls calls) (from-the-empty-store answerer east west (h .0) o emptyStore calls (h .1 .1) refl c) c q
 
 -- ---- and they can be offered in every cutting
 
 pub raw-listing-offered : RawListingOffered
 unfolding RawChain
-raw-listing-offered o cuts room h e l = from-the-start answerer east west (h .0) o [] (h .1 .1) tt .offered cuts room (listing-cut cuts e) l
+raw-listing-offered o cuts room h e l =
+    from-the-empty-store answerer east west (h .0) o emptyStore [] (h .1 .1) refl tt .offered cuts room (listing-cut cuts e) l

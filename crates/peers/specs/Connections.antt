@@ -11,7 +11,8 @@ use lib.Dec.{ltb, eqb}
 use Rattle.lists.specs.Lists.{every}
 use Rattle.store.specs.declared.Entry.{Entry}
 use Rattle.store.specs.declared.Store.{Store}
-use Rattle.store.specs.Store.{noEntry, noTable, emptyStore}
+use Rattle.store.specs.Store.{noEntry, noTable}
+use Rattle.store.specs.Sound.{soundStore}
 use Rattle.store.specs.Time.{Passed, PassPromise}
 use Rattle.session.specs.declared.Sending.{Sending}
 use Rattle.session.specs.declared.Session.{Session}
@@ -150,12 +151,12 @@ abbrev pub EveryConnection : Type 0
 EveryConnection =
     (records : Records) (t : Store) (steps : List HostStep) (i : ℕ) → Interleaved records t steps → sound (records i) t ≡ true → AmongOthers records t steps i
 
--- from where a host starts: a record that `peers_open_answerer` or `peers_open_caller` gave, and the store of `peers_empty_store`
+-- from where a connection starts: a record that `peers_open_answerer` or `peers_open_caller` gave, and any sound store
 abbrev pub EveryOpenedConnection : Type 0
 EveryOpenedConnection =
-    (records : Records) (steps : List HostStep) (i : ℕ) (role : Role) (local remote room : List ℕ) (o : RawOpened)
-    → o ≡ rawOpened (openedOf («open» role local remote (length room))) → records i ≡ o .session → Interleaved records emptyStore steps
-    → AmongOthers records emptyStore steps i
+    (records : Records) (t : Store) (steps : List HostStep) (i : ℕ) (role : Role) (local remote room : List ℕ) (o : RawOpened)
+    → o ≡ rawOpened (openedOf («open» role local remote (length room))) → records i ≡ o .session → soundStore t ≡ true → Interleaved records t steps
+    → AmongOthers records t steps i
 
 -- ---- in any order
 

@@ -7,11 +7,15 @@ use mathlib.Core.Bool.{true, cond, _&&_, _||_}
 use mathlib.Core.Option.{some}
 use lib.ListN.{length, take, drop, getD}
 use lib.Dec.{eqb}
-use Rattle.lists.specs.Lists.{every}
+use Rattle.lists.specs.declared.Found.the-variants as found
+use Rattle.lists.specs.Lists.{every, firstPlace}
 use Rattle.store.specs.declared.Entry.{Entry}
 use Rattle.store.specs.declared.Store.{Store}
-use Rattle.store.specs.Store.{countsOf, raised, makeEntry, noEntry, noTable, emptyStore}
-use Rattle.store.specs.Time.{Passed, PassedTwice}
+use Rattle.store.specs.declared.entries.Place.the-variants as places
+use Rattle.store.specs.Store.{entryFree, freeEntry, countsOf, raised, makeEntry, noEntry, noTable, emptyStore}
+use Rattle.store.specs.Shape.{StoreShape}
+use Rattle.store.specs.Sound.{soundStore}
+use Rattle.store.specs.Time.{entryTimed, Passed, PassPromise, PassedTwice}
 use Rattle.frame.specs.declared.Frame.the-variants as frame
 use Rattle.frame.specs.Frame.{judgeFrame}
 use Rattle.session.specs.declared.Session.{Session}
@@ -26,13 +30,14 @@ use Rattle.body.specs.declared.update.Form.{Form}
 use Rattle.body.specs.Fields.{got, spanIn}
 use Rattle.body.specs.Bodies.{Update, formOf}
 use Rattle.message.specs.Effects.{acknowledge}
+use Rattle.message.specs.Targets.{keyedAs, goesTo}
 use Rattle.streams.specs.Model.{Item, bytes, bytesIn}
 use Rattle.streams.specs.Calls.{Part, pieces, onPart, timeline, reachable}
 use Rattle.receiver.specs.Model.{Event, heldBy, replyRoom, isByte, isTime, peers}
 use Rattle.receiver.specs.Promise.{Made, Shaped}
 use Rattle.receiver.specs.Ledger.{isAcknowledgement}
 use Rattle.receiver.specs.Demand3.{modelRan}
-use Rattle.receiver.specs.Corollaries.{fieldsOf, closes, RefusedPassUntouched, PassedRecordsSound}
+use Rattle.receiver.specs.Corollaries.{fieldsOf, closes, TestedInOrder, OffsetGiven, RefusedPassUntouched, PassedRecordsSound}
 use Rattle.message_bytes.specs.MessageBytes.{UpdateMessage, DefinitionMessage}
 use Rattle.message_bytes.specs.LastUpdates.{Since}
 use Rattle.peers.specs.declared.numbers.RawOpened.{RawOpened}
@@ -40,25 +45,32 @@ use Rattle.peers.specs.Numbers.{rawOpened}
 use Rattle.peers.specs.Reading.{RawMade, RawPromise}
 use Rattle.peers.specs.ExportedDemand3.{RawCalled, rawReads, rawPasses, RawChain, rawValues, rawReply, rawTaken, rawLastSession, rawLastStore, rawReplies, rawCameTo, RawOffersTo, RawOffering, ExportedDemand3}
 
--- ---- from where a host starts: a record that `peers_open_answerer` or `peers_open_caller` gave, and the store of `peers_empty_store`
+-- ---- from where a connection starts: a record that `peers_open_answerer` or `peers_open_caller` gave, and any sound store
 
 -- demand 3 holds of every list of calls from there, and for every cutting of every stream into pieces, with times between them at any positions that
 -- calls come to, and every room that is large enough there is such a list
-pub record Started (s : Session) (calls : List RawCalled) : Type 0 where
-  pub sound : sound s emptyStore ≡ true
-  pub demand : ExportedDemand3 s emptyStore calls
+pub record Started (s : Session) (t : Store) (calls : List RawCalled) : Type 0 where
+  pub sound : sound s t ≡ true
+  pub demand : ExportedDemand3 s t calls
   pub exists : (parts : List (Part Event)) (room : List ℕ) → every (onPart (every isByte) isTime) parts ≡ true → replyRoom ≤ length room
-      → reachable peers (heldBy s emptyStore) (timeline parts) ≡ true → RawOffering s emptyStore parts room
+      → reachable peers (heldBy s t) (timeline parts) ≡ true → RawOffering s t parts room
   -- without times, for every cutting
   pub offered : (cuts : List (List ℕ)) (room : List ℕ) → every (every isByte) cuts ≡ true → replyRoom ≤ length room
-      → RawOffering s emptyStore (pieces cuts) room
+      → RawOffering s t (pieces cuts) room
 
--- in either role, with any names and any room: a refused opening too, since "1 and 3 in opening return a closed record .. which counts as sound"
+-- in either role, with any names and any room: a refused opening too, since "1 and 3 in opening return a closed record .. which counts as sound". The
+-- store has the shape that every value of its type has; one that calls left of a sound store is such a store (`KeptStore`)
 abbrev pub FromTheStart : Type 0
 FromTheStart =
-    (role : Role) (local remote room : List ℕ) (o : RawOpened) (calls : List RawCalled)
-    → o ≡ rawOpened (openedOf («open» role local remote (length room))) → RawChain (o .session) emptyStore calls
-    → Started (o .session) calls
+    (role : Role) (local remote room : List ℕ) (o : RawOpened) (t : Store) (calls : List RawCalled)
+    → o ≡ rawOpened (openedOf («open» role local remote (length room))) → soundStore t ≡ true → StoreShape t → RawChain (o .session) t calls
+    → Started (o .session) t calls
+
+-- where a host starts: the store is what `peers_empty_store` ensures
+abbrev pub FromTheEmptyStore : Type 0
+FromTheEmptyStore =
+    (role : Role) (local remote room : List ℕ) (o : RawOpened) (t : Store) (calls : List RawCalled)
+    → o ≡ rawOpened (openedOf («open» role local remote (length room))) → t ≡ emptyStore → RawChain (o .session) t calls → Started (o .session) t calls
 
 -- ---- "would another division of the same traffic by TCP have left another table?"
 
@@ -253,6 +265,10 @@ RawRefusedCall s t m =
 abbrev pub RawRefusedUntouched : Type 0
 RawRefusedUntouched = (s : Session) (t : Store) (m : RawMade) → RawPromise s t m → m .outcome .number < 256 → RawRefusedCall s t m
 
+-- "A call tests 1, then 4, then 2": which of them comes, of every call, refused or not
+abbrev pub RawTestsInOrder : Type 0
+RawTestsInOrder = (s : Session) (t : Store) (m : RawMade) → RawPromise s t m → TestedInOrder s t (length (m .room)) (m .outcome .number)
+
 pub record RawUntouched (t : Store) (m : RawMade) : Type 0 where
   pub store : m .store ≡ t
   pub room : drop (m .outcome .«reply_len») (m .final) ≡ drop (m .outcome .«reply_len») (m .room)
@@ -261,6 +277,15 @@ pub record RawUntouched (t : Store) (m : RawMade) : Type 0 where
 abbrev pub RawOthersUntouched : Type 0
 RawOthersUntouched =
     (s : Session) (t : Store) (m : RawMade) → RawPromise s t m → (m .outcome .number ≡ 265 → ⊥) → (m .outcome .number ≡ 267 → ⊥) → RawUntouched t m
+
+-- ---- request 10: "Say where the body broke.", of any refused call, on any record and store, sound or not
+
+-- "refusals 23, 24 and 30 give the offset in the body, from 0, at which the failing field starts": it is their only value, and the message that the
+-- call ended has a body with a field that fails there. No other refusal has a value
+abbrev pub RawBodyBroke : Type 0
+RawBodyBroke =
+    (s : Session) (t : Store) (m : RawMade) → RawPromise s t m → m .outcome .number < 256
+    → OffsetGiven (s .connection) t (rawMessage s m) (m .outcome .number) (rawValues m)
 
 -- ---- the counts after any call, on any record and store, sound or not
 
@@ -271,6 +296,18 @@ rawCounts number values counts = cond (eqb number 267 && eqb (getD values 3 0) 0
 
 abbrev pub RawCountsKept : Type 0
 RawCountsKept = (s : Session) (t : Store) (m : RawMade) → RawPromise s t m → m .store .counts ≡ rawCounts (m .outcome .number) (rawValues m) (t .counts)
+
+-- ---- request 9: "kept right by every call on a sound store"
+
+-- a store that a call left: sound, and each count is the number that walking finds. It has the shape of its type, so that other calls may start with it
+pub record KeptStore (t : Store) : Type 0 where
+  pub sound : soundStore t ≡ true
+  pub counts : t .counts ≡ countsOf (t .entries)
+  pub shape : StoreShape t
+
+-- whatever the record holds, sound or not, and whatever was answered
+abbrev pub RawStoreSound : Type 0
+RawStoreSound = (s : Session) (t : Store) (m : RawMade) → RawPromise s t m → soundStore t ≡ true → KeptStore (m .store)
 
 -- ---- a refused opening, in either role, with any names and any room
 
@@ -297,16 +334,31 @@ RawOtherRecordsSound =
 
 -- ---- a call that passes time, on any store, sound or not: `peers_pass_time` promises `PassPromise`, of which these are said
 
+-- "removed places are cleared and used again as the lowest free": the place is the empty store's, the lowest free one isn't above it, and an entry
+-- whose key isn't held goes to that one
+pub record FreedPlace (t : Store) (place : ℕ) : Type 0 where
+  pub cleared : getD (t .entries) place noEntry ≡ noEntry
+  pub free : entryFree (getD (t .entries) place noEntry) ≡ true
+  pub lowest : ℕ
+  pub next : freeEntry t ≡ found.At lowest
+  pub not-above : lowest ≤ place
+  pub used : (e : Entry) → firstPlace (keyedAs e) (t .entries) ≡ found.Nothing → goesTo (t .entries) e ≡ places.Free lowest
+
 pub record PassingCalls : Type 0 where
   -- "passing time gives 4 on an unsound store, unchanged, else 0"
   pub refused : RefusedPassUntouched
   -- every record that was sound with the store is sound with it afterwards
   pub records : PassedRecordsSound
+  -- and without a record: request 9's "kept right by every call on a sound store"
+  pub sound : (t : Store) (p : Passed) → PassPromise t p → soundStore t ≡ true → KeptStore (p .store)
+  -- where 0 is returned, each held entry "with at most e remaining" has left its place free
+  pub freed : (t : Store) (p : Passed) (place : ℕ) → PassPromise t p → p .number ≡ 0 → entryTimed (getD (t .entries) place noEntry) ≡ true
+      → getD (t .entries) place noEntry .remaining ≤ p .milliseconds → FreedPlace (p .store) place
   -- "Passing a and then b leaves what passing a + b leaves, where the sum fits 32 bits."
   pub twice : PassedTwice
 
 -- ---- request 3: the sending state
 
--- "A reading call, also one that closes, leaves both new fields as they were.", on any record and store
+-- a reading call, also one that closes, leaves the sending state as it was, on any record and store
 abbrev pub RawSendingStays : Type 0
 RawSendingStays = (s : Session) (t : Store) (m : RawMade) → RawPromise s t m → m .session .sending ≡ s .sending

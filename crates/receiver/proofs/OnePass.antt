@@ -5,7 +5,7 @@ use mathlib.Core.Path.{_≡_, refl, sym, ap, subst, _∙_}
 use mathlib.Core.Logic.{inl, inr}
 use mathlib.Core.List.{List}
 use mathlib.Core.Bool.{true}
-use Rattle.lists.proofs.Cases.{by-test}
+use Rattle.lists.proofs.Cases.{by-test, never}
 use Rattle.store.specs.declared.Table.{Table}
 use Rattle.store.specs.declared.Store.{Store}
 use Rattle.store.specs.Sound.{soundStore}
@@ -56,6 +56,8 @@ module _ (t : Store) (p : Passed) (promise : PassPromise t p) where
       let n = promise .number ∙ number-sound t f in
       record {
         number = inl n;
+        sound = λ e. n;
+        unsound = λ e. never f e;
         passed = λ e. promise .store ∙ store-passes (p .milliseconds) t f;
         refused = λ e. let z : _≡_ {A = ℕ} 0 4 = sym n ∙ e in absurd (omega arith);
       })
@@ -63,6 +65,8 @@ module _ (t : Store) (p : Passed) (promise : PassPromise t p) where
       let n = promise .number ∙ number-unsound t f in
       record {
         number = inr n;
+        sound = λ e. never e f;
+        unsound = λ e. n;
         passed = λ e. let z : _≡_ {A = ℕ} 4 0 = sym n ∙ e in absurd (omega arith);
         refused = λ e. promise .store ∙ store-stays (p .milliseconds) t f;
       })

@@ -10,6 +10,7 @@ use lib.Dec.{eqb, leb, ltb}
 use Rattle.lists.specs.Lists.{every}
 use Rattle.store.specs.declared.Store.{Store}
 use Rattle.store.specs.Store.{countsOf, makeEntry, noEntry, noTable}
+use Rattle.store.specs.Sound.{soundStore}
 use Rattle.store.specs.Time.{passTime, Passed, PassPromise}
 use Rattle.frame.specs.declared.Frame.the-variants as frame
 use Rattle.frame.specs.Frame.{definitionType, switchType, acknowledgementType, judgeFrame}
@@ -268,6 +269,8 @@ PassedRecordsSound = (t : Store) (p : Passed) (other : Session) → PassPromise 
 -- "passing time gives 4 on an unsound store, unchanged, else 0"
 pub record PassedOrRefused (t : Store) (p : Passed) : Type 0 where
   pub number : (p .number ≡ 0) ⊎ (p .number ≡ 4)
+  pub sound : soundStore t ≡ true → p .number ≡ 0
+  pub unsound : soundStore t ≡ false → p .number ≡ 4
   pub passed : p .number ≡ 0 → p .store ≡ passTime (p .milliseconds) t
   pub refused : p .number ≡ 4 → p .store ≡ t
 
@@ -276,7 +279,7 @@ RefusedPassUntouched = (t : Store) (p : Passed) → PassPromise t p → PassedOr
 
 -- ---- request 3: reading and the sending state
 
--- "A reading call, also one that closes, leaves both new fields as they were.", on any record and store
+-- a reading call, also one that closes, leaves the sending state as it was, on any record and store
 abbrev pub SendingStays : Type 0
 SendingStays = (s : Session) (t : Store) (m : Made) → ReadPromise s t m → m .session .sending ≡ s .sending
 
