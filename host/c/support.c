@@ -198,7 +198,7 @@ size_t put_message(uint8_t *to, uint8_t kind, const uint8_t *body, size_t len) {
     to[0] = 10;
     to[1] = kind;
     size_t at = 2 + put_int(to + 2, len);
-    memcpy(to + at, body, len);
+    if (len > 0) memcpy(to + at, body, len); /* a body of no bytes may be a null pointer */
     return at + len;
 }
 
