@@ -1,4 +1,4 @@
-// Lookup of tables and entries, and the lowest free place.
+// Lookup of a table, the lowest free table place, and whether an entry is of a table with a key of a given length.
 ghost use mathlib.Core.Path.{_≡_};
 ghost use lib.ListN.{getD};
 ghost use Rattle.lists.specs.Lists.{firstPlace};
