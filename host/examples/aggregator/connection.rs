@@ -88,12 +88,9 @@ impl<'a> Connection<'a> {
                     self.heard = Instant::now();
                     self.take(&piece[..len])?;
                 }
-                Err(e) if is_timeout(&e) => {
-                    if self.heard.elapsed() >= SILENCE_TIME {
-                        return Ok("closed, nothing was heard for 5 seconds");
-                    }
-                }
-                Err(e) => return Err(e),
+                Err(e) if !is_timeout(&e) => return Err(e),
+                Err(_) if self.heard.elapsed() < SILENCE_TIME => {}
+                Err(_) => return Ok("closed, nothing was heard for 5 seconds"),
             }
         }
         Ok("closed")
@@ -150,22 +147,30 @@ impl<'a> Connection<'a> {
         let mut room = [0; READING_ROOM];
         let mut tables = self.host.tables().map_err(io::Error::other)?;
         let store = &mut tables.store;
-        let (mut message, current) = (self.session.unfinished().to_vec(), self.session.current());
+        let (begun, current) = (self.session.unfinished().to_vec(), self.session.current());
         let step = self.session.read(store, rest, &mut room);
         let (taken, answer) = (step.taken, step.answer);
         reply.extend_from_slice(step.reply);
         if answer == Answer::Request {
             teach(&mut self.session, store, reply)?;
         }
-        message.extend_from_slice(&rest[..taken]);
-        let table = current.and_then(|place| store.table(place));
-        let about = subject::about(&message, table);
+        let about = if self.names_table(answer) {
+            let table = current.and_then(|place| store.table(place));
+            subject::about(&[&begun, &rest[..taken]].concat(), table)
+        } else {
+            String::new()
+        };
         drop(tables); // nothing is written while it is held
         self.tell(answer, &about, reply.len());
         match taken {
             0 => Err(io::Error::other("the session or the store isn't sound")), // the same bytes would be refused again
             _ => Ok(taken),
         }
+    }
+
+    /// Whether the line for an answer says which table the message is about.
+    fn names_table(&self, answer: Answer) -> bool {
+        matches!(answer, Answer::Refused { .. }) || self.host.options.messages
     }
 
     /// A line for an answer.
@@ -175,7 +180,7 @@ impl<'a> Connection<'a> {
             Answer::More | Answer::Heartbeat => {}
             Answer::Refused { .. } | Answer::Error { .. } => {
                 let what = format!("{answer}{about}");
-                host.repeated(&self.peer.news, &what, format_args!("{name}: {what}"));
+                host.repeated(&self.peer.reported, &what, format_args!("{name}: {what}"));
             }
             Answer::Request => host.event(format_args!("{name}: {answer}, {sent} bytes sent")),
             Answer::Status | Answer::Finished | Answer::Partial | Answer::Confirmed => {

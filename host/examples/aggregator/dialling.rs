@@ -13,19 +13,22 @@ use std::time::Duration;
 const LOOK: Duration = Duration::from_millis(100);
 const CONNECT_TIME: Duration = Duration::from_secs(5);
 
-/// Starts a thread for each peer that has an address: it dials the peer while there is no connection with it.
-pub fn start(host: &Arc<Host>) {
+/// Starts a thread for each peer that has an address.
+pub fn start(host: &Arc<Host>) -> io::Result<()> {
     for place in 0..host.peers.len() {
         let host = Arc::clone(host);
-        thread::spawn(move || {
-            let peer = &host.peers[place];
-            while let Some(address) = &peer.address {
-                thread::sleep(LOOK);
-                if peer.is_due() {
-                    dial(&host, peer, address);
-                }
-            }
-        });
+        thread::Builder::new().spawn(move || keep(&host, &host.peers[place]))?;
+    }
+    Ok(())
+}
+
+/// Dials a peer while there is no connection with it.
+fn keep(host: &Host, peer: &Peer) {
+    while let Some(address) = &peer.address {
+        thread::sleep(LOOK);
+        if peer.is_due() {
+            dial(host, peer, address);
+        }
     }
 }
 
@@ -38,14 +41,13 @@ fn dial(host: &Host, peer: &Peer, address: &str) {
     match connected.and_then(|stream| handshake::call(host, peer, stream)) {
         Ok(connection) => connection.run(&[]),
         Err(e) => {
-            let wait = peer.ended(None, Duration::ZERO, false).unwrap_or_default();
-            let (name, wait) = (&peer.name, wait.as_millis());
+            let (name, wait) = (&peer.name, peer.ended(None, Duration::ZERO, false));
             let what = format!("can't connect to {address}: {e}");
-            host.repeated(
-                &peer.news,
-                &what,
-                format_args!("{name}: {what}; again in {wait} ms"),
-            );
+            let again = wait.map_or(String::new(), |wait| {
+                format!("; again in {} ms", wait.as_millis())
+            });
+            let line = format_args!("{name}: {what}{again}");
+            host.repeated(&peer.reported, &what, line);
         }
     }
 }

@@ -41,7 +41,7 @@ pub fn answer<'a>(
     };
     stream.write_all(&judged.reply)?;
     if let Answer::Refused { .. } = judged.answer {
-        host.stranger(&judged.answer.to_string(), from);
+        host.unaccepted(&judged.answer.to_string(), from);
         return Ok(None);
     }
     let name = &judged.peer.name;

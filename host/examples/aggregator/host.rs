@@ -31,7 +31,7 @@ pub struct Host {
     tables: Mutex<Tables>,
     accepted: AtomicU64,
     /// What was told of connections that are no peer's.
-    strangers: News,
+    unaccepted: Reported,
 }
 
 impl Host {
@@ -46,7 +46,7 @@ impl Host {
                 passed: Instant::now(),
             }),
             accepted: AtomicU64::new(0),
-            strangers: News::default(),
+            unaccepted: Reported::default(),
             options,
         }
     }
@@ -89,9 +89,9 @@ impl Host {
         let _ = io::stderr().write_all(format!("{line}\n").as_bytes());
     }
 
-    /// A line for what is wrong, as a fault if it is news, else as an event.
-    pub fn repeated(&self, news: &News, what: &str, line: fmt::Arguments<'_>) {
-        if news.is_new(what) {
+    /// A line for what is wrong: as a fault the first time in a while, else as an event.
+    pub fn repeated(&self, reported: &Reported, what: &str, line: fmt::Arguments<'_>) {
+        if reported.is_first(what) {
             self.fault(line);
         } else {
             self.event(line);
@@ -99,27 +99,27 @@ impl Host {
     }
 
     /// A line for a connection that is no peer's. Anybody can cause one, so each kind is a fault once in a while only.
-    pub fn stranger(&self, what: &str, from: &str) {
-        self.repeated(&self.strangers, what, format_args!("{from}: {what}"));
+    pub fn unaccepted(&self, what: &str, from: &str) {
+        self.repeated(&self.unaccepted, what, format_args!("{from}: {what}"));
     }
 }
 
-/// The last things that were told, and when.
+/// The last faults that were told, and when.
 #[derive(Default)]
-pub struct News(Mutex<Vec<(String, Instant)>>);
+pub struct Reported(Mutex<Vec<(String, Instant)>>);
 
-impl News {
-    /// How long the same isn't news again, and how many things are kept.
+impl Reported {
+    /// How long the same isn't told again, and how many are kept.
     const TIME: Duration = Duration::from_secs(600);
     const MOST: usize = 16;
 
-    fn is_new(&self, what: &str) -> bool {
+    fn is_first(&self, what: &str) -> bool {
         let mut told = self.0.lock().unwrap_or_else(PoisonError::into_inner);
-        told.retain(|(_, when)| when.elapsed() < News::TIME);
+        told.retain(|(_, when)| when.elapsed() < Reported::TIME);
         if told.iter().any(|(old, _)| old == what) {
             return false;
         }
-        if told.len() == News::MOST {
+        if told.len() == Reported::MOST {
             told.remove(0);
         }
         told.push((what.to_owned(), Instant::now()));

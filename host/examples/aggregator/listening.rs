@@ -2,6 +2,7 @@
 
 use crate::handshake;
 use crate::host::{Admitted, Host};
+use std::io;
 use std::net::{SocketAddr, TcpListener, TcpStream};
 use std::sync::Arc;
 use std::thread;
@@ -11,9 +12,9 @@ use std::time::Duration;
 const PAUSE: Duration = Duration::from_secs(1);
 
 /// Starts the thread that accepts connections.
-pub fn start(host: &Arc<Host>, listener: TcpListener) {
+pub fn start(host: &Arc<Host>, listener: TcpListener) -> io::Result<()> {
     let host = Arc::clone(host);
-    thread::spawn(move || loop {
+    let accept = move || loop {
         match listener.accept() {
             Ok((stream, from)) => admit(&host, stream, from),
             Err(e) => {
@@ -21,7 +22,9 @@ pub fn start(host: &Arc<Host>, listener: TcpListener) {
                 thread::sleep(PAUSE);
             }
         }
-    });
+    };
+    thread::Builder::new().spawn(accept)?;
+    Ok(())
 }
 
 /// Starts a thread for a connection, if not too many are open.
@@ -29,7 +32,7 @@ fn admit(host: &Arc<Host>, stream: TcpStream, from: SocketAddr) {
     let Some(admitted) = host.admit() else {
         let most = host.options.connections;
         let what = format!("closed, {most} connections are open");
-        return host.stranger(&what, &from.to_string());
+        return host.unaccepted(&what, &from.to_string());
     };
     let started = thread::Builder::new().spawn(move || serve(&admitted, stream, &from.to_string()));
     if let Err(e) = started {

@@ -58,8 +58,8 @@ fn run(options: Options) -> Result<(), String> {
     let host = Arc::new(Host::new(options));
     host.event(format_args!("listening at {at}"));
     let socket = status::start(&host)?;
-    listening::start(&host, listener);
-    dialling::start(&host);
+    listening::start(&host, listener).map_err(|e| e.to_string())?;
+    dialling::start(&host).map_err(|e| e.to_string())?;
     while !signals::ended() {
         thread::sleep(TICK);
         drop(host.tables().map_err(|e| e.to_string())?);

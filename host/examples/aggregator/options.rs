@@ -36,6 +36,7 @@ pub enum Asked {
 }
 
 /// What a run needs.
+#[derive(Default)]
 pub struct Options {
     pub name: String,
     pub listen: String,
@@ -51,20 +52,15 @@ pub struct Options {
 
 /// Reads the command line, or says what is wrong with it.
 pub fn read(arguments: impl Iterator<Item = OsString>) -> Result<Asked, String> {
-    let mut arguments = arguments
-        .map(text)
-        .collect::<Result<Vec<_>, _>>()?
-        .into_iter();
-    let mut options = Options {
-        name: String::new(),
-        listen: String::new(),
-        peers: Vec::new(),
-        status: None,
-        ask: None,
-        connections: 0,
-        verbose: false,
-        messages: false,
-    };
+    let arguments = arguments.map(text).collect::<Result<Vec<_>, _>>()?;
+    match arguments.as_slice() {
+        [option, path] if option == "--show" => Ok(Asked::Show(path.clone())),
+        _ => read_options(arguments.into_iter()),
+    }
+}
+
+fn read_options(mut arguments: impl Iterator<Item = String>) -> Result<Asked, String> {
+    let mut options = Options::default();
     let mut plain = Vec::new();
     while let Some(argument) = arguments.next() {
         let mut value = || {
@@ -73,7 +69,7 @@ pub fn read(arguments: impl Iterator<Item = OsString>) -> Result<Asked, String> 
         };
         match argument.as_str() {
             "--help" | "-h" => return Ok(Asked::Help),
-            "--show" => return Ok(Asked::Show(value()?)),
+            "--show" => return Err("--show needs a path, and nothing beside it".to_owned()),
             "--status" => options.status = Some(value()?),
             "--ask" => options.ask = Some(Duration::from_secs(count(&argument, &value()?)?)),
             "--connections" => options.connections = count(&argument, &value()?)?,
@@ -105,19 +101,16 @@ fn count(option: &str, text: &str) -> Result<u64, String> {
 fn set_names(options: &mut Options, plain: Vec<String>) -> Result<(), String> {
     let mut plain = plain.into_iter();
     options.name = plain.next().ok_or("our name is missing")?;
+    test_name(&options.name)?;
     options.listen = plain.next().ok_or("the address to listen at is missing")?;
-    address(&options.listen)?;
+    test_address(&options.listen)?;
     for peer in plain {
         let (name, at) = match peer.rsplit_once('@') {
             Some((name, at)) => (name.to_owned(), Some(at.to_owned())),
             None => (peer, None),
         };
-        at.as_deref().map_or(Ok(()), address)?;
-        // opening a session tests both names
-        Session::answerer(options.name.as_bytes(), name.as_bytes()).map_err(|_| {
-            let (ours, theirs) = (&options.name, &name);
-            format!("a name of {ours:?} and {theirs:?} isn't 1 to 32 printable characters")
-        })?;
+        test_name(&name)?;
+        at.as_deref().map_or(Ok(()), test_address)?;
         if name == options.name || options.peers.iter().any(|(other, _)| *other == name) {
             return Err(format!("the name {name} is there twice"));
         }
@@ -129,8 +122,18 @@ fn set_names(options: &mut Options, plain: Vec<String>) -> Result<(), String> {
     Ok(())
 }
 
+/// Whether a session can be opened with a name.
+fn test_name(text: &str) -> Result<(), String> {
+    match Session::answerer(text.as_bytes(), text.as_bytes()) {
+        Ok(_) => Ok(()),
+        Err(_) => Err(format!(
+            "{text:?} isn't a name: 1 to 32 printable characters, no space"
+        )),
+    }
+}
+
 /// Whether an address has a host and a port.
-fn address(text: &str) -> Result<(), String> {
+fn test_address(text: &str) -> Result<(), String> {
     let parts = text.rsplit_once(':');
     let right = parts.is_some_and(|(host, port)| !host.is_empty() && port.parse::<u16>().is_ok());
     right

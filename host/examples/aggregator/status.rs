@@ -31,7 +31,7 @@ pub fn start(host: &Arc<Host>) -> Result<Option<Path>, String> {
         return Ok(None);
     };
     let listener = bind(&path).map_err(|e| format!("can't listen at {path}: {e}"))?;
-    serve(Arc::clone(host), listener);
+    serve(Arc::clone(host), listener).map_err(|e| e.to_string())?;
     Ok(Some(Path(path)))
 }
 
@@ -46,13 +46,18 @@ fn bind(path: &str) -> io::Result<UnixListener> {
 }
 
 /// Starts the thread that accepts readers.
-fn serve(host: Arc<Host>, listener: UnixListener) {
-    thread::spawn(move || loop {
+fn serve(host: Arc<Host>, listener: UnixListener) -> io::Result<()> {
+    let accept = move || loop {
         match listener.accept() {
             Ok((reader, _)) => give(&host, reader),
-            Err(_) => thread::sleep(PAUSE),
+            Err(e) => {
+                host.fault(format_args!("a reader of the page wasn't accepted: {e}"));
+                thread::sleep(PAUSE);
+            }
         }
-    });
+    };
+    thread::Builder::new().spawn(accept)?;
+    Ok(())
 }
 
 /// Removes the socket of a run that ended without removing it, and no other file.
