@@ -8,6 +8,7 @@ use lib.IntN.{ℤ}
 use Rattle.wire.specs.Integer.{encodeInt}
 use Rattle.wire.specs.Number.{encodeNumber}
 use Rattle.wire.specs.Server.{serverWord}
+use Rattle.frame.specs.Frame.{stickTableClass}
 use Rattle.store.specs.declared.Table.{Table}
 use Rattle.store.specs.declared.Entry.{Entry}
 use Rattle.store.specs.Limits.{keyKind, isString, present, slotTypes, rateTypes}
@@ -16,7 +17,7 @@ use Rattle.body.specs.declared.update.Form.{Form}
 
 -- "Class 10 continues with the encoded body length, .. then the body"
 unfoldable pub messageBytes : ℕ → List ℕ → List ℕ
-messageBytes type body = 0x0A ∷ type ∷ encodeInt (length body) ++ body
+messageBytes type body = stickTableClass ∷ type ∷ encodeInt (length body) ++ body
 
 -- the position in its message at which this body starts: behind class, type and encoded body length
 unfoldable pub bodyStart : List ℕ → ℕ

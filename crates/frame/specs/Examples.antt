@@ -1,4 +1,4 @@
--- The frame at document 01's cases on each side.
+-- The frame at its limits. The cases of document 01's table P are in `worked_cases`.
 use mathlib.Core.Path.{_≡_, refl}
 use mathlib.Core.List.{[], _∷_}
 use lib.ListN.{replicate}
@@ -6,28 +6,15 @@ use Rattle.wire.specs.Integer.{readInt, readFirst, withLater, laterBytes, befor
 use Rattle.frame.specs.declared.Frame.the-variants as frame
 use Rattle.frame.specs.Frame.{headerOf, withHeader, withLength, judgeFrame}
 
--- "`00 05` is 20"
-unknown-type : judgeFrame (0x00 ∷ 0x05 ∷ []) ≡ frame.Refused 20
-unfolding judgeFrame withHeader headerOf
-unknown-type = refl
-
 -- one byte decides nothing
 one-byte : judgeFrame (0x07 ∷ []) ≡ frame.Waiting
 unfolding judgeFrame
 one-byte = refl
 
--- "length `F0 31` (1,024) is taken, `F1 31` is 22"
-longest : judgeFrame (0x0A ∷ 0x80 ∷ 0xF0 ∷ 0x31 ∷ []) ≡ frame.Waiting
+-- where the longest body lies
+longest : judgeFrame (0x0A ∷ 0x80 ∷ 0xF0 ∷ 0x31 ∷ replicate 1024 7) ≡ frame.Body 0x80 4 1028
 unfolding judgeFrame withHeader headerOf withLength readInt readFirst withLater laterBytes before weighted fitting
 longest = refl
-
-longest-whole : judgeFrame (0x0A ∷ 0x80 ∷ 0xF0 ∷ 0x31 ∷ replicate 1024 7) ≡ frame.Body 0x80 4 1028
-unfolding judgeFrame withHeader headerOf withLength readInt readFirst withLater laterBytes before weighted fitting
-longest-whole = refl
-
-too-long : judgeFrame (0x0A ∷ 0x80 ∷ 0xF1 ∷ 0x31 ∷ []) ≡ frame.Refused 22
-unfolding judgeFrame withHeader headerOf withLength readInt readFirst withLater laterBytes before weighted fitting
-too-long = refl
 
 -- a body of no bytes is whole at the length's last byte
 empty-body : judgeFrame (0x0A ∷ 0x80 ∷ 0x00 ∷ []) ≡ frame.Body 0x80 3 3

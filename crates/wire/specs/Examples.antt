@@ -1,4 +1,4 @@
--- The definitions at document 01's cases on each side.
+-- The definitions at limits, at positions, and where the bytes end.
 use Prim.Native.Nat.{_-_, _^_}
 use mathlib.Core.Path.{_≡_, refl}
 use mathlib.Core.List.{[], _∷_}
@@ -6,58 +6,20 @@ use lib.IntN.{pos, negsuc}
 use Rattle.wire.specs.declared.Int.the-variants as int
 use Rattle.wire.specs.declared.fixed.FourBytes.the-variants as number
 use Rattle.wire.specs.declared.values.Signed.the-variants as signed
-use Rattle.wire.specs.declared.values.ServerId.the-variants as server
-use Rattle.wire.specs.Integer.{encodeInt, encodeRest, readInt, readFirst, withLater, laterBytes, before, weighted, fitting}
+use Rattle.wire.specs.Integer.{readInt, readFirst, withLater, laterBytes, before, weighted, fitting}
 use Rattle.wire.specs.Number.{readNumber, numberOf, encodeNumber}
-use Rattle.wire.specs.Server.{serverWord, serverIdOf, readServerId, serverOf, serverBefore}
+use Rattle.wire.specs.Server.{serverWord, serverIdOf}
 
--- ---- "239 is EF; 240 F0 00; 2287 FF 7F; 2288 F0 80 00; 4660 F4 94 01; 60000 F0 97 1C."
-one-byte : encodeInt 239 ≡ 0xEF ∷ []
-unfolding encodeInt encodeRest
-one-byte = refl
-
-two-bytes : encodeInt 240 ≡ 0xF0 ∷ 0x00 ∷ []
-unfolding encodeInt encodeRest
-two-bytes = refl
-
-last-of-two : encodeInt 2287 ≡ 0xFF ∷ 0x7F ∷ []
-unfolding encodeInt encodeRest
-last-of-two = refl
-
-three-bytes : encodeInt 2288 ≡ 0xF0 ∷ 0x80 ∷ 0x00 ∷ []
-unfolding encodeInt encodeRest
-three-bytes = refl
-
-value-4660 : encodeInt 4660 ≡ 0xF4 ∷ 0x94 ∷ 0x01 ∷ []
-unfolding encodeInt encodeRest
-value-4660 = refl
-
-value-60000 : encodeInt 60000 ≡ 0xF0 ∷ 0x97 ∷ 0x1C ∷ []
-unfolding encodeInt encodeRest
-value-60000 = refl
-
+-- ---- an integer in the midst of bytes; the cases of document 01's table P are in `worked_cases`
 read-4660 : readInt (0x07 ∷ 0xF4 ∷ 0x94 ∷ 0x01 ∷ 0x09 ∷ []) 1 ≡ int.Value 4660 4
 unfolding readInt readFirst withLater laterBytes before weighted fitting
 read-4660 = refl
 
--- ---- "2^64 - 1 and server ID -1 are FF F0 FE FE FE FE FE FE FE 0E; F0 F1 FE FE FE FE FE FE FE 0E overflows."
-largest : encodeInt (2 ^ 64 - 1) ≡ 0xFF ∷ 0xF0 ∷ 0xFE ∷ 0xFE ∷ 0xFE ∷ 0xFE ∷ 0xFE ∷ 0xFE ∷ 0xFE ∷ 0x0E ∷ []
-unfolding encodeInt encodeRest
-largest = refl
-
-read-largest : readInt (0xFF ∷ 0xF0 ∷ 0xFE ∷ 0xFE ∷ 0xFE ∷ 0xFE ∷ 0xFE ∷ 0xFE ∷ 0xFE ∷ 0x0E ∷ []) 0 ≡ int.Value (2 ^ 64 - 1) 10
-unfolding readInt readFirst withLater laterBytes before weighted fitting
-read-largest = refl
-
-minus-one : readServerId (0xFF ∷ 0xF0 ∷ 0xFE ∷ 0xFE ∷ 0xFE ∷ 0xFE ∷ 0xFE ∷ 0xFE ∷ 0xFE ∷ 0x0E ∷ []) 0 ≡ server.Id (negsuc 0) 10
-unfolding readServerId serverOf serverBefore serverIdOf readInt readFirst withLater laterBytes before weighted fitting
-minus-one = refl
-
+-- ---- "A value over 2^64 - 1, or a tenth byte of 128 or more, is an overflow", and how many bytes were looked at (request 10)
 over : readInt (0xF0 ∷ 0xF1 ∷ 0xFE ∷ 0xFE ∷ 0xFE ∷ 0xFE ∷ 0xFE ∷ 0xFE ∷ 0xFE ∷ 0x0E ∷ []) 0 ≡ int.Overflow 10
 unfolding readInt readFirst withLater laterBytes before weighted fitting
 over = refl
 
--- ---- "A value over 2^64 - 1, or a tenth byte of 128 or more, is an overflow", and how many bytes were looked at (request 10)
 tenth-over : readInt (0xF0 ∷ 0x80 ∷ 0x80 ∷ 0x80 ∷ 0x80 ∷ 0x80 ∷ 0x80 ∷ 0x80 ∷ 0x80 ∷ 0x80 ∷ []) 0 ≡ int.Overflow 10
 unfolding readInt readFirst withLater laterBytes before weighted fitting
 tenth-over = refl
@@ -106,10 +68,6 @@ below-least = refl
 word-least : serverWord (negsuc (2 ^ 31 - 1)) ≡ 2 ^ 64 - 2 ^ 31
 unfolding serverWord
 word-least = refl
-
-word-minus-one : encodeInt (serverWord (negsuc 0)) ≡ 0xFF ∷ 0xF0 ∷ 0xFE ∷ 0xFE ∷ 0xFE ∷ 0xFE ∷ 0xFE ∷ 0xFE ∷ 0xFE ∷ 0x0E ∷ []
-unfolding serverWord encodeInt encodeRest
-word-minus-one = refl
 
 -- ---- a 4-byte number, both ways
 number-bytes : encodeNumber 0x01020304 ≡ 1 ∷ 2 ∷ 3 ∷ 4 ∷ []

@@ -12,6 +12,7 @@ use Rattle.wire.specs.declared.values.ServerId.{ServerId}
 use Rattle.wire.specs.declared.values.ServerId.the-variants as server
 use Rattle.wire.specs.Integer.{encodeInt, readInt}
 use Rattle.wire.specs.Server.{serverWord, readServerId}
+use Rattle.handshake.specs.Bytes.{ascii}
 use Rattle.store.specs.Store.{emptyStore}
 use Rattle.session.specs.declared.Answer.{Answer}
 use Rattle.session.specs.Answers.{answerNumber}
@@ -27,18 +28,14 @@ pub data Case : Type 0 where
   serverId : ℤ → List ℕ → Case
   stream : List ℕ → List ℕ → List ℕ → Case
 
--- "HAProxyS 2.1", "east" and "west 7 0", each with LF
 unfoldable pub hello : List ℕ
-hello =
-    72 ∷ 65 ∷ 80 ∷ 114 ∷ 111 ∷ 120 ∷ 121 ∷ 83 ∷ 32 ∷ 50 ∷ 46 ∷ 49 ∷ 10
-    ∷ 101 ∷ 97 ∷ 115 ∷ 116 ∷ 10
-    ∷ 119 ∷ 101 ∷ 115 ∷ 116 ∷ 32 ∷ 55 ∷ 32 ∷ 48 ∷ 10 ∷ []
+hello = ascii "HAProxyS 2.1\neast\nwest 7 0\n"
 
 unfoldable pub east : List ℕ
-east = 101 ∷ 97 ∷ 115 ∷ 116 ∷ []
+east = ascii "east"
 
 unfoldable pub west : List ℕ
-west = 119 ∷ 101 ∷ 115 ∷ 116 ∷ []
+west = ascii "west"
 
 -- the byte model of a new session as answerer `east`, accepting `west`, with an empty store, fed the hello and then these bytes
 unfoldable pub afterHello : List ℕ → List (Ended Answer)
@@ -78,9 +75,8 @@ holds (stream bytes numbers reply) =
     eqBytes (map (λ (e : Ended Answer). answerNumber (e .answer)) (afterHello bytes)) numbers
     && eqBytes (lastReply (afterHello bytes)) reply
 
--- the replies `200` LF, `01 00` and `01 01`
 abbrev accepted : List ℕ
-accepted = 50 ∷ 48 ∷ 48 ∷ 10 ∷ []
+accepted = ascii "200\n"
 
 abbrev protocolError : List ℕ
 protocolError = 0x01 ∷ 0x00 ∷ []
