@@ -23,7 +23,7 @@ use Rattle.store.specs.Limits.{slotTypes, present}
 use Rattle.store.specs.Shape.{Cells, EntryShape}
 use Rattle.store.specs.Sound.{soundEntry, entryKeyLengthOk, valuesOk}
 use Rattle.store.specs.Store.{entryHeld, timeLeft, makeEntry, withEntries, putEntry, noTable, noEntry}
-use Rattle.store.proofs.Facts.{TableFacts, EntryFacts, facts-entry, key-most}
+use Rattle.store.proofs.Facts.{TableFacts, EntryFacts, facts-entry}
 use Rattle.store.proofs.Ruled.{made-key}
 use Rattle.session.specs.declared.Session.{Session}
 use Rattle.session.specs.declared.Commit.{Commit}
@@ -34,7 +34,6 @@ use Rattle.body.specs.Fields.{got, spanIn}
 use Rattle.body.specs.declared.update.Form.{Form}
 use Rattle.body.specs.Bodies.{Update, updateFields, timeMark, formOf}
 use Rattle.body.specs.Encodings.{messageBytes, entryBytes, numberIf, updateBytes, entryStart, serverStart, slotStart}
-use Rattle.body.proofs.Spans.{span-length}
 use Rattle.body.proofs.Within.{UpdateWithin, UpdateRead, update-within}
 use Rattle.body.proofs.UpdateEncoding.{EntryRead, update-encoded, if-length, entry-start, slot-there, server-there}
 use Rattle.body.proofs.OneEncoding.{Fitting, SameFields, update-once, type-once, body-once}
@@ -44,9 +43,10 @@ use Rattle.receiver.specs.Model.{State}
 use Rattle.receiver.specs.Promise.{Made, ReadPromise, callOf}
 use Rattle.receiver.specs.Corollaries.{messageOf, fieldsOf}
 use Rattle.message_bytes.specs.MessageBytes.{tableAt, entryAt, timeStart, serverIdStart, integerStart, UpdateMessage, BytesOfUpdate, SameUpdate, OneReading}
+use Rattle.receiver.proofs.KeyPlaces.{key-short}
 use Rattle.receiver.proofs.SettledLaws.{Updated, updated}
 use Rattle.receiver.proofs.Ways.{Way, Judging, staying, waiting-on, judging, ways, answer-is}
-use Rattle.receiver.proofs.Acknowledging.{put-here, put-tables, judged, held, bytes}
+use Rattle.receiver.proofs.Acknowledging.{put-here, put-tables, judged, held, bytes, current-facts}
 use Rattle.message_bytes.proofs.WholeMessage.{StickTable, body-is, message-is, body-most, body-behind, kept, message-ends}
 
 -- ---- the fields of each form
@@ -123,14 +123,6 @@ module _ (form : Form) (t : Table) (following table : ℕ) (body : List ℕ) (u 
   abbrev made : Entry
   made = makeEntry table key (u .server) (u .time .timed) (u .time .remaining) (u .values)
 
-  key-ok : entryKeyLengthOk t made ≡ true
-  unfolding makeEntry entryKeyLengthOk
-  key-ok = rw (span-length body (u .key) (w .keyEnd)) (w .keyLength)
-
-  key-short : length key ≤ 64
-  unfolding makeEntry
-  key-short = key-most t made f key-ok
-
   made-mark : updatedEntry body table u .timed ≡ timeMark form t
   unfolding updatedEntry makeEntry
   made-mark = r .mark
@@ -148,7 +140,7 @@ module _ (form : Form) (t : Table) (following table : ℕ) (body : List ℕ) (u 
   unfolding updatedEntry makeEntry
   entry-read = record {
     remaining = own-time;
-    key = made-key table key (u .server) (u .time .timed) (u .time .remaining) (u .values) key-short;
+    key = made-key table key (u .server) (u .time .timed) (u .time .remaining) (u .values) (key-short t table body u f w);
     server = refl;
     values = refl;
   }
@@ -168,7 +160,7 @@ module _ (s : Session) (t : Store) (m : Made) (p : ReadPromise s t m) (e : Effec
   abbrev now : Table
   now = getD (t .tables) table noTable
 
-  x : Updated (s .connection) t u table id place e
+  x : Updated (s .connection) t u table id place how e
   x = updated (s .connection) t u table id place how e (judged s t m p e j) a
 
   last : x .end ≡ length u
@@ -181,11 +173,7 @@ module _ (s : Session) (t : Store) (m : Made) (p : ReadPromise s t m) (e : Effec
   same-body = body-is u (bytes s t m p e j) (x .kind) (x .start) (x .end) (x .framed) last
 
   facts : TableFacts now
-  facts =
-      let h = held s t m p e j in
-      let l = h .connection .currentLimit in
-      let n : table < length (t .tables) = omega (arith, x .current, h .storeShape .tables) in
-      h .store .table table n (h .connection .currentHeld table (x .current))
+  facts = current-facts s t m p e j table (x .current)
 
   are : FieldsAre (x .form) (bindingAt (s .connection) table .previous) id now body (x .fields)
   are =
