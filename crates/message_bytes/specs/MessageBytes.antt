@@ -21,7 +21,7 @@ use Rattle.store.specs.declared.Store.{Store}
 use Rattle.store.specs.Limits.{valueCount, rateCount, slotTypes, rateTypes, present}
 use Rattle.store.specs.Shape.{Cells, TableShape, EntryShape}
 use Rattle.store.specs.Sound.{soundTable, soundEntry, entryKeyLengthOk, keyRestZero, valuesOk}
-use Rattle.store.specs.Store.{tableHeld, entryHeld, nameOf, keyOf, timeLeft, noTable, noEntry}
+use Rattle.store.specs.Store.{tableHeld, entryHeld, nameOf, keyOf, findEntry, freeEntry, timeLeft, noTable, noEntry}
 use Rattle.session.specs.declared.Session.{Session}
 use Rattle.session.specs.declared.Commit.{Commit}
 use Rattle.session.specs.declared.Answer.the-variants as answer
@@ -30,7 +30,7 @@ use Rattle.body.specs.declared.update.Form.{Form}
 use Rattle.body.specs.Bodies.{timeMark, formOf}
 use Rattle.body.specs.Encodings.{messageBytes, bodyStart, updateBytes, entryStart, serverStart, slotStart, definitionBytes}
 use Rattle.receiver.specs.Promise.{Made, ReadPromise}
-use Rattle.receiver.specs.Corollaries.{messageOf, TableWent}
+use Rattle.receiver.specs.Corollaries.{messageOf, EntryWent, TableWent}
 
 -- The table and the entry that a call left at a place.
 abbrev pub tableAt : Made → ℕ → Table
@@ -121,6 +121,17 @@ abbrev pub OneReading : Type 0
 OneReading =
     (s : Session) (m : Made) (t : Table) (table id : ℕ) (e : Entry) (table′ id′ : ℕ) (f : Entry) → UpdateMessage s m table id t e
     → UpdateMessage s m table′ id′ t f → SameUpdate table id e table′ id′ f
+
+-- "A known table and key has its values replaced. Otherwise the entry takes the lowest free place.": how the entry e of this table came to this
+-- place, in the store that the call got.
+abbrev pub EntryPlaced : Store → (table : ℕ) → Entry → Commit → (place : ℕ) → Type 0
+EntryPlaced before table e how place = EntryWent how place (findEntry before table (keyOf e)) (freeEntry before)
+
+-- Every call that answered an update, on any record and store.
+abbrev pub PlaceOfUpdate : Type 0
+PlaceOfUpdate =
+    (s : Session) (t : Store) (m : Made) (table id place : ℕ) (how : Commit) → ReadPromise s t m
+    → m .outcome .answer ≡ answer.Update table id place how → EntryPlaced t table (entryAt m place) how place
 
 -- ---- definition
 

@@ -453,6 +453,7 @@ module _ (s : Session) (t : Store) (cs : List Called) (place : ℕ) (c : Chain s
       last = none-updates (u .call .session) (u .call .store) place (u .after) after-chain (u .last);
       since = same-since (u .after) (entryAt (u .call) place) (u .since);
       message = message-is;
+      placed = rw (same-store t (u .before)) (u .placed);
       earlier = u .earlier;
       stood = stood-is;
     }

@@ -38,7 +38,7 @@ use Rattle.receiver.specs.Promise.{Made, Shaped}
 use Rattle.receiver.specs.Ledger.{isAcknowledgement}
 use Rattle.receiver.specs.Demand3.{modelRan}
 use Rattle.receiver.specs.Corollaries.{fieldsOf, EntryWent, closes, TestedInOrder, OffsetGiven, RefusedPassUntouched, PassedRecordsSound}
-use Rattle.message_bytes.specs.MessageBytes.{UpdateMessage, TableDefined}
+use Rattle.message_bytes.specs.MessageBytes.{UpdateMessage, EntryPlaced, TableDefined}
 use Rattle.message_bytes.specs.LastUpdates.{Since}
 use Rattle.peers.specs.declared.numbers.RawOpened.{RawOpened}
 use Rattle.peers.specs.Numbers.{rawOpened}
@@ -215,6 +215,8 @@ pub record RawLastUpdate (s : Session) (t : Store) (calls : List RawCalled) (pla
   -- with the record that this call got, and the table that it left
   pub message : UpdateMessage (rawLastSession s before) (answering (answer.Update table id place how) call) table id
       (getD (call .store .tables) table noTable) (getD (call .store .entries) place noEntry)
+  -- how its entry came to the place, in the store that this call got
+  pub placed : EntryPlaced (rawLastStore t before) table (getD (call .store .entries) place noEntry) how place
   -- where it stood: among the bytes unfinished at the start and then all bytes that the calls took, behind these
   pub earlier : List ℕ
   pub stood : unfinished s ++ bytesIn (rawTaken calls) ≡ earlier ++ (rawMessage (rawLastSession s before) call ++ bytesIn (rawTaken after))
