@@ -32,7 +32,7 @@ use Rattle.receiver.proofs.Acknowledging.{others-untouched}
 use Rattle.message_bytes.specs.MessageBytes.{tableAt, UpdateMessage}
 use Rattle.message_bytes.specs.LastUpdates.{lastEntry, NoneUpdates, passing, NonePasses, Since, same, NeverUpdated, LastUpdate, BytesOfEveryEntry}
 use Rattle.message_bytes.proofs.Aging.{passed-since}
-use Rattle.message_bytes.proofs.UpdateMessages.{bytes-of-update, updated-elsewhere}
+use Rattle.message_bytes.proofs.UpdateMessages.{bytes-of-update, place-of-update, updated-elsewhere}
 use Rattle.message_bytes.proofs.DefinitionMessages.{bytes-of-definition}
 
 -- ---- what an answer is
@@ -169,6 +169,7 @@ later s t m calls place p u =
       last = u .last;
       since = u .since;
       message = u .message;
+      placed = u .placed;
       earlier = c .0 ++ u .earlier;
       stood =
           ap (λ (l : List ℕ). unfinished s ++ l) (taken-in m calls)
@@ -193,6 +194,7 @@ later-passed s t p calls place u = record {
   last = u .last;
   since = u .since;
   message = u .message;
+  placed = u .placed;
   earlier = u .earlier;
   stood = ap (λ (l : List ℕ). unfinished s ++ l) (passed-in p calls) ∙ u .stood;
 }
@@ -217,6 +219,7 @@ first s t m calls place p n =
       last = n .none;
       since = n .since;
       message = bytes-of-update s t m (c .0) (c .1 .0) place (c .1 .1 .0) p a;
+      placed = place-of-update s t m (c .0) (c .1 .0) place (c .1 .1 .0) p a;
       earlier = [];
       stood =
           ap (λ (l : List ℕ). unfinished s ++ l) (taken-in m calls)

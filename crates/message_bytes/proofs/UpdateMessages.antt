@@ -22,8 +22,8 @@ use Rattle.store.specs.declared.Store.{Store}
 use Rattle.store.specs.Limits.{slotTypes, present}
 use Rattle.store.specs.Shape.{Cells, EntryShape}
 use Rattle.store.specs.Sound.{soundEntry, entryKeyLengthOk, valuesOk}
-use Rattle.store.specs.Store.{entryHeld, timeLeft, makeEntry, withEntries, putEntry, noTable, noEntry}
-use Rattle.store.proofs.Facts.{TableFacts, EntryFacts, facts-entry, key-most}
+use Rattle.store.specs.Store.{entryHeld, keyOf, findEntry, freeEntry, timeLeft, makeEntry, withEntries, putEntry, noTable, noEntry}
+use Rattle.store.proofs.Facts.{TableFacts, EntryFacts, facts-entry}
 use Rattle.store.proofs.Ruled.{made-key}
 use Rattle.session.specs.declared.Session.{Session}
 use Rattle.session.specs.declared.Commit.{Commit}
@@ -34,7 +34,6 @@ use Rattle.body.specs.Fields.{got, spanIn}
 use Rattle.body.specs.declared.update.Form.{Form}
 use Rattle.body.specs.Bodies.{Update, updateFields, timeMark, formOf}
 use Rattle.body.specs.Encodings.{messageBytes, entryBytes, numberIf, updateBytes, entryStart, serverStart, slotStart}
-use Rattle.body.proofs.Spans.{span-length}
 use Rattle.body.proofs.Within.{UpdateWithin, UpdateRead, update-within}
 use Rattle.body.proofs.UpdateEncoding.{EntryRead, update-encoded, if-length, entry-start, slot-there, server-there}
 use Rattle.body.proofs.OneEncoding.{Fitting, SameFields, update-once, type-once, body-once}
@@ -42,11 +41,13 @@ use Rattle.message.specs.Effects.{Effect, updatedEntry, followingId}
 use Rattle.streams.specs.Calls.{Call}
 use Rattle.receiver.specs.Model.{State}
 use Rattle.receiver.specs.Promise.{Made, ReadPromise, callOf}
-use Rattle.receiver.specs.Corollaries.{messageOf, fieldsOf}
-use Rattle.message_bytes.specs.MessageBytes.{tableAt, entryAt, timeStart, serverIdStart, integerStart, UpdateMessage, BytesOfUpdate, SameUpdate, OneReading}
+use Rattle.receiver.specs.Corollaries.{messageOf, fieldsOf, EntryWent}
+use Rattle.message_bytes.specs.MessageBytes.{tableAt, entryAt, timeStart, serverIdStart, integerStart, UpdateMessage, BytesOfUpdate, SameUpdate, OneReading, EntryPlaced, PlaceOfUpdate}
+use Rattle.receiver.proofs.EffectKinds.{Went}
+use Rattle.receiver.proofs.KeyPlaces.{key-short, went-by-key}
 use Rattle.receiver.proofs.SettledLaws.{Updated, updated}
 use Rattle.receiver.proofs.Ways.{Way, Judging, staying, waiting-on, judging, ways, answer-is}
-use Rattle.receiver.proofs.Acknowledging.{put-here, put-tables, judged, held, bytes}
+use Rattle.receiver.proofs.Acknowledging.{put-here, put-tables, judged, held, bytes, current-facts}
 use Rattle.message_bytes.proofs.WholeMessage.{StickTable, body-is, message-is, body-most, body-behind, kept, message-ends}
 
 -- ---- the fields of each form
@@ -123,14 +124,6 @@ module _ (form : Form) (t : Table) (following table : ℕ) (body : List ℕ) (u 
   abbrev made : Entry
   made = makeEntry table key (u .server) (u .time .timed) (u .time .remaining) (u .values)
 
-  key-ok : entryKeyLengthOk t made ≡ true
-  unfolding makeEntry entryKeyLengthOk
-  key-ok = rw (span-length body (u .key) (w .keyEnd)) (w .keyLength)
-
-  key-short : length key ≤ 64
-  unfolding makeEntry
-  key-short = key-most t made f key-ok
-
   made-mark : updatedEntry body table u .timed ≡ timeMark form t
   unfolding updatedEntry makeEntry
   made-mark = r .mark
@@ -148,7 +141,7 @@ module _ (form : Form) (t : Table) (following table : ℕ) (body : List ℕ) (u 
   unfolding updatedEntry makeEntry
   entry-read = record {
     remaining = own-time;
-    key = made-key table key (u .server) (u .time .timed) (u .time .remaining) (u .values) key-short;
+    key = made-key table key (u .server) (u .time .timed) (u .time .remaining) (u .values) (key-short t table body u f w);
     server = refl;
     values = refl;
   }
@@ -168,7 +161,7 @@ module _ (s : Session) (t : Store) (m : Made) (p : ReadPromise s t m) (e : Effec
   abbrev now : Table
   now = getD (t .tables) table noTable
 
-  x : Updated (s .connection) t u table id place e
+  x : Updated (s .connection) t u table id place how e
   x = updated (s .connection) t u table id place how e (judged s t m p e j) a
 
   last : x .end ≡ length u
@@ -181,11 +174,7 @@ module _ (s : Session) (t : Store) (m : Made) (p : ReadPromise s t m) (e : Effec
   same-body = body-is u (bytes s t m p e j) (x .kind) (x .start) (x .end) (x .framed) last
 
   facts : TableFacts now
-  facts =
-      let h = held s t m p e j in
-      let l = h .connection .currentLimit in
-      let n : table < length (t .tables) = omega (arith, x .current, h .storeShape .tables) in
-      h .store .table table n (h .connection .currentHeld table (x .current))
+  facts = current-facts s t m p e j table (x .current)
 
   are : FieldsAre (x .form) (bindingAt (s .connection) table .previous) id now body (x .fields)
   are =
@@ -227,6 +216,15 @@ module _ (s : Session) (t : Store) (m : Made) (p : ReadPromise s t m) (e : Effec
   new-shape =
       let k = kept s t m p e j .storeShape in
       subst EntryShape entry-is (k .entry place (omega (arith, there, k .entries)))
+
+  placed-there : EntryPlaced t table (entryAt m place) how place
+  placed-there =
+      let following = followingId (bindingAt (s .connection) table .previous) in
+      let r = entry-read (x .form) now following table body (x .fields) facts (are .read) in
+      let short = key-short now table body (x .fields) facts (are .read .within) in
+      subst (λ (k : List ℕ). EntryWent how place (findEntry t table k) (freeEntry t)) (sym (ap keyOf entry-is ∙ r .key))
+      (went-by-key t table body (x .fields) place how short
+      (subst (λ (l : List ℕ). Went t (updatedEntry l table (x .fields)) place how) same-body (x .went)))
 
   owner-is : getD (m .store .tables) (new .table) noTable ≡ now
   owner-is = ap (λ (n : ℕ). getD (m .store .tables) n noTable) (entry-owner table body (x .fields) .1) ∙ table-is
@@ -286,6 +284,20 @@ by-way s t m table id place how p h (judging e j) =
 
 pub bytes-of-update : BytesOfUpdate
 bytes-of-update s t m table id place how p h = by-way s t m table id place how p h (ways s t m p)
+
+-- ---- why the entry is at its place
+
+placed-by : (s : Session) (t : Store) (m : Made) (table id place : ℕ) (how : Commit) → ReadPromise s t m → m .outcome .answer ≡ answer.Update table id place how
+    → Way s t (m .piece) (callOf s t (m .piece) (length (m .room))) → EntryPlaced t table (entryAt m place) how place
+placed-by s t m table id place how p h (staying n k q) =
+    absurd (let r = sym (ap (λ (x : Call State Answer). x .answer) q) ∙ (sym (answer-is s t m p) ∙ h) in let z : _≡_ {A = ℕ} 0 1 = cc in omega arith)
+placed-by s t m table id place how p h (waiting-on w) =
+    absurd (let r = sym (w .answer) ∙ (sym (answer-is s t m p) ∙ h) in let z : _≡_ {A = ℕ} 0 1 = cc in omega arith)
+placed-by s t m table id place how p h (judging e j) =
+    placed-there s t m p e j table id place how (sym (j .answer) ∙ (sym (answer-is s t m p) ∙ h))
+
+pub place-of-update : PlaceOfUpdate
+place-of-update s t m table id place how p h = placed-by s t m table id place how p h (ways s t m p)
 
 -- ---- the other places
 

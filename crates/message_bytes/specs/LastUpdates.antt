@@ -19,7 +19,7 @@ use Rattle.streams.specs.Model.{bytesIn}
 use Rattle.receiver.specs.Promise.{Made}
 use Rattle.receiver.specs.Demand3.{Called, reads, passes, Chain, takenBy, lastSession, lastStore}
 use Rattle.receiver.specs.Corollaries.{messageOf}
-use Rattle.message_bytes.specs.MessageBytes.{tableAt, entryAt, UpdateMessage}
+use Rattle.message_bytes.specs.MessageBytes.{tableAt, entryAt, UpdateMessage, EntryPlaced}
 
 -- the entry at a place of the store that the calls left
 abbrev pub lastEntry : Store → List Called → ℕ → Entry
@@ -89,6 +89,8 @@ pub record LastUpdate (s : Session) (t : Store) (calls : List Called) (place : �
   pub since : Since (passing after) (entryAt call place) (lastEntry t calls place)
   -- with the record that this call got, and the table that it left
   pub message : UpdateMessage (lastSession s before) call table id (tableAt call table) (entryAt call place)
+  -- how its entry came to the place, in the store that this call got
+  pub placed : EntryPlaced (lastStore t before) table (entryAt call place) how place
   -- where it stood: among the bytes unfinished at the start and then all bytes that the calls took, behind these
   pub earlier : List ℕ
   pub stood : unfinished s ++ bytesIn (takenBy calls) ≡ earlier ++ (messageOf (lastSession s before) call ++ bytesIn (takenBy after))

@@ -21,16 +21,16 @@ use Rattle.store.specs.declared.Store.{Store}
 use Rattle.store.specs.Limits.{valueCount, rateCount, slotTypes, rateTypes, present}
 use Rattle.store.specs.Shape.{Cells, TableShape, EntryShape}
 use Rattle.store.specs.Sound.{soundTable, soundEntry, entryKeyLengthOk, keyRestZero, valuesOk}
-use Rattle.store.specs.Store.{tableHeld, entryHeld, nameOf, keyOf, timeLeft, noTable, noEntry}
+use Rattle.store.specs.Store.{tableHeld, entryHeld, nameOf, keyOf, findEntry, freeEntry, timeLeft, noTable, noEntry}
 use Rattle.session.specs.declared.Session.{Session}
 use Rattle.session.specs.declared.Commit.{Commit}
 use Rattle.session.specs.declared.Answer.the-variants as answer
-use Rattle.session.specs.Session.{bindingAt, isBound, isUpdated}
+use Rattle.session.specs.Session.{bindingAt, isBound, isUpdated, boundTo, unbind, bind, holding}
 use Rattle.body.specs.declared.update.Form.{Form}
 use Rattle.body.specs.Bodies.{timeMark, formOf}
 use Rattle.body.specs.Encodings.{messageBytes, bodyStart, updateBytes, entryStart, serverStart, slotStart, definitionBytes}
 use Rattle.receiver.specs.Promise.{Made, ReadPromise}
-use Rattle.receiver.specs.Corollaries.{messageOf}
+use Rattle.receiver.specs.Corollaries.{messageOf, EntryWent, TableWent}
 
 -- The table and the entry that a call left at a place.
 abbrev pub tableAt : Made → ℕ → Table
@@ -122,11 +122,22 @@ OneReading =
     (s : Session) (m : Made) (t : Table) (table id : ℕ) (e : Entry) (table′ id′ : ℕ) (f : Entry) → UpdateMessage s m table id t e
     → UpdateMessage s m table′ id′ t f → SameUpdate table id e table′ id′ f
 
+-- "A known table and key has its values replaced. Otherwise the entry takes the lowest free place.": how the entry e of this table came to this
+-- place, in the store that the call got.
+abbrev pub EntryPlaced : Store → (table : ℕ) → Entry → Commit → (place : ℕ) → Type 0
+EntryPlaced before table e how place = EntryWent how place (findEntry before table (keyOf e)) (freeEntry before)
+
+-- Every call that answered an update, on any record and store.
+abbrev pub PlaceOfUpdate : Type 0
+PlaceOfUpdate =
+    (s : Session) (t : Store) (m : Made) (table id place : ℕ) (how : Commit) → ReadPromise s t m
+    → m .outcome .answer ≡ answer.Update table id place how → EntryPlaced t table (entryAt m place) how place
+
 -- ---- definition
 
--- The message that a call ended is a definition of table t, at the place `place`, with this ID: class 10, type 130, the encoded body
--- length, and a body of the encoded fields and then of bytes that are ignored. The call came with the store `before`.
-pub record DefinitionMessage (s : Session) (before : Store) (m : Made) (place id : ℕ) (t : Table) : Type 0 where
+-- The message that a call ended is a definition of table t with this ID: class 10, type 130, the encoded body length, and a body of the
+-- encoded fields and then of bytes that are ignored.
+pub record DefinitionMessage (s : Session) (m : Made) (id : ℕ) (t : Table) : Type 0 where
   pub body : List ℕ
   pub message : messageOf s m ≡ messageBytes definitionType body
   -- the position of the body in the message; "body over 1,024 bytes" is refused
@@ -145,18 +156,35 @@ pub record DefinitionMessage (s : Session) (before : Store) (m : Made) (place id
   pub no-times : t .timed ≡ 0 → (t .expiry ≡ 0) × (t .periods ≡ replicate rateCount 0)
   -- the period of a rate type that the table hasn't is 0
   pub no-period : (i : ℕ) → i < rateCount → present (t .«data_types») (getD rateTypes i 0) ≡ false → getD (t .periods) i 0 ≡ 0
+
+-- The message that a call ended is such a definition, and the call, which came with the store `before`, put the table at the place `place`.
+pub record TableDefined (s : Session) (before : Store) (m : Made) (place id : ℕ) (t : Table) : Type 0 where
+  pub message : DefinitionMessage s m id t
+  -- "A name not held takes the lowest free of 8 table places. A held name must agree in key type, key length and data types"
+  pub went : TableWent before (nameOf t) t place
+  -- every other table, the entries and the counts stay as they were
+  pub others : (i : ℕ) → (i ≡ place → ⊥) → tableAt m i ≡ getD (before .tables) i noTable
+  pub entries : m .store .entries ≡ before .entries
+  pub counts : m .store .counts ≡ before .counts
   -- "The ID is then this table's only one"
   pub bound : isBound (bindingAt (m .session .connection) place) ≡ true
   pub bound-id : bindingAt (m .session .connection) place .id ≡ id
-  -- the entries stay as they were
-  pub entries : m .store .entries ≡ before .entries
+  -- "another table that had it loses it"; one that hadn't stays as it was
+  pub lost : (i : ℕ) → (i ≡ place → ⊥) → boundTo id (bindingAt (s .connection) i) ≡ true
+      → bindingAt (m .session .connection) i ≡ unbind (bindingAt (s .connection) i)
+  pub kept : (i : ℕ) → (i ≡ place → ⊥) → boundTo id (bindingAt (s .connection) i) ≡ false
+      → bindingAt (m .session .connection) i ≡ bindingAt (s .connection) i
+  -- "and this table becomes current"
+  pub current : m .session .connection .current ≡ place + 1
+  -- the whole record: all else stays, and no byte is unfinished
+  pub session : m .session ≡ holding (s .sending) (bind (s .connection) place id) []
 
 -- Every call that answered a table, on any record and store, ended such a message of the ID and the table that it left at the answered
 -- place.
 abbrev pub BytesOfDefinition : Type 0
 BytesOfDefinition =
     (s : Session) (t : Store) (m : Made) (place : ℕ) → ReadPromise s t m → m .outcome .answer ≡ answer.Table place
-    → DefinitionMessage s t m place (bindingAt (m .session .connection) place .id) (tableAt m place)
+    → TableDefined s t m place (bindingAt (m .session .connection) place .id) (tableAt m place)
 
 -- What the bytes fix: the ID, and the table's name, key type, key length, data types, expiry and periods.
 pub record SameDefinition (number : ℕ) (t : Table) (number′ : ℕ) (u : Table) : Type 0 where
@@ -172,5 +200,5 @@ pub record SameDefinition (number : ℕ) (t : Table) (number′ : ℕ) (u : Tabl
 -- A message is a definition in one way only.
 abbrev pub OneDefinition : Type 0
 OneDefinition =
-    (s : Session) (before : Store) (m : Made) (place id : ℕ) (t : Table) (place′ id′ : ℕ) (u : Table) → DefinitionMessage s before m place id t
-    → DefinitionMessage s before m place′ id′ u → SameDefinition id t id′ u
+    (s : Session) (m : Made) (id : ℕ) (t : Table) (id′ : ℕ) (u : Table) → DefinitionMessage s m id t → DefinitionMessage s m id′ u
+    → SameDefinition id t id′ u

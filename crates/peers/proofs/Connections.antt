@@ -41,7 +41,7 @@ use Rattle.receiver.proofs.Offered.{spent, pass-promised, next-shaped}
 use Rattle.receiver.proofs.Ways.{ways}
 use Rattle.receiver.proofs.LedgerAlong.{acknowledged-next}
 use Rattle.receiver.proofs.Sharing.{refused-byte}
-use Rattle.message_bytes.specs.MessageBytes.{UpdateMessage}
+use Rattle.message_bytes.specs.MessageBytes.{UpdateMessage, EntryPlaced}
 use Rattle.message_bytes.specs.LastUpdates.{NonePasses, Since, same}
 use Rattle.message_bytes.proofs.Aging.{none-since, passed-since}
 use Rattle.message_bytes.proofs.LastUpdates.{carries}
@@ -379,6 +379,7 @@ record Updated (s : Session) (t : Store) (m : RawMade) (place : ℕ) : Type 0 wh
   pub told : ToldUpdate m table id place how
   pub message : UpdateMessage s (answering (answer.Update table id place how) m) table id (getD (m .store .tables) table noTable)
       (getD (m .store .entries) place noEntry)
+  pub placed : EntryPlaced t table (getD (m .store .entries) place noEntry) how place
 
 -- one call that didn't
 record NotUpdated (t : Store) (m : RawMade) (place : ℕ) : Type 0 where
@@ -392,7 +393,7 @@ the-one m call (b ∷ (d ∷ before)) after e = absurd (let l = ap length e in o
 
 module _ (s : Session) (t : Store) (m : RawMade) (p : RawPromise s t m) (place : ℕ) where
   updated : RawLastUpdate s t (rawReads m ∷ []) place → Updated s t m place
-  unfolding rawLastSession
+  unfolding rawLastSession rawLastStore
   updated u =
       let o = the-one m (u .call) (u .before) (u .after) (u .among) in
       record {
@@ -411,6 +412,10 @@ module _ (s : Session) (t : Store) (m : RawMade) (p : RawPromise s t m) (place :
             UpdateMessage (rawLastSession s before) (answering (answer.Update (u .table) (u .id) place (u .how)) (u .call)) (u .table) (u .id)
             (getD (u .call .store .tables) (u .table) noTable) (getD (u .call .store .entries) place noEntry))
             (o .0) (u .message));
+        placed =
+            subst (λ (x : RawMade). EntryPlaced t (u .table) (getD (x .store .entries) place noEntry) (u .how) place) (sym (o .1))
+            (subst (λ (before : List RawCalled). EntryPlaced (rawLastStore t before) (u .table) (getD (u .call .store .entries) place noEntry) (u .how) place)
+            (o .0) (u .placed));
       }
 
   not-updated : RawNeverUpdated t (rawReads m ∷ []) place → NotUpdated t m place
@@ -479,6 +484,7 @@ later records t p steps place k u =
       last = u .last;
       since = u .since;
       message = u .message;
+      placed = u .placed;
       earlier = at .0;
       stood = at .1;
     }
@@ -517,6 +523,7 @@ first records t (reads k m) steps place p n =
       last = n .none;
       since = n .since;
       message = u .message;
+      placed = u .placed;
       earlier = [];
       stood = own-bytes (records k) k m (callsOf k steps);
     }))

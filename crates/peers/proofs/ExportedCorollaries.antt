@@ -58,7 +58,7 @@ use Rattle.reading.proofs.counts.Answered.{other-counts}
 use Rattle.reading.proofs.counts.Promised.{read-counts}
 use Rattle.receiver.proofs.Sending.{sending-stays}
 use Rattle.message.specs.Targets.{keyedAs, goesTo}
-use Rattle.message_bytes.specs.MessageBytes.{UpdateMessage, DefinitionMessage, tableAt, entryAt}
+use Rattle.message_bytes.specs.MessageBytes.{UpdateMessage, TableDefined, tableAt, entryAt}
 use Rattle.message_bytes.specs.LastUpdates.{lastEntry, NoneUpdates, passing, Since, NeverUpdated, LastUpdate}
 use Rattle.message_bytes.proofs.LastUpdates.{bytes-of-every-entry}
 use Rattle.message_bytes.proofs.DefinitionMessages.{bytes-of-definition}
@@ -187,6 +187,7 @@ module _ (s : Session) (t : Store) (m : Made) where
     read = h .read;
     own-id = h .own-id;
     holds = h .holds;
+    went = h .went;
     others = h .others;
     tables = h .tables;
     counts = h .counts;
@@ -452,6 +453,7 @@ module _ (s : Session) (t : Store) (cs : List Called) (place : ℕ) (c : Chain s
       last = none-updates (u .call .session) (u .call .store) place (u .after) after-chain (u .last);
       since = same-since (u .after) (entryAt (u .call) place) (u .since);
       message = message-is;
+      placed = rw (same-store t (u .before)) (u .placed);
       earlier = u .earlier;
       stood = stood-is;
     }
@@ -498,8 +500,8 @@ module _ (s : Session) (t : Store) (m : Made) (place : ℕ) (a : m .outcome .ans
   defined p = record {
     place = place;
     told = told-table;
-    message =
-        subst (λ (x : Made). DefinitionMessage s t x place (bindingAt (m .session .connection) place .id) (tableAt m place)) table-answered
+    defined =
+        subst (λ (x : Made). TableDefined s t x place (bindingAt (m .session .connection) place .id) (tableAt m place)) table-answered
         (bytes-of-definition s t m place p a);
   }
 

@@ -27,7 +27,7 @@ use Rattle.receiver.specs.Model.{isByte, isTime}
 use Rattle.receiver.specs.Promise.{Shaped}
 use Rattle.receiver.specs.Ledger.{startLedger}
 use Rattle.receiver.specs.Demand3.{PassAsModel}
-use Rattle.message_bytes.specs.MessageBytes.{UpdateMessage}
+use Rattle.message_bytes.specs.MessageBytes.{UpdateMessage, EntryPlaced}
 use Rattle.message_bytes.specs.LastUpdates.{Since}
 use Rattle.peers.specs.declared.numbers.RawOpened.{RawOpened}
 use Rattle.peers.specs.Numbers.{rawOpened}
@@ -236,6 +236,8 @@ pub record LastStep (records : Records) (t : Store) (steps : List HostStep) (pla
   -- with the record that this call got, and the table that it left
   pub message : UpdateMessage (lastRecords records before connection) (answering (answer.Update table id place how) call) table id
       (getD (call .store .tables) table noTable) (getD (call .store .entries) place noEntry)
+  -- how its entry came to the place, in the store that this call got
+  pub placed : EntryPlaced (sharedStore t before) table (getD (call .store .entries) place noEntry) how place
   -- where it stood: among this connection's bytes, those unfinished at the start and then all that its calls took, behind these
   pub earlier : List ℕ
   pub stood : unfinished (records connection) ++ bytesIn (rawTaken (callsOf connection steps))

@@ -12,7 +12,7 @@ use Rattle.lists.specs.Lists.{every, firstPlace}
 use Rattle.store.specs.declared.Entry.{Entry}
 use Rattle.store.specs.declared.Store.{Store}
 use Rattle.store.specs.declared.entries.Place.the-variants as places
-use Rattle.store.specs.Store.{entryFree, freeEntry, countsOf, raised, makeEntry, noEntry, noTable, emptyStore}
+use Rattle.store.specs.Store.{entryFree, findEntry, freeEntry, countsOf, raised, makeEntry, noEntry, noTable, emptyStore}
 use Rattle.store.specs.Shape.{StoreShape}
 use Rattle.store.specs.Sound.{soundStore}
 use Rattle.store.specs.Time.{entryTimed, Passed, PassPromise, PassedTwice}
@@ -37,8 +37,8 @@ use Rattle.receiver.specs.Model.{Event, heldBy, replyRoom, isByte, isTime, peer
 use Rattle.receiver.specs.Promise.{Made, Shaped}
 use Rattle.receiver.specs.Ledger.{isAcknowledgement}
 use Rattle.receiver.specs.Demand3.{modelRan}
-use Rattle.receiver.specs.Corollaries.{fieldsOf, closes, TestedInOrder, OffsetGiven, RefusedPassUntouched, PassedRecordsSound}
-use Rattle.message_bytes.specs.MessageBytes.{UpdateMessage, DefinitionMessage}
+use Rattle.receiver.specs.Corollaries.{fieldsOf, EntryWent, closes, TestedInOrder, OffsetGiven, RefusedPassUntouched, PassedRecordsSound}
+use Rattle.message_bytes.specs.MessageBytes.{UpdateMessage, EntryPlaced, TableDefined}
 use Rattle.message_bytes.specs.LastUpdates.{Since}
 use Rattle.peers.specs.declared.numbers.RawOpened.{RawOpened}
 use Rattle.peers.specs.Numbers.{rawOpened}
@@ -131,7 +131,8 @@ pub record ToldUpdate (m : RawMade) (table id place : ℕ) (how : Commit) : Type
   pub values : rawValues m ≡ table ∷ id ∷ place ∷ commitNumber how ∷ []
 
 -- the store that the call left holds the entry with the message's key and values and its remaining time, and else what it held before, with
--- the counts of its entries; the reply is the acknowledgement of this update with the table's ID
+-- the counts of its entries; the entry replaced the one that was held with its table and key, or took the lowest free place; the reply is the
+-- acknowledgement of this update with the table's ID
 pub record RawEntryHeld (s : Session) (t : Store) (m : RawMade) : Type 0 where
   pub table : ℕ
   pub id : ℕ
@@ -153,6 +154,8 @@ pub record RawEntryHeld (s : Session) (t : Store) (m : RawMade) : Type 0 where
   pub own-id : fields .id ≡ id
   pub holds : getD (m .store .entries) place noEntry
       ≡ makeEntry table (spanIn body (fields .key)) (fields .server) (fields .time .timed) (fields .time .remaining) (fields .values)
+  -- "A known table and key has its values replaced. Otherwise the entry takes the lowest free place."
+  pub went : EntryWent how place (findEntry t table (spanIn body (fields .key))) (freeEntry t)
   pub others : (i : ℕ) → (i ≡ place → ⊥) → getD (m .store .entries) i noEntry ≡ getD (t .entries) i noEntry
   pub tables : m .store .tables ≡ t .tables
   -- request 9: "kept right by every call on a sound store"
@@ -212,6 +215,8 @@ pub record RawLastUpdate (s : Session) (t : Store) (calls : List RawCalled) (pla
   -- with the record that this call got, and the table that it left
   pub message : UpdateMessage (rawLastSession s before) (answering (answer.Update table id place how) call) table id
       (getD (call .store .tables) table noTable) (getD (call .store .entries) place noEntry)
+  -- how its entry came to the place, in the store that this call got
+  pub placed : EntryPlaced (rawLastStore t before) table (getD (call .store .entries) place noEntry) how place
   -- where it stood: among the bytes unfinished at the start and then all bytes that the calls took, behind these
   pub earlier : List ℕ
   pub stood : unfinished s ++ bytesIn (rawTaken calls) ≡ earlier ++ (rawMessage (rawLastSession s before) call ++ bytesIn (rawTaken after))
@@ -227,11 +232,11 @@ pub record ToldTable (m : RawMade) (place : ℕ) : Type 0 where
   pub values : rawValues m ≡ place ∷ []
 
 -- the message that the call ended is a definition: its body is the encoding of the ID and of the table that the call left at the answered place,
--- and then ignored bytes
+-- and then ignored bytes; `TableDefined` says where the table went and what else the call left
 pub record RawDefinition (s : Session) (t : Store) (m : RawMade) : Type 0 where
   pub place : ℕ
   pub told : ToldTable m place
-  pub message : DefinitionMessage s t (answering (answer.Table place) m) place (bindingAt (m .session .connection) place .id)
+  pub defined : TableDefined s t (answering (answer.Table place) m) place (bindingAt (m .session .connection) place .id)
       (getD (m .store .tables) place noTable)
 
 -- every call that answered a table, on any record and store

@@ -1,5 +1,5 @@
 -- When an acknowledgement goes out, the entry is held; any refused call leaves the store as it was.
-use Prim.Native.Nat.{ℕ, zero, suc, _-_, _<_, _^_}
+use Prim.Native.Nat.{ℕ, zero, suc, _+_, _-_, _≤_, _<_, _^_}
 use native.Mathlib.Omega.{arith}
 use mathlib.Core.Path.{_≡_, refl, sym, ap, _∙_, subst}
 use mathlib.Core.Logic.{_⊎_, inl, inr}
@@ -14,8 +14,10 @@ use Rattle.lists.specs.Lists.{every, front}
 use Rattle.lists.proofs.Cases.{by-test, cond-true, cond-false, never, and-first, and-second}
 use Rattle.lists.proofs.Every.{every-cons}
 use Rattle.store.specs.declared.Store.{Store}
+use Rattle.store.specs.declared.Table.{Table}
 use Rattle.store.specs.declared.Entry.{Entry}
-use Rattle.store.specs.Store.{countsOf, withEntries, putEntry, noEntry}
+use Rattle.store.specs.Store.{countsOf, withEntries, putEntry, noEntry, noTable}
+use Rattle.store.proofs.Facts.{TableFacts}
 use Rattle.wire.specs.Value.{Bytes}
 use Rattle.handshake.specs.Handshake.{nameOk}
 use Rattle.session.specs.declared.Session.{Session}
@@ -28,6 +30,8 @@ use Rattle.session.specs.Answers.{refusalOf}
 use Rattle.session.proofs.answers.Refusals.{no-number, same-number}
 use Rattle.message.specs.Effects.{Effect, refuseWith, updatedEntry}
 use Rattle.opening.specs.Opening.{Role, Opening, refuseOpening, accept, refusedOpening, «open», openRoom}
+use Rattle.body.specs.Fields.{spanIn}
+use Rattle.body.proofs.Within.{update-within}
 use Rattle.message.proofs.Kept.{Held}
 use Rattle.reassembly.specs.Judge.{settled, judge}
 use Rattle.streams.specs.Calls.{Call, stay}
@@ -40,9 +44,10 @@ use Rattle.receiver.specs.Demand3.{replyIn}
 use Rattle.receiver.specs.Corollaries.{messageOf, EntryHeld, HeldWhenAcknowledged, NothingChanged, OnlyClosed, RefusedCall, RefusedUntouched, OthersUntouched, RefusedOpening, RefusedOpeningUntouched}
 use Rattle.receiver.proofs.Chained.{good-held}
 use Rattle.receiver.proofs.Following.{starts-following}
+use Rattle.receiver.proofs.KeyPlaces.{key-short, went-by-key}
 use Rattle.receiver.proofs.Laws.{Right, JudgedRight, judge-right}
 use Rattle.receiver.proofs.Lawfully.{open-held}
-use Rattle.receiver.proofs.SettledLaws.{settled-refused, store-stays, updated}
+use Rattle.receiver.proofs.SettledLaws.{settled-refused, store-stays, Updated, updated}
 use Rattle.receiver.proofs.Ways.{Way, Early, Judging, staying, waiting-on, judging, ways, answer-is, taken-is, count-is, reply-is, room-past, record-stays, record-holds}
 
 -- ---- stores
@@ -185,41 +190,65 @@ module _ (s : Session) (t : Store) (m : Made) (p : ReadPromise s t m) (e : Effec
   acked : isAcknowledgement (replyIn m) ≡ true → isAcknowledgement (e .reply) ≡ true
   acked h = ap isAcknowledgement (sym (reply-is s t m p ∙ j .reply)) ∙ h
 
-  entry-held : isAcknowledgement (replyIn m) ≡ true → EntryHeld s t m
-  unfolding updatedEntry
-  entry-held h =
+  -- the current table is within the limits
+  pub current-facts : (table : ℕ) → s .connection .current ≡ table + 1 → TableFacts (getD (t .tables) table noTable)
+  current-facts table now =
+      let l = held .connection .currentLimit in
+      let n : table < length (t .tables) = omega (arith, now, held .storeShape .tables) in
+      held .store .table table n (held .connection .currentHeld table now)
+
+  -- a call that answered an update
+  module _ (table id place : ℕ) (how : Commit) (a : e .answer ≡ answer.Update table id place how) where
+    x : Updated (s .connection) t (messageOf s m) table id place how e
+    x = updated (s .connection) t (messageOf s m) table id place how e judged a
+
+    abbrev body : List ℕ
+    body = take (x .end - x .start) (drop (x .start) (messageOf s m))
+
+    abbrev now : Table
+    now = getD (t .tables) table noTable
+
+    stored : m .store ≡ putEntry t place (updatedEntry body table (x .fields))
+    stored = p .store ∙ (ap (λ (k : State). k .store) (j .state) ∙ x .store)
+
+    short : length (spanIn body (x .fields .key)) ≤ 64
+    short =
+        let r = update-within (x .form) now _ body (x .fields) (x .after) (x .read) in
+        key-short now table body (x .fields) (current-facts table (x .current)) (r .0 .within)
+
+    entry-held : EntryHeld s t m
+    unfolding updatedEntry
+    entry-held = record {
+      table = table;
+      id = id;
+      place = place;
+      how = how;
+      answer = answer-is s t m p ∙ (j .answer ∙ a);
+      kind = x .kind;
+      start = x .start;
+      end = x .end;
+      framed = x .framed;
+      form = x .form;
+      type = x .type;
+      current = x .current;
+      body = body;
+      body-is = refl;
+      fields = x .fields;
+      after = x .after;
+      read = x .read;
+      own-id = x .own-id;
+      holds = ap (λ (k : Store). getD (k .entries) place noEntry) stored ∙ put-here t place _ (x .inside);
+      went = went-by-key t table body (x .fields) place how short (x .went);
+      others = λ i n. ap (λ (k : Store). getD (k .entries) i noEntry) stored ∙ put-others t place _ i n;
+      tables = ap (λ (k : Store). k .tables) stored ∙ put-tables t place _;
+      counts = ap (λ (k : Store). k .counts) stored ∙ (put-counts t place _ ∙ ap (λ (k : Store). countsOf (k .entries)) (sym stored));
+      reply = reply-is s t m p ∙ (j .reply ∙ x .reply);
+    }
+
+  acknowledged-held : isAcknowledgement (replyIn m) ≡ true → EntryHeld s t m
+  acknowledged-held h =
       let k = only-updates _ (messageOf s m) (e .reply) (e .answer) (right .follow .right (startLedger (s .connection)) (starts-following (s .connection))) (acked h) in
-      let table = k .0 in
-      let id = k .1 .0 in
-      let place = k .1 .1 .0 in
-      let x = updated (s .connection) t (messageOf s m) table id place (k .1 .1 .1 .0) e judged (k .1 .1 .1 .1) in
-      let stored = p .store ∙ (ap (λ (k : State). k .store) (j .state) ∙ x .store) in
-      record {
-        table = table;
-        id = id;
-        place = place;
-        how = k .1 .1 .1 .0;
-        answer = answer-is s t m p ∙ (j .answer ∙ k .1 .1 .1 .1);
-        kind = x .kind;
-        start = x .start;
-        end = x .end;
-        framed = x .framed;
-        form = x .form;
-        type = x .type;
-        current = x .current;
-        body = take (x .end - x .start) (drop (x .start) (messageOf s m));
-        body-is = refl;
-        fields = x .fields;
-        after = x .after;
-        read = x .read;
-        own-id = x .own-id;
-        holds = ap (λ (k : Store). getD (k .entries) place noEntry) stored ∙ put-here t place _ (x .inside);
-        others = λ i n. ap (λ (k : Store). getD (k .entries) i noEntry) stored ∙ put-others t place _ i n;
-        tables = ap (λ (k : Store). k .tables) stored ∙ put-tables t place _;
-        counts = ap (λ (k : Store). k .counts) stored ∙ (put-counts t place _ ∙ ap (λ (k : Store). countsOf (k .entries)) (sym stored));
-        reply =
-            reply-is s t m p ∙ (j .reply ∙ x .reply);
-      }
+      entry-held (k .0) (k .1 .0) (k .1 .1 .0) (k .1 .1 .1 .0) (k .1 .1 .1 .1)
 
 none-acknowledges : isAcknowledgement [] ≡ false
 unfolding isAcknowledgement
@@ -230,7 +259,7 @@ by-way : (s : Session) (t : Store) (m : Made) → ReadPromise s t m → isAcknow
 by-way s t m p h (staying n k q) =
     never (ap isAcknowledgement (sym (reply-is s t m p ∙ ap (λ (x : Call State Answer). x .reply) q)) ∙ h) none-acknowledges
 by-way s t m p h (waiting-on w) = never (ap isAcknowledgement (sym (reply-is s t m p ∙ w .reply)) ∙ h) none-acknowledges
-by-way s t m p h (judging e j) = entry-held s t m p e j h
+by-way s t m p h (judging e j) = acknowledged-held s t m p e j h
 
 pub held-when-acknowledged : HeldWhenAcknowledged
 held-when-acknowledged s t m p h = by-way s t m p h (ways s t m p)

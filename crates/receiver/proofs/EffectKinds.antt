@@ -18,7 +18,7 @@ use Rattle.lists.proofs.Cases.{by-test, or-false, cond-true, cond-false}
 use Rattle.store.specs.declared.Table.{Table}
 use Rattle.store.specs.declared.Entry.{Entry}
 use Rattle.store.specs.declared.Store.{Store}
-use Rattle.store.specs.Store.{tableFree, tableNamed, entryFree, noTable, noEntry}
+use Rattle.store.specs.Store.{tableFree, tableNamed, findTable, freeTable, entryFree, noTable, noEntry}
 use Rattle.store.specs.Places.{freeOf, placeOf}
 use Rattle.handshake.specs.declared.Hello.{Hello}
 use Rattle.handshake.specs.declared.Hello.the-variants as hello
@@ -48,7 +48,7 @@ use Rattle.session.specs.Answers.{refusalOf, answerValues}
 use Rattle.message.specs.Effects.{Effect, refuseWith, refuse, refusal, failureNumber, refuseBody, note, fieldsThen, control, controlAnswer, peerError, definedTable, defineAt, defineNew, defineNamed, agrees, definition, switchTo, switch, acknowledgement, skipped, updatedEntry, commitAt, commitEntry, withFields, followingId, updateOf, update, otherMessage, byForm, stickTable, done}
 use Rattle.body.specs.declared.update.Form.{Form}
 use Rattle.reassembly.specs.Judge.{Judged, waiting, settled, helloJudged, statusJudged, frameJudged, asksNone, judgeBytes, doneOf, judge}
-use Rattle.receiver.specs.Corollaries.{closes, fieldsOf, givesOffset, FieldFails, inDefinition, inSwitch, inAcknowledgement, inUpdate, BodyBroke, OffsetGiven}
+use Rattle.receiver.specs.Corollaries.{EntryWent, TableWent, heldName, newName, closes, fieldsOf, givesOffset, FieldFails, inDefinition, inSwitch, inAcknowledgement, inUpdate, BodyBroke, OffsetGiven}
 
 -- an answer that leaves the store as it is, and is no refusal
 abbrev pub Noted : Answer → Type 0
@@ -77,6 +77,10 @@ unfoldable pub Finds : Commit → Entry → Entry → Type 0
 Finds commit.New e old = entryFree old ≡ true
 Finds commit.Replaced e old = keyedAs e old ≡ true
 
+-- where a committed entry goes, in the store that came
+abbrev pub Went : Store → Entry → ℕ → Commit → Type 0
+Went t e place how = EntryWent how place (firstPlace (keyedAs e) (t .entries)) (firstPlace entryFree (t .entries))
+
 -- an update of the current table whose fields were read, and the place of its entry
 pub record Committing (c : Connection) (t : Store) (u : List ℕ) (fields : Update) (body : List ℕ) (place : ℕ) (how : Commit) : Type 0 where
   pub kind : ℕ
@@ -92,6 +96,7 @@ pub record Committing (c : Connection) (t : Store) (u : List ℕ) (fields : Upda
   pub read : fieldsOf c t (c .current - 1) form body ≡ got fields after
   pub inside : place < length (t .entries)
   pub finds : Finds how (updatedEntry body (c .current - 1) fields) (getD (t .entries) place noEntry)
+  pub went : Went t (updatedEntry body (c .current - 1) fields) place how
 
 -- a definition whose fields were read, and the place of its table
 pub record Defining (c : Connection) (t : Store) (u : List ℕ) (fields : Definition) (body : List ℕ) (place : ℕ) : Type 0 where
@@ -102,6 +107,7 @@ pub record Defining (c : Connection) (t : Store) (u : List ℕ) (fields : Defini
   pub after : ℕ
   pub read : definitionFields body ≡ got fields after
   pub inside : place < length (t .tables)
+  pub went : TableWent t (spanIn body (fields .name)) (definedTable body fields) place
 
 pub data Kind (c : Connection) (t : Store) (u : List ℕ) : Effect → Type 0 where
   refused : (n : ℕ) (a : Answer) → closes n ≡ true → refusalOf a ≡ some n → OffsetGiven c t u n (answerValues a) → Kind c t u (refuseWith c n a)
@@ -186,29 +192,31 @@ module _ (c : Connection) (t : Store) (u : List ℕ) where
 
     -- a definition
     module _ (k : kind ≡ 130) (d : Definition) (after : ℕ) (r : definitionFields body ≡ got d after) where
-      define-kind : (p : ℕ) → p < length (t .tables) → Kind c t u (defineAt c (d .id) (definedTable body d) p)
-      define-kind p l =
+      abbrev name : List ℕ
+      name = spanIn body (d .name)
+
+      define-kind : (p : ℕ) → p < length (t .tables) → TableWent t name (definedTable body d) p → Kind c t u (defineAt c (d .id) (definedTable body d) p)
+      define-kind p l w =
           defined d body p
-          (record { start = start; end = end; framed = e ∙ ap (λ (n : ℕ). frame.Body n start end) k; body-is = refl; after = after; read = r; inside = l })
+          (record { start = start; end = end; framed = e ∙ ap (λ (n : ℕ). frame.Body n start end) k; body-is = refl; after = after; read = r; inside = l; went = w })
 
-      new-kind : (f : Found) → firstPlace tableFree (t .tables) ≡ f → Kind c t u (defineNew c (d .id) (definedTable body d) f)
+      new-kind : (f : Found) → findTable t name ≡ found.Nothing → freeTable t ≡ f → Kind c t u (defineNew c (d .id) (definedTable body d) f)
       unfolding defineNew
-      new-kind (found.At p) q = define-kind p (first-at tableFree (t .tables) p q .inside)
-      new-kind found.Nothing q = refused-with 26 (omega arith) (omega arith)
+      new-kind (found.At p) n q = define-kind p (unfold freeTable in first-at tableFree (t .tables) p q .inside) (newName n q)
+      new-kind found.Nothing n q = refused-with 26 (omega arith) (omega arith)
 
-      named-kind : (name : List ℕ) (f : Found) → firstPlace (tableNamed name) (t .tables) ≡ f
-          → Kind c t u (defineNamed c (t .tables) (d .id) (definedTable body d) f)
+      named-kind : (f : Found) → findTable t name ≡ f → Kind c t u (defineNamed c (t .tables) (d .id) (definedTable body d) f)
       unfolding defineNamed
-      named-kind name (found.At p) q =
+      named-kind (found.At p) q =
           by-test (agrees (getD (t .tables) p noTable) (definedTable body d))
-          (λ a. rw a (define-kind p (first-at (tableNamed name) (t .tables) p q .inside)))
+          (λ a. rw a (define-kind p (unfold findTable in first-at (tableNamed name) (t .tables) p q .inside) (heldName q a)))
           (λ a. rw a (refused-with 25 (omega arith) (omega arith)))
-      named-kind name found.Nothing q = new-kind (firstPlace tableFree (t .tables)) refl
+      named-kind found.Nothing q = unfold freeTable in new-kind (freeTable t) q refl
 
     definition-kind : kind ≡ 130 → (r : Read Definition) → definitionFields body ≡ r
         → Kind c t u (fieldsThen (refuseBody c) r λ d. defineNamed c (t .tables) (d .id) (definedTable body d) (firstPlace (tableNamed (spanIn body (d .name))) (t .tables)))
     unfolding fieldsThen
-    definition-kind k (got d after) r = named-kind k d after r (spanIn body (d .name)) _ refl
+    definition-kind k (got d after) r = unfold findTable in named-kind k d after r _ refl
     definition-kind k (failed f) r = body-kind f (inDefinition k (r, bodies-break .definition body f r))
 
     abbrev now : ℕ
@@ -217,23 +225,23 @@ module _ (c : Connection) (t : Store) (u : List ℕ) where
     module _ (form : Form) (type : formOf kind ≡ some form) (z : eqb (c .current) 0 ≡ false)
         (previous : form .explicit ≡ false → isUpdated (bindingAt c now) ≡ true) where
       commit-kind : (f : Update) (after p : ℕ) (how : Commit) → fieldsOf c t now form body ≡ got f after → p < length (t .entries)
-          → Finds how (updatedEntry body now f) (getD (t .entries) p noEntry)
+          → Finds how (updatedEntry body now f) (getD (t .entries) p noEntry) → Went t (updatedEntry body now f) p how
           → Kind c t u (commitAt c (f .id) (updatedEntry body now f) p how)
-      commit-kind f after p how r l d =
+      commit-kind f after p how r l d w =
           committed f body p how
-          (record { kind = kind; start = start; end = end; framed = e; body-is = refl; form = form; type = type; current = z; previous = previous; after = after; read = r; inside = l; finds = d })
+          (record { kind = kind; start = start; end = end; framed = e; body-is = refl; form = form; type = type; current = z; previous = previous; after = after; read = r; inside = l; finds = d; went = w })
 
       -- where the entry goes, by what the lookups found
       commit-entry-kind : (f : Update) (after : ℕ) (x y : Found) → fieldsOf c t now form body ≡ got f after
           → firstPlace (keyedAs (updatedEntry body now f)) (t .entries) ≡ x → firstPlace entryFree (t .entries) ≡ y
           → Kind c t u (commitEntry c (f .id) (updatedEntry body now f) (placeOf x y))
-      unfolding commitEntry placeOf freeOf Finds
+      unfolding commitEntry placeOf freeOf Finds EntryWent
       commit-entry-kind f after (found.At p) y r q w =
           let x = first-at (keyedAs (updatedEntry body now f)) (t .entries) p q in
-          commit-kind f after p commit.Replaced r (x .inside) (x .passes noEntry)
+          commit-kind f after p commit.Replaced r (x .inside) (x .passes noEntry) q
       commit-entry-kind f after found.Nothing (found.At p) r q w =
           let x = first-at entryFree (t .entries) p w in
-          commit-kind f after p commit.New r (x .inside) (x .passes noEntry)
+          commit-kind f after p commit.New r (x .inside) (x .passes noEntry) (q, w)
       commit-entry-kind f after found.Nothing found.Nothing r q w = refused-with 29 (omega arith) (omega arith)
 
       with-kind : (r : Read Update) → fieldsOf c t now form body ≡ r → Kind c t u (done c (t .entries) (withFields c body now r))

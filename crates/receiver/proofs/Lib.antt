@@ -15,6 +15,7 @@ pub mod Ways
 pub mod Acknowledging
 pub mod LedgerAlong
 pub mod EffectKinds
+pub mod KeyPlaces
 pub mod SettledLaws
 pub mod Demand3
 pub mod Corollaries

@@ -22,7 +22,7 @@ use Rattle.session.specs.declared.Answer.the-variants as answer
 use Rattle.session.specs.Session.{bind, bindingAt, isUpdated}
 use Rattle.session_soundness.proofs.Facts.{heldAt}
 use Rattle.session_soundness.proofs.Keeping.{put-held}
-use Rattle.body.specs.Fields.{got}
+use Rattle.body.specs.Fields.{got, spanIn}
 use Rattle.body.specs.Bodies.{Definition, Update, definitionFields, formOf}
 use Rattle.body.specs.declared.update.Form.{Form}
 use Rattle.message.specs.Changes.{noChange, tableChange, entryChange, changed}
@@ -31,9 +31,9 @@ use Rattle.session.proofs.answers.Refusals.{of-refusal, no-number, same-number}
 use Rattle.message.specs.Effects.{Effect, refuseWith, note, peerError, definedTable, defineAt, acknowledge, updatedEntry, commitAt}
 use Rattle.reassembly.specs.Judge.{settled, judge}
 use Rattle.receiver.specs.Model.{endsRefused, ends}
-use Rattle.receiver.specs.Corollaries.{closes, fieldsOf, OffsetGiven}
+use Rattle.receiver.specs.Corollaries.{TableWent, closes, fieldsOf, OffsetGiven}
 use Rattle.receiver.proofs.EffectKinds as kinds
-use Rattle.receiver.proofs.EffectKinds.{Noted, Kind, bodyIn, kind-of}
+use Rattle.receiver.proofs.EffectKinds.{Noted, Went, Kind, bodyIn, kind-of}
 
 -- ---- every answer ends a message or closes the session
 
@@ -146,7 +146,7 @@ module _ (c : Connection) (t : Store) (u : List ℕ) where
 
 -- ---- an update
 
-pub record Updated (c : Connection) (t : Store) (u : List ℕ) (table id place : ℕ) (e : Effect) : Type 0 where
+pub record Updated (c : Connection) (t : Store) (u : List ℕ) (table id place : ℕ) (how : Commit) (e : Effect) : Type 0 where
   pub kind : ℕ
   pub start : ℕ
   pub end : ℕ
@@ -160,6 +160,7 @@ pub record Updated (c : Connection) (t : Store) (u : List ℕ) (table id place :
   pub read : fieldsOf c t table form (bodyIn u start end) ≡ got fields after
   pub own-id : fields .id ≡ id
   pub inside : place < length (t .entries)
+  pub went : Went t (updatedEntry (bodyIn u start end) table fields) place how
   pub store : changed t (e .change) ≡ putEntry t place (updatedEntry (bodyIn u start end) table fields)
   pub reply : e .reply ≡ acknowledge (bindingAt c table .id) id
 
@@ -167,7 +168,7 @@ module _ (c : Connection) (t : Store) (u : List ℕ) (table id place : ℕ) (how
   noted-update : (a : Answer) → Noted a → a ≡ answer.Update table id place how → ⊥
   noted-update a h q = subst Noted q h
 
-  kind-updated : (e : Effect) → Kind c t u e → e .answer ≡ answer.Update table id place how → Updated c t u table id place e
+  kind-updated : (e : Effect) → Kind c t u e → e .answer ≡ answer.Update table id place how → Updated c t u table id place how e
   unfolding refuseWith refusalOf note peerError defineAt commitAt changed entryChange updatedEntry makeEntry
   kind-updated e (kinds.refused n a h r o) q = absurd (no-number n (sym (ap refusalOf q) ∙ r))
   kind-updated e (kinds.noted d a reply h) q = absurd (noted-update a h q)
@@ -178,6 +179,7 @@ module _ (c : Connection) (t : Store) (u : List ℕ) (table id place : ℕ) (how
       let a : c .current - 1 ≡ table = cc in
       let b : fields .id ≡ id = cc in
       let d : p ≡ place = cc in
+      let g : h ≡ how = cc in
       let z = eqb-false (c .current) 0 (k .current) in
       let w : c .current ≡ (c .current - 1) + 1 = omega (arith, z) in
       record {
@@ -195,13 +197,18 @@ module _ (c : Connection) (t : Store) (u : List ℕ) (table id place : ℕ) (how
             (subst (λ (n : ℕ). fieldsOf c t n (k .form) body ≡ got fields (k .after)) a (k .read));
         own-id = b;
         inside = subst (λ (n : ℕ). n < length (t .entries)) d (k .inside);
+        went =
+            subst (λ (x : List ℕ). Went t (updatedEntry x table fields) place how) (k .body-is)
+            (subst (λ (n : ℕ). Went t (updatedEntry body n fields) place how) a
+            (subst (λ (x : Commit). Went t (updatedEntry body now fields) place x) g
+            (subst (λ (n : ℕ). Went t (updatedEntry body now fields) n h) d (k .went))));
         store =
             ap (λ (n : ℕ). putEntry t n (updatedEntry body now fields)) d
             ∙ (ap (λ (n : ℕ). putEntry t place (updatedEntry body n fields)) a ∙ ap (λ (x : List ℕ). putEntry t place (updatedEntry x table fields)) (k .body-is));
         reply = ap (acknowledge (bindingAt c now .id)) b ∙ ap (λ (n : ℕ). acknowledge (bindingAt c n .id) id) a;
       }
 
-  pub updated : (e : Effect) → judge c t u ≡ settled e → e .answer ≡ answer.Update table id place how → Updated c t u table id place e
+  pub updated : (e : Effect) → judge c t u ≡ settled e → e .answer ≡ answer.Update table id place how → Updated c t u table id place how e
   updated e q = kind-updated e (kind-of c t u e q)
 
 -- ---- a definition
@@ -214,6 +221,7 @@ pub record Defined (c : Connection) (t : Store) (u : List ℕ) (place : ℕ) (e 
   pub after : ℕ
   pub read : definitionFields (bodyIn u start end) ≡ got fields after
   pub inside : place < length (t .tables)
+  pub went : TableWent t (spanIn (bodyIn u start end) (fields .name)) (definedTable (bodyIn u start end) fields) place
   pub connection : e .connection ≡ bind c place (fields .id)
   pub store : changed t (e .change) ≡ putTable t place (definedTable (bodyIn u start end) fields)
 
@@ -236,6 +244,9 @@ module _ (c : Connection) (t : Store) (u : List ℕ) (place : ℕ) where
         after = k .after;
         read = subst (λ (x : List ℕ). definitionFields x ≡ got fields (k .after)) (k .body-is) (k .read);
         inside = subst (λ (n : ℕ). n < length (t .tables)) d (k .inside);
+        went =
+            subst (λ (x : List ℕ). TableWent t (spanIn x (fields .name)) (definedTable x fields) place) (k .body-is)
+            (subst (TableWent t (spanIn body (fields .name)) (definedTable body fields)) d (k .went));
         connection = ap (λ (n : ℕ). bind c n (fields .id)) d;
         store =
             ap (λ (n : ℕ). putTable t n (definedTable body fields)) d ∙ ap (λ (x : List ℕ). putTable t place (definedTable x fields)) (k .body-is);

@@ -7,9 +7,12 @@ use mathlib.Core.Option.{some}
 use mathlib.Core.Bool.{Bool, true, false, cond, _&&_, _||_}
 use lib.ListN.{length, take, drop, getD}
 use lib.Dec.{eqb, leb, ltb}
+use Rattle.lists.specs.declared.Found.{Found}
+use Rattle.lists.specs.declared.Found.the-variants as found
 use Rattle.lists.specs.Lists.{every}
+use Rattle.store.specs.declared.Table.{Table}
 use Rattle.store.specs.declared.Store.{Store}
-use Rattle.store.specs.Store.{countsOf, makeEntry, noEntry, noTable}
+use Rattle.store.specs.Store.{countsOf, findTable, findEntry, freeTable, freeEntry, makeEntry, noEntry, noTable}
 use Rattle.store.specs.Sound.{soundStore}
 use Rattle.store.specs.Time.{passTime, Passed, PassPromise}
 use Rattle.frame.specs.declared.Frame.the-variants as frame
@@ -17,6 +20,7 @@ use Rattle.frame.specs.Frame.{definitionType, switchType, acknowledgementType, 
 use Rattle.session.specs.declared.Session.{Session}
 use Rattle.session.specs.declared.Connection.{Connection}
 use Rattle.session.specs.declared.Commit.{Commit}
+use Rattle.session.specs.declared.Commit.the-variants as commit
 use Rattle.session.specs.declared.Sending.{Sending}
 use Rattle.session.specs.declared.Answer.{Answer}
 use Rattle.session.specs.declared.Answer.the-variants as answer
@@ -29,7 +33,7 @@ use Rattle.body.specs.declared.Fault.{Fault}
 use Rattle.body.specs.Fields.{Read, got, failed, spanIn}
 use Rattle.body.specs.Bodies.{Update, updateFields, formOf, definitionFields, switchFields, acknowledgementFields}
 use Rattle.body.specs.Breaks.{Sized, noneSized, definitionSized, acknowledgementSized, updateSized, Broke}
-use Rattle.message.specs.Effects.{acknowledge, followingId, failureNumber}
+use Rattle.message.specs.Effects.{acknowledge, agrees, followingId, failureNumber}
 use Rattle.streams.specs.Model.{Item, bytes}
 use Rattle.streams.specs.Calls.{Call, pieces, reachable}
 use Rattle.receiver.specs.Model.{State, Event, heldBy, replyRoom, isByte, peers}
@@ -91,8 +95,15 @@ messageOf s m = unfinished s ++ take (m .outcome .taken) (m .piece)
 abbrev pub fieldsOf : Connection → Store → ℕ → Form → List ℕ → Read Update
 fieldsOf c t table form body = updateFields form (getD (t .tables) table noTable) (followingId (bindingAt c table .previous)) body
 
+-- "A known table and key has its values replaced. Otherwise the entry takes the lowest free place.": in the store that came, `held` is the first
+-- place with this table and key, and `free` the lowest free one
+unfoldable pub EntryWent : Commit → (place : ℕ) (held free : Found) → Type 0
+EntryWent commit.Replaced place held free = held ≡ found.At place
+EntryWent commit.New place held free = (held ≡ found.Nothing) × (free ≡ found.At place)
+
 -- the store that the call left holds the entry with the message's key and values and its remaining time, and else what it held before, with
--- the counts of its entries; the reply is the acknowledgement of this update with the table's ID
+-- the counts of its entries; the entry replaced the one that was held with its table and key, or took the lowest free place; the reply is the
+-- acknowledgement of this update with the table's ID
 pub record EntryHeld (s : Session) (t : Store) (m : Made) : Type 0 where
   pub table : ℕ
   pub id : ℕ
@@ -114,6 +125,7 @@ pub record EntryHeld (s : Session) (t : Store) (m : Made) : Type 0 where
   pub own-id : fields .id ≡ id
   pub holds : getD (m .store .entries) place noEntry
       ≡ makeEntry table (spanIn body (fields .key)) (fields .server) (fields .time .timed) (fields .time .remaining) (fields .values)
+  pub went : EntryWent how place (findEntry t table (spanIn body (fields .key))) (freeEntry t)
   pub others : (i : ℕ) → (i ≡ place → ⊥) → getD (m .store .entries) i noEntry ≡ getD (t .entries) i noEntry
   pub tables : m .store .tables ≡ t .tables
   -- request 9: "kept right by every call on a sound store"
@@ -133,6 +145,13 @@ pub record ReadBack (id update : ℕ) : Type 0 where
 
 abbrev pub AcknowledgementReadBack : Type 0
 AcknowledgementReadBack = (id update : ℕ) → id < 2 ^ 32 → update < 2 ^ 32 → ReadBack id update
+
+-- ---- where a definition's table goes
+
+-- "A name not held takes the lowest free of 8 table places. A held name must agree in key type, key length and data types": in the store that came
+pub data TableWent (t : Store) (name : List ℕ) (new : Table) (place : ℕ) : Type 0 where
+  heldName : findTable t name ≡ found.At place → agrees (getD (t .tables) place noTable) new ≡ true → TableWent t name new place
+  newName : findTable t name ≡ found.Nothing → freeTable t ≡ found.At place → TableWent t name new place
 
 -- ---- any refused call, on any record and store, sound or not, leaves the store and the room past the reply as they were
 
