@@ -12,8 +12,8 @@ use session::Outcome;
 use store::TABLES;
 use store::Table;
 use text::arguments::none_given;
-use text::input::FAILED;
-use text::input::INTERRUPTED;
+use text::input::Next;
+use text::input::next_of;
 use text::input::read_some;
 use text::output::Page;
 use text::output::flush;
@@ -131,19 +131,17 @@ fn listed(run: Run, page: Page) -> Run {
 fn list_some(run: Run, out: &mut [u8]) -> Run {
     let mut buffer = io::large_buffer();
     let got = read_some(&mut buffer);
-    if got == INTERRUPTED {
-        return run;
+    match next_of(got) {
+        Next::Again => run,
+        Next::Failed => stopped(run, true),
+        Next::End => stopped(run, false),
+        Next::Bytes => {
+            let n = io::count(got, &buffer);
+            let r = list_piece(run, &buffer[..n], out);
+            let page = flush(out, r.page);
+            listed(r, page)
+        }
     }
-    if got == FAILED {
-        return stopped(run, true);
-    }
-    if got == 0 {
-        return stopped(run, false);
-    }
-    let n = io::count(got, &buffer);
-    let r = list_piece(run, &buffer[..n], out);
-    let page = flush(out, r.page);
-    listed(r, page)
 }
 
 // Nothing says that an input ends, so the turns are counted down from a number that no run uses up.

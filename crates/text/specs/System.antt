@@ -4,6 +4,9 @@ use Prim.Native.Nat.{ℕ, _≤_, _<_}
 use mathlib.Core.Path.{_≡_}
 use mathlib.Core.Bool.{Bool, true, false, cond}
 use lib.IntN.{ℤ, pos, negsuc}
+use lib.Dec.{eqb}
+use Rattle.text.specs.declared.input.Next.{Next}
+use Rattle.text.specs.declared.input.Next.the-variants as next
 use Rattle.text.specs.declared.input.Filled.{Filled}
 use Rattle.text.specs.declared.input.Filled.the-variants as filled
 use Rattle.text.specs.Room.{fitsBehind}
@@ -12,6 +15,12 @@ use Rattle.text.specs.Room.{fitsBehind}
 unfoldable pub ReadAnswer : ℕ → ℤ → Type 0
 ReadAnswer size (pos k) = k ≤ size
 ReadAnswer size (negsuc k) = k ≤ 1
+
+-- what follows a read into a buffer that isn't empty, by its answer: no byte is the end of the input, -1 a failure, and after -2, an interruption, it
+-- is made again; no read answers less
+unfoldable pub nextOf : ℤ → Next
+nextOf (pos k) = cond (eqb k 0) next.End next.Bytes
+nextOf (negsuc k) = cond (eqb k 0) next.Failed (cond (eqb k 1) next.Again next.Bytes)
 
 -- how filling a buffer of some size ended: an empty one is whole; free: how another ended, and the bytes
 unfoldable pub FillAnswer : ℕ → Filled → Type 0

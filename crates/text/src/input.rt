@@ -3,7 +3,7 @@ use libc::EINTR;
 use libc::STDIN_FILENO;
 ghost use mathlib.Core.Path.{_≡_};
 ghost use lib.ListN.{length};
-ghost use Rattle.text.specs.System.{ReadAnswer, FillAnswer};
+ghost use Rattle.text.specs.System.{ReadAnswer, nextOf, FillAnswer};
 
 // What `read_some` answers where nothing was read and the input hasn't ended.
 pub const FAILED: isize = -1;
@@ -13,6 +13,14 @@ pub const INTERRUPTED: isize = -2;
 // How reading so many bytes ended.
 pub enum Filled {
     Whole,
+    End,
+    Failed,
+}
+
+// What follows a read: bytes came, it is made again, or it was the last.
+pub enum Next {
+    Bytes,
+    Again,
     End,
     Failed,
 }
@@ -33,6 +41,22 @@ pub fn read_some(buffer: &mut [u8]) -> isize
     FAILED
 }
 
+// What follows a read into a buffer that isn't empty, by what `read_some` answered.
+pub fn next_of(got: isize) -> Next
+    ensures { λ r. ⌜ r ≡ nextOf got ⌝ }
+{
+    if got == 0 {
+        return Next::End;
+    }
+    if got == FAILED {
+        return Next::Failed;
+    }
+    if got == INTERRUPTED {
+        return Next::Again;
+    }
+    Next::Bytes
+}
+
 // Fills the buffer. Nothing says that signals end, so the turns are counted down from a number that no run uses up.
 pub fn fill(buffer: &mut [u8]) -> Filled
     ensures { λ r. ⌜ FillAnswer (length (now (buffer .entry))) r ⌝ }
@@ -46,15 +70,11 @@ pub fn fill(buffer: &mut [u8]) -> Filled
         }
         turns -= 1;
         let got = read_some(&mut buffer[done..]);
-        if got == 0 {
-            return Filled::End;
-        }
-        if got == FAILED {
-            return Filled::Failed;
-        }
-        if 0 < got {
-            let n = io::count(got, &buffer[done..]);
-            done += n;
+        match next_of(got) {
+            Next::End => return Filled::End,
+            Next::Failed => return Filled::Failed,
+            Next::Again => {}
+            Next::Bytes => done += io::count(got, &buffer[done..]),
         }
     }
     Filled::Whole
