@@ -12,7 +12,7 @@ import re
 import sys
 
 # a literal text, which stays, or a word
-WORD = re.compile(r'"(?:[^"\\\n]|\\.)*"|[A-Za-z0-9_\'\-]+')
+WORD = re.compile(r'"(?:[^"\\\n]|\\.)*"|\bb\'.\'|[A-Za-z0-9_\'\-]+')
 INNER = re.compile(r"(?<=[a-z0-9'])([A-Z])")
 
 
@@ -25,7 +25,7 @@ def files(root):
 
 
 def respelled(word):
-    return INNER.sub(lambda m: "_" + m.group(1).lower(), word) if "a" <= word[0] <= "z" else word
+    return INNER.sub(lambda m: "_" + m.group(1).lower(), word) if "a" <= word[0] <= "z" and not word.startswith("b'") else word
 
 
 def main(root):

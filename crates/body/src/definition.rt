@@ -10,7 +10,7 @@ use store::names::plain_name;
 use store::{NAME_MAX, RATES};
 
 // A definition's ID and name.
-#[derive(Drop)]
+#[derive(Clone, Copy)]
 pub enum NamedRead {
     Fields {
         id: u32,
@@ -22,7 +22,7 @@ pub enum NamedRead {
 }
 
 // The fields of a definition. Its name stands in the body from `name_at` on. `timed` is 1 where the body has expiry and periods.
-#[derive(Drop)]
+#[derive(Clone, Copy)]
 pub struct DefinitionBody {
     pub reading: Reading,
     pub id: u32,

@@ -18,7 +18,7 @@ use wire::fixed::FourBytes;
 use wire::values::Field;
 
 // Why a body can't be read: it ends before a field is whole; a field overflows or is out of range; a table's name isn't plain.
-#[derive(Drop)]
+#[derive(Clone, Copy)]
 pub enum Failure {
     Short,
     OutOfRange,
@@ -26,14 +26,14 @@ pub enum Failure {
 }
 
 // A field that can't be read: why, and the position at which it starts.
-#[derive(Drop)]
+#[derive(Clone, Copy)]
 pub struct Fault {
     pub failure: Failure,
     pub start: usize,
 }
 
 // How far a body could be read: all its known fields, up to the position after them; or up to a field that fails.
-#[derive(Drop)]
+#[derive(Clone, Copy)]
 pub enum Reading {
     Whole(usize),
     Failed(Fault),
@@ -42,21 +42,21 @@ pub enum Reading {
 // ---- fields
 
 // What reading an encoded integer with a test finds.
-#[derive(Drop)]
+#[derive(Clone, Copy)]
 pub enum IntRead {
     Value { value: u64, next: usize },
     Failed(Fault),
 }
 
 // What reading a number of 32 bits finds.
-#[derive(Drop)]
+#[derive(Clone, Copy)]
 pub enum Word {
     Value { value: u32, next: usize },
     Failed(Fault),
 }
 
 // What reading a part of a body finds: `len` bytes from `start` on.
-#[derive(Drop)]
+#[derive(Clone, Copy)]
 pub enum PartRead {
     Bytes {
         start: usize,
@@ -150,7 +150,7 @@ pub fn read_switch(body: &[u8]) -> Word
 }
 
 // What reading an acknowledgement finds.
-#[derive(Drop)]
+#[derive(Clone, Copy)]
 pub enum AcknowledgementBody {
     Fields { id: u32, update: u32, next: usize },
     Failed(Fault),

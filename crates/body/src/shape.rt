@@ -10,7 +10,7 @@ use store::DATA_TYPES_MAX;
 use wire::Int;
 
 // Key type, key length and data types.
-#[derive(Drop)]
+#[derive(Clone, Copy)]
 pub enum ShapeRead {
     Fields {
         key_type: u32,

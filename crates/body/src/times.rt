@@ -7,14 +7,14 @@ use crate::{IntRead, Reading, Word, read_between, read_word};
 use store::RATES;
 
 // A period for each rate type.
-#[derive(Drop)]
+#[derive(Clone, Copy)]
 pub struct PeriodsRead {
     pub reading: Reading,
     pub periods: [u32; RATES],
 }
 
 // Expiry and periods. `timed` is 1 where the body has them.
-#[derive(Drop)]
+#[derive(Clone, Copy)]
 pub struct TimesRead {
     pub reading: Reading,
     pub timed: u32,

@@ -10,14 +10,14 @@ use store::{Table, VALUES};
 use wire::fixed::FourBytes;
 
 // The form of an update: whether it has an ID or is incremental, and whether it has a remaining time.
-#[derive(Drop)]
+#[derive(Clone, Copy)]
 pub struct Form {
     pub explicit: bool,
     pub timed: bool,
 }
 
 // The fields of an update. Its key stands in the body from `key_at` on. `timed` is 1 where its entry has a remaining time, else 0.
-#[derive(Drop)]
+#[derive(Clone, Copy)]
 pub struct UpdateBody {
     pub reading: Reading,
     pub id: u32,

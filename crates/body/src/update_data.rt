@@ -9,14 +9,14 @@ use store::VALUES;
 use wire::values::{Field, ServerId};
 
 // A value for each slot.
-#[derive(Drop)]
+#[derive(Clone, Copy)]
 pub struct ValuesRead {
     pub reading: Reading,
     pub values: [u64; VALUES],
 }
 
 // Server ID and values.
-#[derive(Drop)]
+#[derive(Clone, Copy)]
 pub struct DataRead {
     pub reading: Reading,
     pub server_id: i32,

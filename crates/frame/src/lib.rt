@@ -24,7 +24,7 @@ pub const TIMED: u8 = 133;
 pub const TIMED_INCREMENTAL: u8 = 134;
 
 // What a message's first two bytes, its class and its type, say.
-#[derive(Drop)]
+#[derive(Clone, Copy)]
 pub enum Header {
     Control(u8),
     Error(u8),
@@ -34,7 +34,7 @@ pub enum Header {
 
 // What the bytes of a message come to so far: more bytes are awaited; a whole control or error message; a whole stick table message,
 // whose body stands from `start` up to `end`; or a refusal.
-#[derive(Drop)]
+#[derive(Clone, Copy)]
 pub enum Frame {
     Waiting,
     Control(u8),

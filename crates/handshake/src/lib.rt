@@ -15,7 +15,7 @@ ghost use Rattle.handshake.specs.Handshake.{name_ok};
 pub const PEER_NAME_MAX: usize = 32;
 
 // Where a line ends: its LF stands at a position; or the bytes end before an LF; or a 65th byte stands where an LF had to be.
-#[derive(Drop)]
+#[derive(Clone, Copy)]
 pub enum Line {
     End(usize),
     Open,
@@ -23,7 +23,7 @@ pub enum Line {
 }
 
 // What the bytes of a hello come to so far.
-#[derive(Drop)]
+#[derive(Clone, Copy)]
 pub enum Hello {
     Waiting,
     Accepted { process: u32, relative: u32 },
@@ -31,7 +31,7 @@ pub enum Hello {
 }
 
 // What the bytes of a status come to so far.
-#[derive(Drop)]
+#[derive(Clone, Copy)]
 pub enum Status {
     Waiting,
     Accepted,
@@ -39,28 +39,28 @@ pub enum Status {
 }
 
 // How many bytes were written to the front of a room; or that they do not fit.
-#[derive(Drop)]
+#[derive(Clone, Copy)]
 pub enum Written {
     Length(usize),
     NoRoom,
 }
 
 // A part of the sender's line that ends before a space: how many bytes it has.
-#[derive(Drop)]
+#[derive(Clone, Copy)]
 pub enum Part {
     Upto(usize),
     Missing,
 }
 
 // A decimal number read, of 32 bits.
-#[derive(Drop)]
+#[derive(Clone, Copy)]
 pub enum Decimal {
     Value(u32),
     Malformed,
 }
 
 // A number's decimal digits: the bytes from `start` on, and zeros before them.
-#[derive(Drop)]
+#[derive(Clone, Copy)]
 pub struct Digits {
     pub bytes: [u8; 20],
     pub start: usize,

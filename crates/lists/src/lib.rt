@@ -3,7 +3,7 @@ ghost use Rattle.std.specs.Prelude.{◌≡◌, min, ◌≤◌, ◌<◌, length, 
 ghost use Rattle.lists.specs.Lists.{every, eq_bytes, front, pad_to, is_zero};
 
 // The answer of a search: the place of what was looked for, or nothing.
-#[derive(Drop)]
+#[derive(Clone, Copy)]
 pub enum Found {
     At(usize),
     Nothing,

@@ -64,7 +64,7 @@ pub fn commit_at(connection: Connection, id: u32, entry: Entry, place: usize, ho
 }
 
 // The place that an entry is put at, and how; `full` says that there is none.
-#[derive(Drop)]
+#[derive(Clone, Copy)]
 struct Target {
     full: bool,
     place: usize,

@@ -20,7 +20,7 @@ pub const PUTS_TABLE: u8 = 1;
 pub const PUTS_ENTRY: u8 = 2;
 
 // What a message does to the store. A table or an entry that isn't put is that of a free place.
-#[derive(Drop)]
+#[derive(Clone, Copy)]
 pub struct Change {
     pub kind: u8,
     pub place: usize,
@@ -29,7 +29,7 @@ pub struct Change {
 }
 
 // What a message did: the answer, the reply, the new connection, and the change of the store.
-#[derive(Drop)]
+#[derive(Clone, Copy)]
 pub struct Effect {
     pub answer: Answer,
     pub reply: Reply,
@@ -39,7 +39,7 @@ pub struct Effect {
 
 // What a message comes to before the entries are looked at. Where `commits` is false, `effect` is what it does. Where it is true, it is
 // an update that commits `entry` with the update ID `id`, and `effect` says nothing.
-#[derive(Drop)]
+#[derive(Clone, Copy)]
 pub struct Asked {
     pub effect: Effect,
     pub commits: bool,

@@ -13,7 +13,7 @@ use session::{AWAITING_HELLO, AWAITING_STATUS, Answer, Outcome, Session};
 pub const OPENING_ROOM: usize = 101;
 
 // What opening gives back: the record, and the outcome with no bytes taken.
-#[derive(Drop)]
+#[derive(Clone, Copy)]
 pub struct Opened {
     pub session: Session,
     pub outcome: Outcome,

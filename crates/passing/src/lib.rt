@@ -8,7 +8,7 @@ use store::{ENTRIES, Store, TABLES};
 use store_scan::store_ok;
 
 // What passing time by value gives back: the number that the lent one returns, and the store that it leaves.
-#[derive(Drop)]
+#[derive(Clone, Copy)]
 pub struct Step {
     pub number: u32,
     pub store: Store,

@@ -16,7 +16,7 @@ use text::output::{Page, flush, room_at, write};
 const MARGIN: usize = 1024;
 
 // Between two pieces: the last call, the output that isn't written yet, and how the input stands.
-#[derive(Drop)]
+#[derive(Clone, Copy)]
 struct Run {
     step: Step,
     page: Page,

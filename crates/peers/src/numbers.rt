@@ -10,7 +10,7 @@ use session::{Outcome, Session};
 // What a call gives back: the bytes taken, the reply's length, the answer's number, and its values: the first `count` of `values`, zeros
 // after them.
 #[repr(C)]
-#[derive(Drop)]
+#[derive(Clone, Copy)]
 pub struct RawOutcome {
     pub taken: usize,
     pub reply_len: usize,
@@ -21,7 +21,7 @@ pub struct RawOutcome {
 
 // What opening gives back.
 #[repr(C)]
-#[derive(Drop)]
+#[derive(Clone, Copy)]
 pub struct RawOpened {
     pub session: Session,
     pub outcome: RawOutcome,
@@ -29,7 +29,7 @@ pub struct RawOpened {
 
 // What a sending call gives back: 0 and the message's length, or the refusal's number and 0.
 #[repr(C)]
-#[derive(Drop)]
+#[derive(Clone, Copy)]
 pub struct RawSent {
     pub number: u32,
     pub len: u32,

@@ -19,7 +19,7 @@ use store_scan::Scanned;
 pub const REPLY_ROOM: usize = 12;
 
 // What is left to do: the outcome to return, the new record, the new counts, and an entry or a table that is put at the place.
-#[derive(Drop)]
+#[derive(Clone, Copy)]
 pub struct Finished {
     pub outcome: Outcome,
     pub session: Session,

@@ -10,7 +10,7 @@ use session::{Answer, BUFFER, Connection, Outcome, Reply, Sending, Session};
 use store::Store;
 
 // What a reading call by value gives back: what the lent one returns, and the record and the store that it leaves.
-#[derive(Drop)]
+#[derive(Clone, Copy)]
 pub struct Step {
     pub outcome: Outcome,
     pub session: Session,
@@ -18,7 +18,7 @@ pub struct Step {
 }
 
 // The same with the change of the store in place of the store.
-#[derive(Drop)]
+#[derive(Clone, Copy)]
 pub struct StepChange {
     pub outcome: Outcome,
     pub session: Session,

@@ -19,7 +19,7 @@ use store_scan::Query;
 use store_soundness::table::tables_ok;
 
 // What the entries are to be asked, whether the tables and the record are sound, what was taken of the piece, and what that asks for.
-#[derive(Drop)]
+#[derive(Clone, Copy)]
 pub struct Started {
     pub query: Query,
     pub sound: bool,

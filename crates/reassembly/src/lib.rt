@@ -8,7 +8,7 @@ pub const MESSAGE_MAX: usize = 1028;
 
 // What was taken of a piece: the first `len` of `bytes` are the unfinished bytes with the `count` bytes taken behind them, zeros after
 // them; `ended` says whether they end a message or show a refusal.
-#[derive(Drop)]
+#[derive(Clone, Copy)]
 pub struct Taken {
     pub bytes: [u8; MESSAGE_MAX],
     pub len: usize,

@@ -33,7 +33,7 @@ const MARGIN: usize = 4096;
 
 // Between two commands: whether a session was opened, the script goes on and a read failed, record and store in the last reading call's
 // step, and the output that isn't written yet.
-#[derive(Drop)]
+#[derive(Clone, Copy)]
 struct Run {
     opened: bool,
     goes_on: bool,
@@ -389,12 +389,12 @@ fn show(run: Run, out: &mut [u8]) -> Run {
 
 fn later_command(run: Run, command: u8, out: &mut [u8]) -> Run {
     match command {
-        b'_n' => open_session(run, run.step.store, out),
-        b'_c' => call_on_piece(run, out),
-        b'_t' => pass_time(run, out),
-        b'_p' => send_message(run, false, out),
-        b'_e' => send_message(run, true, out),
-        b'_d' => show(run, out),
+        b'N' => open_session(run, run.step.store, out),
+        b'C' => call_on_piece(run, out),
+        b'T' => pass_time(run, out),
+        b'P' => send_message(run, false, out),
+        b'E' => send_message(run, true, out),
+        b'D' => show(run, out),
         _ => ended(run),
     }
 }
@@ -406,7 +406,7 @@ fn command(run: Run, out: &mut [u8]) -> Run {
         return stopped(run, read);
     };
     let c = one[0];
-    if c == b'_o' {
+    if c == b'O' {
         let store = store::empty_store();
         return open_session(run, store, out);
     }

@@ -14,7 +14,7 @@ use store::tables::table_at;
 use store::{Entry, TABLES, Table};
 
 // How a call ends: what it returns, and the sending state afterwards.
-#[derive(Drop)]
+#[derive(Clone, Copy)]
 pub struct Finished {
     pub sent: Sent,
     pub sending: Sending,

@@ -12,7 +12,7 @@ use store::Store;
 use store_scan::{entry_at, store_ok};
 
 // What is asked for: the entry at a place, with this update ID, or else the definition of the table at a place, with this ID.
-#[derive(Drop)]
+#[derive(Clone, Copy)]
 pub struct Ask {
     pub entry: bool,
     pub id: u32,
@@ -20,14 +20,14 @@ pub struct Ask {
 }
 
 // What a sending call gives back: the length of the message, or the refusal's number.
-#[derive(Drop)]
+#[derive(Clone, Copy)]
 pub enum Sent {
     Sent(usize),
     Refused(u8),
 }
 
 // What sending by value gives back: what the lent call returns, and the record that it leaves.
-#[derive(Drop)]
+#[derive(Clone, Copy)]
 pub struct Step {
     pub sent: Sent,
     pub session: Session,

@@ -29,7 +29,7 @@ pub const ESTABLISHED: u32 = 2;
 // What the session knows of the table at a place: the ID that the sender bound to it, where `bound` is 1, and the ID of its last
 // committed update, where `updated` is 1.
 #[repr(C)]
-#[derive(Drop)]
+#[derive(Clone, Copy)]
 pub struct Binding {
     pub bound: u32,
     pub updated: u32,
@@ -40,7 +40,7 @@ pub struct Binding {
 // The record but for its unfinished bytes. `closed` is 1 for a closed session, and `number` is then the number it was closed with.
 // `current` is 0 for no current table, else its place plus 1. Only the first bytes of a name's array are the name.
 #[repr(C)]
-#[derive(Drop)]
+#[derive(Clone, Copy)]
 pub struct Connection {
     pub phase: u32,
     pub closed: u32,
@@ -56,7 +56,7 @@ pub struct Connection {
 // The sending state between two calls. `defined` is 0 where no table was defined to the peer, else the place of the one defined last plus 1.
 // `sent` is 1 where an entry was sent since that definition, and `last` is then the update ID of the last one.
 #[repr(C)]
-#[derive(Drop)]
+#[derive(Clone, Copy)]
 pub struct Sending {
     pub defined: usize,
     pub sent: u32,
@@ -65,7 +65,7 @@ pub struct Sending {
 
 // The session record. The first `len` bytes of `buffer` are the unfinished bytes. Reading uses all of it but `sending`.
 #[repr(C)]
-#[derive(Drop)]
+#[derive(Clone, Copy)]
 pub struct Session {
     pub connection: Connection,
     pub len: usize,
@@ -76,7 +76,7 @@ pub struct Session {
 // ---- answers
 
 // How an update was committed: a new entry, or a known one whose values were replaced.
-#[derive(Drop)]
+#[derive(Clone, Copy)]
 pub enum Commit {
     New,
     Replaced,
@@ -84,7 +84,7 @@ pub enum Commit {
 
 // What a call answers: more bytes are wanted, a message of some kind with its fields, or a refusal with its number and, where a body can't
 // be read, the offset in the body at which the failing field starts.
-#[derive(Drop)]
+#[derive(Clone, Copy)]
 pub enum Answer {
     More,
     Hello {
@@ -119,7 +119,7 @@ pub enum Answer {
 }
 
 // What a call gives back: the bytes taken, the reply's length and the answer.
-#[derive(Drop)]
+#[derive(Clone, Copy)]
 pub struct Outcome {
     pub taken: usize,
     pub reply_len: usize,
@@ -127,14 +127,14 @@ pub struct Outcome {
 }
 
 // An answer's values: the first `count` of `numbers`, zeros after them.
-#[derive(Drop)]
+#[derive(Clone, Copy)]
 pub struct Values {
     pub numbers: [u64; 4],
     pub count: u32,
 }
 
 // A reply: the first `len` of `bytes`, zeros after them. No reply of a call is longer than twelve bytes.
-#[derive(Drop)]
+#[derive(Clone, Copy)]
 pub struct Reply {
     pub bytes: [u8; 12],
     pub len: usize,

@@ -1,5 +1,5 @@
 // Where an entry goes: to the place of the entry held with its table and key, else to the lowest free place.
-#[derive(Drop)]
+#[derive(Clone, Copy)]
 pub enum Place {
     Held(usize),
     Free(usize),

@@ -30,7 +30,7 @@ pub const DATA_TYPES_MAX: u32 = 0x7_ffff;
 // A table. `held` is 1 for a held table and 0 for a free place, `timed` is 1 where expiry and periods are known and 0 where there are none.
 // Only the first `name_len` bytes of `name`, and only the periods of rate types present, are values; the others are written as zero.
 #[repr(C)]
-#[derive(Drop)]
+#[derive(Clone, Copy)]
 pub struct Table {
     pub held: u32,
     pub key_type: u32,
@@ -46,7 +46,7 @@ pub struct Table {
 // An entry of the table at place `table`. `timed` is 1 for an entry with `remaining` milliseconds left, and 0 for one without a time, whose
 // `remaining` is written as zero. The integers of data type t other than 0 stand in `values` from the slot of t on.
 #[repr(C)]
-#[derive(Drop)]
+#[derive(Clone, Copy)]
 pub struct Entry {
     pub held: u32,
     pub server_id: i32,
@@ -60,7 +60,7 @@ pub struct Entry {
 
 // Tables, the number of held entries of each table, and entries, by place.
 #[repr(C)]
-#[derive(Drop)]
+#[derive(Clone, Copy)]
 pub struct Store {
     pub tables: [Table; TABLES],
     pub counts: [u32; TABLES],
@@ -106,7 +106,7 @@ pub fn make_entry(
 }
 
 // What a definition says of its table besides the name.
-#[derive(Drop)]
+#[derive(Clone, Copy)]
 pub struct Definition {
     pub key_type: u32,
     pub key_len: u32,

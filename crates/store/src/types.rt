@@ -5,7 +5,7 @@ ghost use Rattle.store.specs.Limits.{key_kind, is_known, is_string, key_length_f
 use crate::{KEY_MAX, RATES, VALUES};
 
 // What a key type says of its keys.
-#[derive(Drop)]
+#[derive(Clone, Copy)]
 pub enum KeyKind {
     Integer,
     Ipv4,

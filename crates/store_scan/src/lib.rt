@@ -20,21 +20,21 @@ use store_soundness::keys::keys_distinct;
 use store_soundness::table::tables_ok;
 
 // What a scan is asked: the tables that the entries are tested with, and an entry whose place is looked for.
-#[derive(Drop)]
+#[derive(Clone, Copy)]
 pub struct Query {
     pub tables: [Table; TABLES],
     pub entry: Entry,
 }
 
 // Whether two hashes are equal, and the hash of the sought key.
-#[derive(Drop)]
+#[derive(Clone, Copy)]
 struct KeyHashes {
     equal: bool,
     sought: u32,
 }
 
 // Whether all entries are sound, no two have one table and key, and the counts are theirs; and if so, where the sought entry goes.
-#[derive(Drop)]
+#[derive(Clone, Copy)]
 pub struct Scanned {
     pub sound: bool,
     pub place: Place,

@@ -10,7 +10,7 @@ pub const FAILED: isize = -1;
 pub const INTERRUPTED: isize = -2;
 
 // How reading so many bytes ended.
-#[derive(Drop)]
+#[derive(Clone, Copy)]
 pub enum Filled {
     Whole,
     End,
@@ -18,7 +18,7 @@ pub enum Filled {
 }
 
 // What follows a read: bytes came, it is made again, or it was the last.
-#[derive(Drop)]
+#[derive(Clone, Copy)]
 pub enum Next {
     Bytes,
     Again,

@@ -7,7 +7,7 @@ ghost use Rattle.text.specs.System.{WrittenAfter, WrittenFor};
 use libc::STDOUT_FILENO;
 
 // The position behind the text that isn't written yet, and whether all text before it was written.
-#[derive(Drop)]
+#[derive(Clone, Copy)]
 pub struct Page {
     pub next: usize,
     pub written: bool,

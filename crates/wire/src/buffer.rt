@@ -8,7 +8,7 @@ use crate::fixed::write_number;
 use crate::write_int;
 
 // What writing into lent room gives: the position after the bytes written, or no room for them.
-#[derive(Drop)]
+#[derive(Clone, Copy)]
 pub enum Fit {
     Next(usize),
     NoRoom,

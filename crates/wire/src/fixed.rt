@@ -3,7 +3,7 @@ ghost use Rattle.std.specs.Prelude.{◌≡◌, ◌<◌};
 ghost use Rattle.wire.specs.Number.{read_number, encode_number};
 
 // What reading a 4-byte number finds.
-#[derive(Drop)]
+#[derive(Clone, Copy)]
 pub enum FourBytes {
     Value { value: u32, next: usize },
     Short,

@@ -13,7 +13,7 @@ const MOST_BYTES: usize = 10;
 
 // What reading an encoded integer finds: a value and the position after it, too few bytes, or an overflow; in the last two cases with how
 // many bytes were looked at.
-#[derive(Drop)]
+#[derive(Clone, Copy)]
 pub enum Int {
     Value { value: u64, next: usize },
     Short { looked: usize },
@@ -91,7 +91,7 @@ pub fn read_int(s: &[u8], at: usize) -> Int
 }
 
 // The bytes of an encoded integer: the first `len` of `bytes`, and zeros after them.
-#[derive(Drop)]
+#[derive(Clone, Copy)]
 pub struct Encoded {
     pub bytes: [u8; 10],
     pub len: usize,

@@ -6,7 +6,7 @@ ghost use Rattle.wire.specs.Server.{server_word, server_id_of, read_server_id};
 use crate::{Int, read_int};
 
 // What reading a value with a limit finds. OutOfRange: the integer overflows or is over the limit.
-#[derive(Drop)]
+#[derive(Clone, Copy)]
 pub enum Field {
     Value { value: u64, next: usize },
     Short,
@@ -14,14 +14,14 @@ pub enum Field {
 }
 
 // What a 64-bit word stands for as a server ID.
-#[derive(Drop)]
+#[derive(Clone, Copy)]
 pub enum Signed {
     Id(i32),
     OutOfRange,
 }
 
 // What reading a server ID finds.
-#[derive(Drop)]
+#[derive(Clone, Copy)]
 pub enum ServerId {
     Id { id: i32, next: usize },
     Short,
