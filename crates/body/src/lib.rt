@@ -1,5 +1,7 @@
 // The bodies of stick table messages: fields, and the bodies of a switch and an acknowledgement, read from a lent slice; definitions and
 // updates written.
+#![tactic(auto)]
+
 pub mod definition;
 pub mod shape;
 pub mod string_key;

@@ -2,6 +2,8 @@
 // types, remaining times and table names. A line with # says what is tried; the lines below it are those of the listing, with `more` for
 // more wanted, `passed` and the number for time that passes, then the entries afterwards where values or times are tried, and where a call
 // has to change nothing, how many bytes it took and the record's lines afterwards.
+#![tactic(auto)]
+
 use dump::lines::put_entry;
 use dump::record_lines::put_record;
 use libc::STDOUT_FILENO;

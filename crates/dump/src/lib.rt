@@ -1,4 +1,6 @@
 // Record and store as lines, for the program `replay`.
+#![tactic(auto)]
+
 pub mod bound;
 pub mod counts;
 pub mod entry;

@@ -1,4 +1,6 @@
 // The header of a message and the length of its body, judged on the unfinished bytes.
+#![tactic(auto)]
+
 ghost use Rattle.std.specs.Prelude.{◌≡◌};
 ghost use Rattle.wire.specs.Integer.{read_int};
 ghost use Rattle.frame.specs.Frame.{header_of, with_length, judge_frame};

@@ -1,5 +1,7 @@
 // The handshake of the peers protocol: a hello read and written, a status read, and which names may be given at opening.
 // The types that the modules share stand here.
+#![tactic(auto)]
+
 pub mod judging;
 pub mod lines;
 pub mod names;

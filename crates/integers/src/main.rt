@@ -6,6 +6,7 @@
 //   number V HEX R N     the four bytes of V, and the number R and next position N read back from them
 //   put V AT ANSWER HEX  V's encoding put at AT of four bytes of 170: the next position or `full`, and the room afterwards
 // Numbers are decimal, bytes are hex.
+#![tactic(auto)]
 
 fn space() {
     io::write_all(1, b" ");

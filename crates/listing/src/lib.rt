@@ -1,4 +1,6 @@
 // The listing of a session: the lines of one reading call here, each kind of line in a module.
+#![tactic(auto)]
+
 pub mod answer;
 pub mod end;
 pub mod reply;

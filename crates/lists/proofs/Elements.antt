@@ -12,7 +12,7 @@ use denote.Shadow.{shadow}
 
 -- of an array that is a field of a struct, whose relation stands at a map over the list
 module _ {X : Type 0} (R : RattleType) (f : X → R.Denot) (P : X → Type 0) (one : (x : X) (vs : List Val) → Is R (f x) vs → P x) where
-  each-mapped : (xs : List X) (us : List Val) → shadow (each R.Denot R.own (map f xs) us) → (d : X) (i : ℕ) → i < length xs → P (get_or xs i d)
+  each-mapped : (xs : List X) (us : List Val) → shadow (each R.Denot R.own_val (map f xs) us) → (d : X) (i : ℕ) → i < length xs → P (get_or xs i d)
   each-mapped [] us s d i h = absurd (omega arith)
   each-mapped (x ∷ xs) [] s d i h = absurd s
   each-mapped (x ∷ xs) (u ∷ us) s d zero h = one x (u ∷ []) s.0

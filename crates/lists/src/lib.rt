@@ -1,4 +1,6 @@
 // Byte strings and places in a list: what the layers above share.
+#![tactic(auto)]
+
 ghost use Rattle.std.specs.Prelude.{◌≡◌, min, ◌≤◌, ◌<◌, length, take};
 ghost use Rattle.lists.specs.Lists.{every, eq_bytes, front, pad_to, is_zero};
 

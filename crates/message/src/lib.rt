@@ -1,4 +1,6 @@
 // Messages past the handshake: what each does to session and store, and its reply.
+#![tactic(auto)]
+
 pub mod changes;
 pub mod commit;
 pub mod control;

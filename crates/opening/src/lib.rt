@@ -1,4 +1,6 @@
 // Opening a session as answerer or caller, and the record of a refused opening.
+#![tactic(auto)]
+
 pub mod fresh;
 
 ghost use Rattle.std.specs.Prelude.{◌≡◌, length};

@@ -1,4 +1,6 @@
 // Time that passes on a store: every entry is tested and changed where it lies.
+#![tactic(auto)]
+
 ghost use Rattle.std.specs.Prelude.{◌≡◌};
 ghost use Rattle.store.specs.Time.{pass_time, PassPromise};
 

@@ -1,5 +1,7 @@
 // Lists what a peer sends: standard input is read as answerer `east`, which accepts `west`, in pieces as they come.
 // The last line, `end`, is left out where a read or a write failed.
+#![tactic(auto)]
+
 ghost use Rattle.std.specs.Prelude.{◌≤◌, ◌<◌};
 
 use listing::end::put_end;

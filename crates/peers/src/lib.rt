@@ -1,5 +1,7 @@
 // The library for hosts in C and Rust: opening, reading, sending, passing time, an empty store and the version, each defined on every input.
 // An enum can't cross the border to C, so an answer goes as its number and values.
+#![tactic(auto)]
+
 pub mod numbers;
 
 ghost use Rattle.std.specs.Prelude.{◌≡◌, length};

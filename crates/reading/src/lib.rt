@@ -1,4 +1,6 @@
 // The reading call: one session record, one store, a piece of the stream and room for a reply.
+#![tactic(auto)]
+
 pub mod counts;
 pub mod finish;
 pub mod results;

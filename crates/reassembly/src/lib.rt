@@ -1,4 +1,6 @@
 // Bytes of a stream until they end a message or show a refusal, and what they then come to.
+#![tactic(auto)]
+
 pub mod handshakes;
 pub mod judge;
 pub mod piece;

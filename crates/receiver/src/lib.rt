@@ -1,1 +1,2 @@
 // The byte model and the claim over lists of reading calls. The calls themselves are in the crate `reading`.
+#![tactic(auto)]

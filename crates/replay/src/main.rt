@@ -11,6 +11,8 @@
 //   D                      a dump of record and store
 // Anything else ends the script, and so do all but O before the first O and the end of the input: `end`. That line is left out where a
 // read or a write failed.
+#![tactic(auto)]
+
 use dump::counts::put_counts;
 use dump::lines::{put_entry, put_table};
 use dump::record_lines::put_record;

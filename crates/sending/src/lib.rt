@@ -1,4 +1,6 @@
 // The sending half: a definition of a table, and then its entries, each as one whole message. Record and store are lent; the store is only read.
+#![tactic(auto)]
+
 pub mod finish;
 pub mod messages;
 pub mod plans;

@@ -1,6 +1,8 @@
 // The session record, one for each connection: what reading and sending need to know between two calls, as plain numbers; and what a call
 // answers.
 // The lender of a record can put any number anywhere: `session_ok`, of the crate `session_soundness`, says whether it is one that the rules allow with a store.
+#![tactic(auto)]
+
 pub mod answers;
 pub mod bound_ids;
 pub mod reply_bytes;

@@ -1,4 +1,6 @@
 // Whether the rules allow a session record with a store: "Not sound means", as far as it concerns the record. A module for each kind of fault.
+#![tactic(auto)]
+
 pub mod bindings;
 pub mod current;
 pub mod fields;

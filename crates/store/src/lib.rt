@@ -1,5 +1,7 @@
 // The store of document 01: 8 table places and 128 entry places, as plain numbers.
 // The lender of a store can put any number anywhere; the tests of the crate `store_soundness` say whether the rules allow it.
+#![tactic(auto)]
+
 pub mod counts;
 pub mod entries;
 pub mod names;

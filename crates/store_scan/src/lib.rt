@@ -1,4 +1,6 @@
 // A store's entries tested and looked up behind a reference. All of them are copied only where two hashes are equal.
+#![tactic(auto)]
+
 ghost use Rattle.std.specs.Prelude.{◌≡◌, get_or};
 ghost use Rattle.lists.specs.Lists.{first_place};
 ghost use Rattle.store_soundness.specs.Hashes.{hash_end};

@@ -1,4 +1,6 @@
 // Numbers on the wire: the encoded integer, 4-byte numbers, values of a width, the server ID, and writing into lent room.
+#![tactic(auto)]
+
 pub mod buffer;
 pub mod fixed;
 pub mod values;

@@ -1,0 +1,8 @@
+use mathlib.Core.Path.{ap, ◌∙◌}
+use Rattle.peers.specs.Numbers.{raw_opened}
+use Rattle.peers.proofs.peers_open_caller.Goals as goal
+
+pub returns : goal.returns
+returns c =
+    let o = c.open_caller.ensures in
+    (c.raw_opened.ensures ∙ ap raw_opened o.0, o.1)

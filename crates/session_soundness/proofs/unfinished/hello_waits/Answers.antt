@@ -1,0 +1,12 @@
+use Rattle.session_soundness.specs.Sound.{hello_waits}
+use mathlib.Core.Path.{sym, ap, ◌∙◌}
+use Rattle.session_soundness.proofs.unfinished.hello_waits.Goals as goal
+
+pub returns-in-Waiting : goal.returns-in-Waiting
+returns-in-Waiting c = sym (ap hello_waits (sym c.hello_of.ensures ∙ c.in-Waiting.is))
+
+pub returns-in-Accepted : goal.returns-in-Accepted
+returns-in-Accepted c = sym (ap hello_waits (sym c.hello_of.ensures ∙ c.in-Accepted.is))
+
+pub returns-in-Refused : goal.returns-in-Refused
+returns-in-Refused c = sym (ap hello_waits (sym c.hello_of.ensures ∙ c.in-Refused.is))

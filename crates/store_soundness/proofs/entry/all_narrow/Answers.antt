@@ -1,0 +1,31 @@
+use mathlib.Core.Logic.{⊎_elim}
+use Prim.Native.Nat.{◌-◌}
+use Rattle.lists.proofs.Passing.{passing, pass-good, pass-bad}
+use Rattle.store_soundness.proofs.entry.Narrow.{narrow-passes, wide-fails}
+use Rattle.store_soundness.proofs.entry.all_narrow.Goals as goal
+
+pub loop-i-init : goal.loop-i-init
+loop-i-init c = search passing
+
+pub offset_bounds-values-i : goal.offset_bounds-values-i
+offset_bounds-values-i c = search passing
+
+pub bounds-values-i : goal.bounds-values-i
+bounds-values-i c = search passing
+
+pub overflow_add-i : goal.overflow_add-i
+overflow_add-i c = search passing
+
+pub loop-i-smaller : goal.loop-i-smaller
+loop-i-smaller c = search passing
+
+pub loop-i-preserved : goal.loop-i-preserved
+loop-i-preserved c =
+    let r = c.loop-i.invariant in
+    ⊎_elim
+    (λ w. pass-bad r 0 c.loop-i-test.true (wide-fails _ w.0.taken) w.1)
+    (λ w. pass-good r 0 c.loop-i-test.true (narrow-passes _ w.0.left) w.1)
+    c.if-values-i-ge-VALUE_END.branch
+
+pub returns : goal.returns
+returns c = search passing
