@@ -47,6 +47,16 @@ pub ruleset keying = (rules, long-other, short-as)
 
 -- ---- the loop over the key's bytes: those of `entry`, and those of an entry e of the store
 
+module _ (entry e : Entry) where
+  -- from byte j on the keys say what they say as a whole
+  pub record Matching (j : ℕ) : Type 0 where
+    pub may : may_equal entry e ≡ true
+    pub within : j ≤ entry.key_len
+    pub rest : eq_bytes (key_of e) (key_of entry) ≡ eq_bytes (drop j (key_of e)) (drop j (key_of entry))
+
+  pub match-start : may_equal entry e ≡ true → Matching 0
+  match-start h = record { may = h; within = omega arith; rest = refl }
+
 module _ (entry e : Entry) (long : length entry.key ≡ 64) (e-long : length e.key ≡ 64) where
   abbrev n : ℕ
   n = entry.key_len
@@ -78,16 +88,7 @@ module _ (entry e : Entry) (long : length entry.key ≡ 64) (e-long : length e.k
       ∙ and-true (entry_of entry.table (length (key_of entry)) e) (eq_bytes (key_of e) (key_of entry))
       (ap (λ (m : ℕ). entry_of entry.table m e) (length-of (leb-true n 64 t)) ∙ and_second (leb n 64) (entry_of entry.table n e) h)
 
-  -- from byte j on the keys say what they say as a whole
-  pub record Matching (j : ℕ) : Type 0 where
-    pub may : may_equal entry e ≡ true
-    pub within : j ≤ n
-    pub rest : eq_bytes (key_of e) (key_of entry) ≡ eq_bytes (drop j (key_of e)) (drop j (key_of entry))
-
-  pub match-start : may_equal entry e ≡ true → Matching 0
-  match-start h = record { may = h; within = omega arith; rest = refl }
-
-  module _ {j : ℕ} (r : Matching j) where
+  module _ {j : ℕ} (r : Matching entry e j) where
     byte : j < n → get_or (key_of entry) j 0 ≡ get_or entry.key j 0
     unfolding key_of
     byte l = get_or-take n entry.key j 0 l
@@ -105,7 +106,7 @@ module _ (entry e : Entry) (long : length entry.key ≡ 64) (e-long : length e.k
     e-inside : j < n → j < length (key_of e)
     e-inside l = omega (arith, e-length-of r.may)
 
-    pub match-next : j < n → get_or e.key j 0 ≡ get_or entry.key j 0 → Matching (j + 1)
+    pub match-next : j < n → get_or e.key j 0 ≡ get_or entry.key j 0 → Matching entry e (j + 1)
     match-next l q =
         record {
           may = r.may;

@@ -53,7 +53,8 @@ fn codes_of(store: &Store, tables: [Table; TABLES]) -> [u32; ENTRIES]
         let held = store.entries[i].held;
         if held != 0 {
             let e = store.entries[i];
-            found = count_entry(found, held, e.table);
+            let counted = count_entry(found, held, e.table);
+            found = counted;
             codes[i] = entry_code(tables, e);
         }
         i += 1;
