@@ -37,7 +37,7 @@ pub struct Step {
 
 // Writes one whole message to the front of the room. For a definition the entry at its place is copied too, and not looked at.
 pub fn send_lent(session: &mut Session, store: &Store, ask: Ask, room: &mut [u8]) -> Sent
-    ensures* { λ r. ⌜ SendPromise session.old store.now (record { asked = asked_by ask; room = room.old; result = r; session = session.new; final = room.new }) ⌝ }
+    ensures { SendPromise session.old store.now (record { asked = asked_by ask; room = room.old; result = result; session = session.new; final = room.new }) }
 {
     let sound = store_ok(store);
     let tables = store.tables;
@@ -49,7 +49,7 @@ pub fn send_lent(session: &mut Session, store: &Store, ask: Ask, room: &mut [u8]
 
 // The same by value. The record is lent where it lies in the step that is returned.
 pub fn send(session: Session, store: Store, ask: Ask, room: &mut [u8]) -> Step
-    ensures* { λ r. ⌜ SendPromise session store (record { asked = asked_by ask; room = room.old; result = r.sent; session = r.session; final = room.new }) ⌝ }
+    ensures { SendPromise session store (record { asked = asked_by ask; room = room.old; result = result.sent; session = result.session; final = room.new }) }
 {
     let mut step = Step {
         sent: Sent::Refused(0),
