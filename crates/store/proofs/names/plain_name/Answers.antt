@@ -1,4 +1,4 @@
-use Rattle.std.proofs.Common.{ap, refl}
+use Rattle.std.proofs.Common.{ap}
 use mathlib.Core.Bool.{not}
 use Rattle.store.proofs.PlainNames.{naming-starts, name-broken, name-goes-on, name-ends}
 use Rattle.store.proofs.names.plain_name.Goals as goal
