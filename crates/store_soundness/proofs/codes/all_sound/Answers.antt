@@ -1,4 +1,3 @@
-use Prim.Native.Nat.{◌-◌}
 use Rattle.lists.proofs.Passing.{passing, pass-good, pass-bad}
 use Rattle.store_soundness.proofs.codes.Coding.{code-passes, code-fails}
 use Rattle.store_soundness.proofs.codes.all_sound.Goals as goal

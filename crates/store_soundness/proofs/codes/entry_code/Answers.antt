@@ -2,7 +2,6 @@ use lib.ListN.{length}
 use mathlib.Core.Path.{◌≡◌, ap}
 use mathlib.Core.Bool.{not}
 use borrow.Author.Rules.{rules}
-use Rattle.lists.proofs.Maps.{length-mapped}
 use Rattle.store_soundness.proofs.codes.Coding.{coding, code_free, code-flag, code-place, code-rows, code-held}
 use Rattle.store_soundness.proofs.codes.entry_code.Goals as goal
 

@@ -1,4 +1,3 @@
-use Prim.Native.Nat.{◌-◌}
 use Rattle.lists.proofs.Passing.{passing, pass-good, pass-bad}
 use Rattle.store_soundness.proofs.entry.Narrow.{narrow-passes, wide-fails}
 use Rattle.store_soundness.proofs.entry.all_narrow.Goals as goal

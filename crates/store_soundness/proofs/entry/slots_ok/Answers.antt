@@ -1,5 +1,4 @@
 use Rattle.store_soundness.proofs.entry.EntryTests.{slots, slots_next, slots-narrow}
-use Prim.Native.Nat.{◌-◌}
 use mathlib.Core.Path.{ap}
 use mathlib.Core.Bool.{not}
 use Rattle.store_soundness.proofs.entry.slots_ok.Goals as goal

@@ -1,4 +1,3 @@
-use Prim.Native.Nat.{◌-◌}
 use Rattle.lists.proofs.Passing.{passing, pass-good, pass-bad}
 use Rattle.store_soundness.proofs.hashes.Hashing.{hash-same, hash-other}
 use Rattle.store_soundness.proofs.hashes.hash_apart.Goals as goal

@@ -1,6 +1,5 @@
 use mathlib.Core.Path.{ap}
 use mathlib.Core.Bool.{not}
-use Prim.Native.Nat.{◌-◌}
 use Rattle.store_soundness.proofs.hashes.Hashing.{pairs, pair-free, pair-apart}
 use Rattle.store_soundness.proofs.hashes.hashes_distinct.Goals as goal
 use Rattle.store_soundness.proofs.hashes.hashes_distinct.Goals.{then-hash-lt-HASH_END+else-not-hash_apart, else-hash-lt-HASH_END}

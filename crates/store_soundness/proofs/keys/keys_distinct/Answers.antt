@@ -1,7 +1,6 @@
 use Rattle.store.proofs.Lookup.{array-keys}
 use Rattle.store_soundness.proofs.Pairs.{held_start, held-equal, held-passed}
 use Rattle.store_soundness.proofs.keys.Keying.{equal-keys, key-free}
-use Prim.Native.Nat.{◌-◌}
 use Rattle.store_soundness.proofs.keys.keys_distinct.Goals as goal
 use Rattle.store_soundness.proofs.keys.keys_distinct.Goals.{then-e-eq1+else-loop-j-test, else-e-eq1}
 

@@ -1,7 +1,6 @@
 use Rattle.store.proofs.Lookup.{array-names}
 use Rattle.store_soundness.proofs.Pairs.{held_start, held-equal, held-passed}
 use Rattle.store_soundness.proofs.names.Naming.{naming, name_free}
-use Prim.Native.Nat.{◌-◌}
 use Rattle.store_soundness.proofs.names.names_distinct.Goals as goal
 use Rattle.store_soundness.proofs.names.names_distinct.Goals.{then-t-eq1+else-loop-j-test, else-t-eq1}
 
