@@ -6,6 +6,7 @@ use mathlib.Core.Path.{◌≡◌, refl, sym, ap, ◌∙◌, subst}
 use mathlib.Core.List.{List, [], ◌∷◌, map}
 use lib.ListN.{length, get_or, set, replicate, take}
 use Rattle.std.proofs.Common.{add-one}
+use Rattle.std.proofs.lemmas.List.{get_or_default}
 use Rattle.store.specs.declared.Table.{Table}
 use Rattle.store.specs.declared.Entry.{Entry}
 use Rattle.store.specs.declared.Store.{Store}
@@ -44,54 +45,60 @@ module _ (tables : List Table) where
   filled-free (e ∷ es) zero lt q = ap (λ (c : ℕ). c ∷ filled tables es zero) (sym q)
   filled-free (e ∷ es) (suc i) lt q = ap (λ (cs : List ℕ). entry_code tables e ∷ cs) (filled-free es i (le_of_suc-le-suc lt) q)
 
--- before a turn: the codes and the counts of the first i entries
+-- before a turn: the codes and the counts of the first i entries. How many there are is known once one of them is read
 pub record Filling (tables : List Table) (es : List Entry) (cs ds : List ℕ) (i : ℕ) : Type 0 where
-  pub size : length es ≡ 128
   pub within : i ≤ 128
-  pub codes : cs ≡ filled tables es i
+  pub size : 0 < i → length es ≡ 128
+  pub codes : length es ≡ 128 → cs ≡ filled tables es i
   pub found : ds ≡ counts_of (take i es)
 
 module _ (tables : List Table) (es : List Entry) where
-  pub fill_start : length es ≡ 128 → Filling tables es (replicate 128 2147483647) (replicate 8 0) 0
-  fill_start n =
+  pub fill_start : Filling tables es (replicate 128 2147483647) (replicate 8 0) 0
+  fill_start =
       record {
-        size = n;
         within = omega arith;
-        codes = ap (λ (k : ℕ). replicate k 2147483647) (sym n) ∙ sym (filled_none tables es);
+        size = λ l. absurd (omega arith);
+        codes = λ n. ap (λ (k : ℕ). replicate k 2147483647) (sym n) ∙ sym (filled_none tables es);
         found = sym (counted_none es);
       }
 
-  module _ {codes found : List ℕ} {i : ℕ} (r : Filling tables es codes found i) (l : i < 128) where
+  module _ {cs ds : List ℕ} {i : ℕ} (r : Filling tables es cs ds i) (n : length es ≡ 128) (l : i < 128) where
     inside : i < length es
-    inside = omega (arith, r.size)
+    inside = omega arith
+
+    -- the default of a read doesn't matter
+    same : (d : Entry) → get_or es i d ≡ get_or es i no_entry
+    same d = get_or_default es i d no_entry inside
 
     -- a held place: its code is stored, and it is counted
-    pub fill_held : (e : Entry) (more : List ℕ) (code : ℕ) → e ≡ get_or es i no_entry → more ≡ counted e.held e.table found → code ≡ entry_code tables e → Filling tables es (set codes i code) more (i + 1)
-    fill_held e more code p q t =
+    pub fill_held : (d : Entry) (more : List ℕ) (code : ℕ) → more ≡ counted (get_or es i d).held (get_or es i d).table ds → code ≡ entry_code tables (get_or es i d) → Filling tables es (set cs i code) more (i + 1)
+    fill_held d more code q t =
         rw add-one
         (record {
-          size = r.size;
           within = l;
-          codes = ap (set codes i) (t ∙ ap (entry_code tables) p) ∙ ap (λ (cs : List ℕ). set cs i (entry_code tables (get_or es i no_entry))) r.codes ∙ filled_put tables es i inside;
-          found = q ∙ ap (λ (x : Entry). counted x.held x.table found) p ∙ ap (counted (get_or es i no_entry).held (get_or es i no_entry).table) r.found ∙ counted_next es i inside l;
+          size = λ _. n;
+          codes = λ _. ap (set cs i) (t ∙ ap (entry_code tables) (same d)) ∙ ap (λ (xs : List ℕ). set xs i (entry_code tables (get_or es i no_entry))) (r.codes n) ∙ filled_put tables es i inside;
+          found = q ∙ ap (λ (x : Entry). counted x.held x.table ds) (same d) ∙ ap (counted (get_or es i no_entry).held (get_or es i no_entry).table) r.found ∙ counted_next es i inside l;
         })
 
     -- a free one
-    pub fill_free : (get_or es i no_entry).held ≡ 0 → Filling tables es codes found (i + 1)
-    fill_free h =
+    pub fill_free : (d : Entry) → (get_or es i d).held ≡ 0 → Filling tables es cs ds (i + 1)
+    fill_free d h =
+        let z : (get_or es i no_entry).held ≡ 0 = ap (λ (x : Entry). x.held) (sym (same d)) ∙ h in
         rw add-one
         (record {
-          size = r.size;
           within = l;
-          codes = r.codes ∙ filled-free tables es i inside (free-code tables (get_or es i no_entry) h);
-          found = r.found ∙ counted-free es i inside l h;
+          size = λ _. n;
+          codes = λ _. r.codes n ∙ filled-free tables es i inside (free-code tables (get_or es i no_entry) z);
+          found = r.found ∙ counted-free es i inside l z;
         })
 
 -- after the loop
-pub fill_end : (tables : List Table) (s : Store) (codes found : List ℕ) (i : ℕ) → Filling tables s.entries codes found i → 128 ≤ i → (r : List ℕ) → r ≡ counted_codes codes found s.counts → r ≡ store_codes tables s
+pub fill_end : (tables : List Table) (s : Store) (cs ds : List ℕ) (i : ℕ) → Filling tables s.entries cs ds i → 128 ≤ i → (r : List ℕ) → r ≡ counted_codes cs ds s.counts → r ≡ store_codes tables s
 unfolding store_codes
-fill_end tables s codes found i f l r q =
-    let n : i ≡ length s.entries = omega (arith, f.within, f.size) in
-    let cs : codes ≡ map (entry_code tables) s.entries = f.codes ∙ ap (filled tables s.entries) n ∙ filled-all tables s.entries in
-    let ds : found ≡ counts_of s.entries = f.found ∙ counted-all s.entries i (sym n) in
-    q ∙ ap (λ (x : List ℕ). counted_codes x found s.counts) cs ∙ ap (λ (x : List ℕ). counted_codes (map (entry_code tables) s.entries) x s.counts) ds
+fill_end tables s cs ds i f l r q =
+    let m : length s.entries ≡ 128 = f.size (omega arith) in
+    let n : i ≡ length s.entries = omega (arith, f.within) in
+    let a : cs ≡ map (entry_code tables) s.entries = f.codes m ∙ ap (filled tables s.entries) n ∙ filled-all tables s.entries in
+    let b : ds ≡ counts_of s.entries = f.found ∙ counted-all s.entries i (sym n) in
+    q ∙ ap (λ (x : List ℕ). counted_codes x ds s.counts) a ∙ ap (λ (x : List ℕ). counted_codes (map (entry_code tables) s.entries) x s.counts) b
