@@ -1,6 +1,6 @@
-use Rattle.std.proofs.Common.{rules, ◌≡◌, get_or, length, false, sym, ◌∙◌}
+use Rattle.std.proofs.Common.{rules, ◌≡◌, get_or, length, sym, ◌∙◌}
 use Rattle.store.proofs.Lookup.{blank_entry}
-use Rattle.store_scan.proofs.Looking.{look, look-next, look-past, look-here, look-end, match-start, match-next, byte-within, byte-differs, matched, may-not, key-long}
+use Rattle.store_scan.proofs.Looking.{look, look-next, look-past, look-here, look-end, match-next, byte-within, byte-differs, matched, may-not, key-long}
 use Rattle.store.proofs.Typed.{entries-shape}
 use Rattle.store_scan.proofs.held_place.Goals as goal
 use Rattle.store_scan.proofs.held_place.Goals.{then-codes-i+then-may_equal+else-n-j+then-bytes-j, then-codes-i+else-may_equal, else-codes-i}

@@ -1,4 +1,4 @@
-use Rattle.std.proofs.Common.{◌-◌, ◌≡◌, get_or, length, ◌<◌}
+use Rattle.std.proofs.Common.{◌-◌, ◌≡◌, get_or, length}
 use Rattle.store.proofs.Lookup.{blank_entry}
 use Rattle.store_scan.proofs.Looking.{Looking, Matching}
 use Rattle.store_scan.proofs.held_place.Given as goal
