@@ -10,7 +10,9 @@ ghost use Rattle.sending.specs.Finish.{asked_by};
 
 use crate::finish::finish_send;
 use session::Session;
+use session::lent::session_shaped;
 use store::Store;
+use store::lent::store_shaped;
 use store_scan::{entry_at, store_ok};
 
 // What is asked for: the entry at a place, with this update ID, or else the definition of the table at a place, with this ID.
@@ -39,6 +41,8 @@ pub struct Step {
 pub fn send_lent(session: &mut Session, store: &Store, ask: Ask, room: &mut [u8]) -> Sent
     ensures { SendPromise session.old store.now (record { asked = asked_by ask; room = room.old; result = result; session = session.new; final = room.new }) }
 {
+    store_shaped(store);
+    session_shaped(session);
     let sound = store_ok(store);
     let tables = store.tables;
     let entry = entry_at(store, ask.place);
