@@ -1,5 +1,5 @@
 -- The loop of `pass_entries`: the store with the entries before place i changed, the others as they came, and the counts of those that are left.
-use Rattle.std.proofs.Common.{◌≡◌, ℕ, zero, suc, ◌+◌, ◌≤◌, ◌<◌, List, [], ◌∷◌, map, length, get_or, set, replicate, take, refl, sym, ap, ◌∙◌, subst, arith, add-one}
+use Rattle.std.proofs.Common.{◌≡◌, ℕ, zero, suc, ◌+◌, ◌≤◌, ◌<◌, List, [], ◌∷◌, map, length, get_or, set, replicate, take, refl, sym, ap, ◌∙◌, arith, add-one}
 use lib.ListN.{length-map}
 use Rattle.std.proofs.lemmas.List.{get_or_default}
 use Rattle.lists.proofs.Maps.{map_first, first-none, first-all, first-put, first-stays}
