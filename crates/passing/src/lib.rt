@@ -27,7 +27,8 @@ fn pass_entries(store: &mut Store, milliseconds: u32)
         if held != 0 {
             let e = store.entries[i];
             let left = pass_entry(e, milliseconds);
-            counts = count_entry(counts, left.held, left.table);
+            let counted = count_entry(counts, left.held, left.table);
+            counts = counted;
             store.entries[i] = left;
         }
         i += 1;

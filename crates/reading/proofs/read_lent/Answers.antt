@@ -1,10 +1,7 @@
 -- The reading call: the places that are written lie in their arrays, and the store as it is written is the one that `promised` speaks of.
-use Rattle.std.proofs.Common.{◌≡◌, refl, sym, ◌∙◌, ◌<◌, cond, arith}
+use Rattle.std.proofs.Common.{◌≡◌, sym, ◌∙◌, ◌<◌, arith}
 use Rattle.lists.proofs.Cases.{cond-true, cond-false}
-use Rattle.store.specs.declared.Store.{Store}
-use Rattle.receiver.specs.Promise.{ReadPromise}
-use Rattle.reading.specs.declared.finish.Finished.{Finished}
-use Rattle.reading.proofs.finish.Finishing.{in-entries, in_tables, promised, with_counts, with_entry, with_table, entry_written, table_written, store_written}
+use Rattle.reading.proofs.finish.Finishing.{in-entries, in_tables, promised, with_counts, entry_written, table_written, store_written}
 use Rattle.reading.proofs.read_lent.Goals as goal
 use Rattle.reading.proofs.read_lent.Goals.{then-step, else-step, then-step-2, else-step-2}
 
@@ -28,11 +25,8 @@ pub returns : goal.returns
 returns c =
     promised _ _ _ c.start_read-started.result c.scan-scanned.result _ c.finish_read-step.result c.if-step-2.store _ written c.store_shaped.ensures c.start_read-started.ensures c.scan-scanned.ensures c.finish_read-step.ensures
   where
-    -- the store after each of the two writes
-    u : Store
-    u = with_counts c.args.store.now c.finish_read-step.result.counts
-
-    with-entry : c.if-step.store ≡ entry_written u c.finish_read-step.result
+    -- the store after each of the two tests
+    with-entry : c.if-step.store ≡ entry_written (with_counts c.args.store.now c.finish_read-step.result.counts) c.finish_read-step.result
     with-entry =
         elim c.if-step.branch [
           | then-step w ↦ w.store-is ∙ sym (cond-true _ _ _ w.if-step.true)
