@@ -1,12 +1,11 @@
 -- Where a body broke, of every message that has fields.
-use Prim.Native.Nat.{ℕ, ◌+◌, ◌-◌, ◌≤◌, ◌<◌}
+use Prim.Native.Nat.{ℕ, ◌+◌, ◌≤◌, ◌<◌}
 use native.Mathlib.Omega.{arith}
 use mathlib.Core.Path.{◌≡◌, refl, sym, ap, subst, ◌∙◌}
 use mathlib.Core.Logic.{◌⊎◌, inl, inr}
 use mathlib.Core.List.{List, ◌++◌}
 use mathlib.Core.Bool.{Bool, true, false, cond}
 use lib.ListN.{length, take, length-append, length-take}
-use lib.Dec.{ltb, eqb}
 use borrow.Author.Tests.{le-leb, lt-leb, eq-eqb, ne_eqb}
 use Rattle.lists.proofs.Cases.{lt-or-le, eq-or-ne, split, by-test}
 use Rattle.wire.specs.declared.Int.TheVariants as int
@@ -17,12 +16,12 @@ use Rattle.store.specs.declared.Table.{Table}
 use Rattle.store.specs.Limits.{name_max, plain_name, key_kind, is_string}
 use Rattle.body.specs.declared.Fault.{Fault}
 use Rattle.body.specs.Fields.{Read, got, failed, short, unplain, Reader, and_then, integer, between, integer_of, Span, span_in, bytes, number_read, number4}
-use Rattle.body.specs.Bodies.{Named, name_field, named_fields, Shape, shape_fields, Times, no_times, times_there, times_fields, Definition, defined, rest_fields, definition_fields, switch_fields, Acknowledged, acknowledgement_fields, string_field, key_field, data_fields, Time, keyed, entry_fields, number_or, time_mark, timed_fields, update_fields}
+use Rattle.body.specs.Bodies.{Named, name_field, named_fields, Shape, shape_fields, no_times, times_there, times_fields, Definition, defined, rest_fields, definition_fields, switch_fields, Acknowledged, acknowledgement_fields, string_field, key_field, data_fields, Time, keyed, entry_fields, number_or, time_mark, timed_fields, update_fields}
 use Rattle.body.specs.declared.update.Form.{Form}
 use Rattle.body.specs.Encodings.{entry_start}
-use Rattle.body.specs.Breaks.{Reached, NotBefore, Sized, none_sized, definition_sized, acknowledgement_sized, key_sized, update_sized, cut_sized, Broke, Breaks, BodiesBreak}
+use Rattle.body.specs.Breaks.{Reached, NotBefore, Sized, none_sized, definition_sized, acknowledgement_sized, key_sized, update_sized, cut_sized, Breaks, BodiesBreak}
 use Rattle.body.proofs.Taken.{integer-value}
-use Rattle.body.proofs.Breaking.{BrokeAt, BreaksAt, Regular, Ordinary, why-too, then-breaks, then-regular, next-regular, next-breaks, got-regular, cond-regular}
+use Rattle.body.proofs.Breaking.{BrokeAt, BreaksAt, Regular, Ordinary, why-too, then-breaks, next-regular, next-breaks, got-regular, cond-regular}
 use Rattle.body.proofs.BreakingFields.{like-value, as_long, width-regular, bytes-regular, number-regular, named-regular, shape-regular, times-regular, data-regular, string-regular, integer-starts, width-starts, bytes-starts, number-starts, name-starts}
 
 -- ---- a definition: where its body ends behind the data types, nothing is missing

@@ -1,5 +1,5 @@
 -- Where fields one after another broke, from what holds of each of them at its position.
-use Prim.Native.Nat.{ℕ, ◌+◌, ◌-◌, ◌≤◌, ◌<◌}
+use Prim.Native.Nat.{ℕ, ◌≤◌}
 use native.Mathlib.Omega.{arith}
 use mathlib.Core.Path.{◌≡◌, refl, sym, ap, subst, ◌∙◌}
 use mathlib.Core.List.{List, [], ◌∷◌, ◌++◌}
@@ -11,7 +11,7 @@ use Rattle.body.specs.declared.Failure.{Failure}
 use Rattle.body.specs.declared.Failure.TheVariants as failure
 use Rattle.body.specs.declared.Fault.{Fault}
 use Rattle.body.specs.Fields.{Read, got, failed, fault, short, Reader, and_then, for_each}
-use Rattle.body.specs.Breaks.{Reached, NotBefore, Sized, CutShort, Decided, ByFailure, Broke}
+use Rattle.body.specs.Breaks.{Reached, NotBefore, Sized, CutShort, Decided, ByFailure}
 
 -- two lists that agree in m bytes agree in fewer
 pub agree-fewer : (s t : List ℕ) (n m : ℕ) → n ≤ m → take m t ≡ take m s → take n t ≡ take n s

@@ -1,38 +1,35 @@
 -- Where a body broke: of each field at its position, and of whole bodies.
-use Prim.Native.Nat.{ℕ, ◌+◌, ◌-◌, ◌^◌, ◌≤◌, ◌<◌}
+use Prim.Native.Nat.{ℕ, ◌+◌, ◌≤◌, ◌<◌}
 use native.Mathlib.Omega.{arith}
 use mathlib.Core.Path.{◌≡◌, refl, sym, ap, subst, ◌∙◌}
 use mathlib.Core.Logic.{◌⊎◌, inl, inr}
-use mathlib.Core.List.{List, [], ◌∷◌, ◌++◌}
-use mathlib.Core.Bool.{Bool, true, false, cond}
+use mathlib.Core.List.{List, [], ◌++◌}
+use mathlib.Core.Bool.{Bool, cond}
 use lib.ListN.{length, take, drop, get_or, length-append, length-take, take-append-drop}
-use lib.Seq.{take-append-le, take-add, drop_at, get_or-take}
+use lib.Seq.{take-add, drop_at, get_or-take}
 use lib.IntN.{ℤ, pos}
-use lib.Dec.{ltb, eqb}
-use borrow.Author.Tests.{le-leb, lt-leb, eq-eqb, ne_eqb, eqb-true, eqb-false}
-use Rattle.lists.proofs.Cases.{lt-or-le, eq-or-ne, split, by-test}
+use lib.Dec.{eqb}
+use borrow.Author.Tests.{le-leb, lt-leb}
+use Rattle.lists.proofs.Cases.{lt-or-le, split, by-test}
 use Rattle.wire.specs.declared.Int.{Int}
 use Rattle.wire.specs.declared.Int.TheVariants as int
-use Rattle.wire.specs.declared.fixed.FourBytes.{FourBytes}
-use Rattle.wire.specs.declared.fixed.FourBytes.TheVariants as number
 use Rattle.wire.specs.Integer.{read_int}
-use Rattle.wire.specs.Number.{read_number, number_of}
+use Rattle.wire.specs.Number.{number_of}
 use Rattle.wire.specs.declared.values.Signed.{Signed}
 use Rattle.wire.specs.declared.values.Signed.TheVariants as signed
 use Rattle.wire.specs.Server.{server_before, server_id_of, server_of, read_server_id}
 use Rattle.wire.proofs.Read.{first-end}
 use Rattle.wire.proofs.Numbers.{number_short, number-value}
-use Rattle.store.specs.Limits.{name_max, plain_name, key_kind, is_string, key_length_ok, data_types_ok, present, width_of, slot_types, rate_types}
+use Rattle.store.specs.Limits.{name_max, plain_name, key_length_ok, data_types_ok, present, width_of, slot_types, rate_types}
 use Rattle.wire.proofs.Advance.{advance, short-looked, overflow-inside}
 use Rattle.wire.proofs.Decided.{value-decided, overflow-decided}
-use Rattle.body.specs.declared.Failure.{Failure}
 use Rattle.body.specs.declared.Failure.TheVariants as failure
 use Rattle.body.specs.declared.Fault.{Fault}
-use Rattle.body.specs.Fields.{Read, got, failed, fault, short, outside, unplain, Reader, and_then, for_each, tested, integer, between, integer_of, Span, span_in, bytes, number_read, number4, server_read, server_id}
-use Rattle.body.specs.Bodies.{name_field, named_fields, is_key_type, shape_fields, pair_field, period_field, period_fields, times_there, times_fields, no_times, server_field, slot_field, value_fields, data_fields, string_field, key_field, rest_fields, definition_fields, switch_fields, acknowledgement_fields}
-use Rattle.body.specs.Breaks.{definition_sized, Reached, NotBefore, Sized, EndsInside, cut_integer, cut_sized, Ends, whole_integer, overflowing, whole_name, CutShort, Decided, ByFailure, Broke}
+use Rattle.body.specs.Fields.{Read, got, failed, fault, short, outside, unplain, Reader, and_then, tested, integer, between, integer_of, Span, span_in, bytes, number_read, number4, server_read, server_id}
+use Rattle.body.specs.Bodies.{name_field, named_fields, is_key_type, shape_fields, pair_field, period_field, period_fields, times_there, server_field, slot_field, value_fields, data_fields, string_field}
+use Rattle.body.specs.Breaks.{definition_sized, NotBefore, Sized, EndsInside, cut_integer, cut_sized, Ends, whole_integer, overflowing, whole_name, ByFailure}
 use Rattle.body.proofs.Taken.{integer-value, integer-passed, between-low}
-use Rattle.body.proofs.Breaking.{agree-fewer, Whole, BrokeAt, BreaksAt, Regular, Ordinary, reached-short, then-regular, next-regular, next-breaks, got-regular, cond-regular, each-regular}
+use Rattle.body.proofs.Breaking.{agree-fewer, Whole, BrokeAt, BreaksAt, Regular, Ordinary, reached-short, then-regular, next-regular, got-regular, cond-regular, each-regular}
 
 -- ---- the bytes of an integer and then others
 pub like-value : (s t : List ℕ) (at v next : ℕ) → read_int s at ≡ int.Value v next → take next t ≡ take next s → read_int t at ≡ int.Value v next

@@ -78,17 +78,17 @@ module _ (s : List ℕ) (b : Bytes s) where
   unfolding integer_of
   width-encoded k at = integer-encoded _ at
 
-  number_read : (at : ℕ) (i : FourBytes) → read_number s at ≡ i → Holds (Encoded encode_number s at) (number_read at i)
+  number-read_encoded : (at : ℕ) (i : FourBytes) → read_number s at ≡ i → Holds (Encoded encode_number s at) (number_read at i)
   unfolding number_read Holds
-  number_read at (number.Value v next) q =
+  number-read_encoded at (number.Value v next) q =
       let o = number-own s at v next b q in
       stands-part s (encode_number v) at next (o.1 ∙ ap (λ (n : ℕ). at + n) (sym (number-length v)))
       (ap (λ (n : ℕ). take n (drop at s)) (number-length v) ∙ o.3)
-  number_read at number.Short q = tt
+  number-read_encoded at number.Short q = tt
 
   pub number-encoded : (at : ℕ) → Holds (Encoded encode_number s at) (number4 s at)
   unfolding number4
-  number-encoded at = number_read at (read_number s at) refl
+  number-encoded at = number-read_encoded at (read_number s at) refl
 
   server-read : (at : ℕ) (i : ServerId) → read_server_id s at ≡ i → Holds (Encoded (λ z. encode_int (server_word z)) s at) (server_read at i)
   unfolding server_read Holds

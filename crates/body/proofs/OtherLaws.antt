@@ -1,14 +1,10 @@
 -- Each way through the readers of a switch and of an acknowledgement, in the form of what it has to show.
 use Prim.Native.Nat.{ℕ}
-use mathlib.Core.Path.{◌≡◌, refl, ap, ◌∙◌}
+use mathlib.Core.Path.{◌≡◌}
 use mathlib.Core.List.{List}
-use lib.Dec.{lit≤}
 use borrow.Author.Rules.{rules}
-use Rattle.wire.specs.declared.values.Field.{Field}
-use Rattle.wire.specs.declared.values.Field.TheVariants as field
 use Rattle.wire.specs.declared.fixed.FourBytes.{FourBytes}
 use Rattle.wire.specs.declared.fixed.FourBytes.TheVariants as number
-use Rattle.wire.specs.Value.{read_width}
 use Rattle.wire.specs.Number.{read_number}
 use Rattle.body.specs.declared.Fault.{Fault}
 use Rattle.body.specs.declared.Failure.TheVariants as failure
@@ -18,7 +14,6 @@ use Rattle.body.specs.declared.AcknowledgementBody.TheVariants as acked
 use Rattle.body.specs.Fields.{fault, and_then, integer_of, number_read, number4}
 use Rattle.body.specs.Bodies.{switch_fields, acknowledgement_fields}
 use Rattle.body.specs.Results.{word_read, acknowledgement_read}
-use Rattle.body.proofs.FieldLaws.{of_width}
 
 pub switch-read : (s : List ℕ) (r : Word) → word_read r ≡ integer_of 32 s 0 → word_read r ≡ switch_fields s
 unfolding switch_fields

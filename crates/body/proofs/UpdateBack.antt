@@ -20,7 +20,7 @@ use Rattle.store.specs.Store.{key_of, no_table}
 use Rattle.store.proofs.Rules.{slot-count}
 use Rattle.store.proofs.Facts.{TableFacts, EntryFacts, key-most}
 use Rattle.body.specs.declared.update.Form.{Form}
-use Rattle.body.specs.Fields.{got, and_then, between, bytes, span_in}
+use Rattle.body.specs.Fields.{got, and_then, between, span_in}
 use Rattle.body.specs.Bodies.{string_field, key_field, server_field, slot_field, data_fields, entry_fields, number_or, timed_fields, update_fields}
 use Rattle.body.specs.Encodings.{each_bytes, key_bytes, server_bytes, value_bytes, data_bytes, entry_bytes, number_if, update_bytes, entry_start}
 use Rattle.body.specs.ReadBack.{present_only, update_back, Sendable, UpdatesReadBack}

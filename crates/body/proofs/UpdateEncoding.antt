@@ -9,7 +9,6 @@ use lib.Seq.{drop-append_seam, take-append_seam}
 use lib.IntN.{ℤ, pos}
 use Rattle.lists.proofs.Cases.{cond-true, cond-false}
 use Rattle.wire.specs.Integer.{encode_int}
-use Rattle.wire.specs.Number.{encode_number}
 use Rattle.wire.specs.Server.{server_word}
 use Rattle.wire.specs.Value.{Bytes}
 use Rattle.wire.proofs.Numbers.{number-length}

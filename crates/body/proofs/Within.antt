@@ -1,5 +1,5 @@
 -- What was read of a body is within the limits.
-use Prim.Native.Nat.{ℕ, ◌+◌, ◌-◌, ◌^◌, ◌≤◌, ◌<◌}
+use Prim.Native.Nat.{ℕ, ◌+◌, ◌^◌, ◌≤◌, ◌<◌}
 use native.Mathlib.Omega.{arith}
 use mathlib.Core.Path.{◌≡◌, refl, ◌∙◌, ap}
 use mathlib.Core.List.{List, [], ◌∷◌}
@@ -209,9 +209,9 @@ by_width : (b : Bool) (v : ℕ) → v < 2 ^ cond b 64 32 → (b || ltb v (2 ^ 32
 by_width true v h = refl
 by_width false v h = lt-ltb v (2 ^ 32) h
 
-slot_ok : (types t v : ℕ) → present types t ≡ true → v < 2 ^ width_of t → slot_ok types t v ≡ true
+slot-passes : (types t v : ℕ) → present types t ≡ true → v < 2 ^ width_of t → slot_ok types t v ≡ true
 unfolding slot_ok width_of
-slot_ok types t v e h = unless-true _ _ e ∙ by_width (is_wide t) v h
+slot-passes types t v e h = unless-true _ _ e ∙ by_width (is_wide t) v h
 
 slot-none : (types t v : ℕ) → present types t ≡ false → slot_ok types t v ≡ true
 unfolding slot_ok
@@ -223,7 +223,7 @@ slot-holds types s t at l =
     holds-cond (Taken (Slot types t) s at) (present types t) _ _
     (λ e.
     weaken (Width (width_of t)) (Slot types t)
-    (λ v h. record { ok = slot_ok types t v e h.0; small = h.1; none = λ q. never e q })
+    (λ v h. record { ok = slot-passes types t v e h.0; small = h.1; none = λ q. never e q })
     s at _ (width-holds (width_of t) s at))
     (λ e. taken-got (Slot types t) s at 0 (record { ok = slot-none types t 0 e; small = omega arith; none = λ q. refl }) l)
 

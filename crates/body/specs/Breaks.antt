@@ -7,7 +7,7 @@ use Rattle.store.specs.Limits.{key_kind, is_string}
 use Rattle.body.specs.declared.Failure.{Failure}
 use Rattle.body.specs.declared.Failure.TheVariants as failure
 use Rattle.body.specs.declared.Fault.{Fault}
-use Rattle.body.specs.Fields.{Read, got, failed, fault, short}
+use Rattle.body.specs.Fields.{Read, got, failed, fault}
 use Rattle.body.specs.Bodies.{definition_fields, switch_fields, acknowledgement_fields, update_fields}
 use Rattle.body.specs.declared.update.Form.{Form}
 use Rattle.body.specs.Encodings.{entry_start}

@@ -1,5 +1,5 @@
 -- The definitions at worked examples: the listing's bodies, a cut inside each field, and each limit from both sides.
-use Rattle.std.specs.Prelude.{ℕ, ◌+◌, ◌-◌, ◌^◌, ◌≡◌, refl, true, false, List, [], ◌∷◌, ◌++◌, map, take, drop, replicate, ℤ, pos, negsuc}
+use Rattle.std.specs.Prelude.{ℕ, ◌-◌, ◌^◌, ◌≡◌, refl, true, false, List, [], ◌∷◌, ◌++◌, map, take, drop, replicate, ℤ, pos, negsuc}
 use Rattle.std.proofs.Math.Option.{some, none}
 use Rattle.lists.specs.Lists.{every, among}
 use Rattle.wire.specs.Integer.{encode_int, encode_rest, read_int, read_first, with_later, later_bytes, before, weighted, fitting}
@@ -12,7 +12,7 @@ use Rattle.store.specs.Store.{name_of, key_of}
 use Rattle.body.specs.Fields.{got, short, outside, unplain, and_then, for_each, tested, integer, between, integer_of, span_in, bytes, number_read, number4, server_read, server_id}
 use Rattle.body.specs.Bodies.{name_field, named_fields, is_key_type, shape_fields, pair_field, period_field, Times, no_times, times_there, times_fields, Definition, rest_fields, definition_fields, switch_fields, acknowledgement_fields, string_field, key_field, server_field, slot_field, data_fields, Update, entry_fields, number_or, time_mark, timed_fields, update_fields, form_of}
 use Rattle.body.specs.declared.update.Form.{Form}
-use Rattle.body.specs.Encodings.{message_bytes, body_start, each_bytes, key_bytes, server_bytes, value_bytes, data_bytes, entry_bytes, number_if, update_bytes, entry_start, server_start, slot_start, period_bytes, times_bytes, definition_bytes}
+use Rattle.body.specs.Encodings.{message_bytes, body_start, each_bytes, key_bytes, server_bytes, value_bytes, data_bytes, entry_bytes, number_if, update_bytes, server_start, slot_start, period_bytes, times_bytes, definition_bytes}
 
 -- ---- definition
 

@@ -6,7 +6,6 @@
 
 use dump::lines::put_entry;
 use dump::record_lines::put_record;
-use libc::STDOUT_FILENO;
 use listing::answer::put_answer;
 use listing::reply::put_reply;
 use opening::{OPENING_ROOM, Opened, open_answerer, open_caller};
@@ -17,70 +16,86 @@ use store::Store;
 use text::output::write;
 use wire::fixed::write_number;
 
+// For the lines of a call.
+const ROOM: usize = 4096;
+
 // ---- output
 
-fn title(text: &[u8]) {
-    io::write_all(STDOUT_FILENO, b"# ");
-    io::write_all(STDOUT_FILENO, text);
-    io::write_all(STDOUT_FILENO, b"\n");
+fn title(rt: &impl Print, text: &[u8]) {
+    let _ = rt.write_all(b"# ");
+    let _ = rt.write_all(text);
+    let _ = rt.write_all(b"\n");
 }
 
-fn show_record(session: Session) {
-    let mut out = io::buffer();
+fn show_record(rt: &(impl Print + Eprint), session: Session) {
+    let mut out = [0u8; ROOM];
     let n = put_record(&mut out, 0, session);
-    write(&out, n);
+    write(rt, &out, n);
 }
 
 // The lines of an answer and of the reply, the first n bytes of a room.
-fn show_answer(session: Session, store: Store, answer: Answer, room: &[u8], n: usize) {
-    let mut out = io::buffer();
+fn show_answer(
+    rt: &(impl Print + Eprint),
+    session: Session,
+    store: Store,
+    answer: Answer,
+    room: &[u8],
+    n: usize,
+) {
+    let mut out = [0u8; ROOM];
     let connection = session.connection;
     let tables = store.tables;
     let next = put_answer(&mut out, 0, connection, tables, answer);
     let end = put_reply(&mut out, next, room, n);
-    write(&out, end);
+    write(rt, &out, end);
 }
 
-fn show_number(word: &[u8], n: u64) {
-    io::write_all(STDOUT_FILENO, word);
-    io::write_all(STDOUT_FILENO, b" ");
-    io::print_decimal(STDOUT_FILENO, n);
-    io::write_all(STDOUT_FILENO, b"\n");
+fn show_number(rt: &impl Print, word: &[u8], n: u64) {
+    let _ = rt.write_all(word);
+    let _ = rt.write_all(b" ");
+    let _ = print!(rt; "{n}");
+    let _ = rt.write_all(b"\n");
 }
 
 // The entries at places 0 and 1, of a table with these data types.
-fn show_entries(store: Store, types: u32) {
-    let mut out = io::buffer();
+fn show_entries(rt: &(impl Print + Eprint), store: Store, types: u32) {
+    let mut out = [0u8; ROOM];
     let entries = store.entries;
     let first = entries[0];
     let second = entries[1];
     let next = put_entry(&mut out, 0, 0, types, first);
     let n = put_entry(&mut out, next, 1, types, second);
-    write(&out, n);
+    write(rt, &out, n);
 }
 
 // ---- calls
 
 // One reading call; its lines are written if they are to be shown.
-fn call(given: Step, piece: &[u8], room: &mut [u8], shown: bool) -> Step {
+fn call(
+    rt: &(impl Print + Eprint),
+    given: Step,
+    piece: &[u8],
+    room: &mut [u8],
+    shown: bool,
+) -> Step {
     let step = read(given, piece, room);
     let outcome = step.outcome;
     let answer = outcome.answer;
     if shown {
         let session = step.session;
         let store = step.store;
-        show_answer(session, store, answer, room, outcome.reply_len);
+        show_answer(rt, session, store, answer, room, outcome.reply_len);
     }
     step
 }
 
 // Calls on the bytes until all are taken or the session is closed.
-fn feed(given: Step, bytes: &[u8], shown: bool) -> Step {
+fn feed(rt: &(impl Print + Eprint), given: Step, bytes: &[u8], shown: bool) -> Step {
     let mut room = [0u8; REPLY_ROOM];
     let mut r = given;
     let mut at: usize = 0;
     while at < bytes.len() {
-        r = call(r, &bytes[at..], &mut room, shown);
+        r = call(rt, r, &bytes[at..], &mut room, shown);
         let taken = r.outcome.taken;
         if taken == 0 {
             return r;
@@ -113,27 +128,28 @@ fn answerer() -> Step {
 }
 
 // A session after its hello.
-fn greeted() -> Step {
-    feed(answerer(), b"HAProxyS 2.1\neast\nwest 7 0\n", false)
+fn greeted(rt: &(impl Print + Eprint)) -> Step {
+    feed(rt, answerer(), b"HAProxyS 2.1\neast\nwest 7 0\n", false)
 }
 
 // ---- cases
 
 // What the bytes come to after the hello.
-fn after_hello(text: &[u8], bytes: &[u8]) {
-    title(text);
-    feed(greeted(), bytes, true);
+fn after_hello(rt: &(impl Print + Eprint), text: &[u8], bytes: &[u8]) {
+    title(rt, text);
+    feed(rt, greeted(rt), bytes, true);
 }
 
-fn as_hello(text: &[u8], bytes: &[u8]) {
-    title(text);
-    feed(answerer(), bytes, true);
+fn as_hello(rt: &(impl Print + Eprint), text: &[u8], bytes: &[u8]) {
+    title(rt, text);
+    feed(rt, answerer(), bytes, true);
 }
 
-fn as_status(text: &[u8], bytes: &[u8]) {
+fn as_status(rt: &(impl Print + Eprint), text: &[u8], bytes: &[u8]) {
     let mut room = [0u8; OPENING_ROOM];
-    title(text);
+    title(rt, text);
     feed(
+        rt,
         opened(open_caller(b"east", b"west", 7, 0, &mut room)),
         bytes,
         true,
@@ -141,34 +157,38 @@ fn as_status(text: &[u8], bytes: &[u8]) {
 }
 
 // What the bytes come to on a table with these data types, and its entries.
-fn on_table(text: &[u8], given: Step, types: u32, bytes: &[u8]) {
-    title(text);
-    let r = feed(given, bytes, true);
-    show_entries(r.store, types);
+fn on_table(rt: &(impl Print + Eprint), text: &[u8], given: Step, types: u32, bytes: &[u8]) {
+    title(rt, text);
+    let r = feed(rt, given, bytes, true);
+    show_entries(rt, r.store, types);
 }
 
 // ---- server IDs
 
 // An update of a table whose only data type is 0.
-fn server_id(text: &[u8], update: &[u8]) {
-    let given = feed(greeted(), b"\x0a\x82\x06\x01\x01t\x02\x04\x01", false);
-    on_table(text, given, 1, update);
+fn server_id(rt: &(impl Print + Eprint), text: &[u8], update: &[u8]) {
+    let given = feed(rt, greeted(rt), b"\x0a\x82\x06\x01\x01t\x02\x04\x01", false);
+    on_table(rt, text, given, 1, update);
 }
 
-fn server_ids() {
+fn server_ids(rt: &(impl Print + Eprint)) {
     server_id(
+        rt,
         b"server ID 2^31 - 1",
         b"\x0a\x80\x0d\x00\x00\x00\x01\x00\x00\x00\x2a\xff\xf0\xfe\xfe\x3e",
     );
     server_id(
+        rt,
         b"server ID 2^31",
         b"\x0a\x80\x0d\x00\x00\x00\x01\x00\x00\x00\x2a\xf0\xf1\xfe\xfe\x3e",
     );
     server_id(
+        rt,
         b"server ID 2^64 - 2^31",
         b"\x0a\x80\x12\x00\x00\x00\x01\x00\x00\x00\x2a\xf0\xf1\xfe\xfe\xbe\xfe\xfe\xfe\xfe\x0e",
     );
     server_id(
+        rt,
         b"server ID 2^64 - 2^31 - 1",
         b"\x0a\x80\x12\x00\x00\x00\x01\x00\x00\x00\x2a\xff\xf0\xfe\xfe\xbe\xfe\xfe\xfe\xfe\x0e",
     );
@@ -177,26 +197,32 @@ fn server_ids() {
 // ---- calls that take nothing
 
 // A call on a piece with so much room, and the record afterwards.
-fn taking_nothing(text: &[u8], given: Step, piece: &[u8], room: &mut [u8]) {
-    title(text);
-    let r = call(given, piece, room, true);
-    show_number(b"took", r.outcome.taken as u64);
-    show_record(r.session);
+fn taking_nothing(
+    rt: &(impl Print + Eprint),
+    text: &[u8],
+    given: Step,
+    piece: &[u8],
+    room: &mut [u8],
+) {
+    title(rt, text);
+    let r = call(rt, given, piece, room, true);
+    show_number(rt, b"took", r.outcome.taken as u64);
+    show_record(rt, r.session);
 }
 
 // A session after its hello, with two bytes unfinished.
-fn half_way() -> Step {
-    feed(greeted(), b"\x0a\x82", false)
+fn half_way(rt: &(impl Print + Eprint)) -> Step {
+    feed(rt, greeted(rt), b"\x0a\x82", false)
 }
 
-fn spoiled_record() -> Step {
-    let mut r = half_way();
+fn spoiled_record(rt: &(impl Print + Eprint)) -> Step {
+    let mut r = half_way(rt);
     r.session.connection.current = 3;
     r
 }
 
-fn spoiled_store() -> Step {
-    let mut r = half_way();
+fn spoiled_store(rt: &(impl Print + Eprint)) -> Step {
+    let mut r = half_way(rt);
     let mut store = r.store;
     let mut tables = store.tables;
     let mut t = tables[0];
@@ -207,35 +233,45 @@ fn spoiled_store() -> Step {
     r
 }
 
-fn closed() -> Step {
-    feed(greeted(), b"\x00\x05", false)
+fn closed(rt: &(impl Print + Eprint)) -> Step {
+    feed(rt, greeted(rt), b"\x00\x05", false)
 }
 
-fn nothing_taken() {
+fn nothing_taken(rt: &(impl Print + Eprint)) {
     let mut room = [0u8; REPLY_ROOM];
     let mut short = [0u8; 11];
     taking_nothing(
+        rt,
         b"an empty piece on an open session",
-        half_way(),
+        half_way(rt),
         b"",
         &mut room,
     );
     taking_nothing(
+        rt,
         b"refusal 1: reply room of 11",
-        half_way(),
+        half_way(rt),
         b"\x06",
         &mut short,
     );
-    taking_nothing(b"refusal 2: session closed", closed(), b"\x06", &mut room);
     taking_nothing(
-        b"refusal 4: a current table that isn't held",
-        spoiled_record(),
+        rt,
+        b"refusal 2: session closed",
+        closed(rt),
         b"\x06",
         &mut room,
     );
     taking_nothing(
+        rt,
+        b"refusal 4: a current table that isn't held",
+        spoiled_record(rt),
+        b"\x06",
+        &mut room,
+    );
+    taking_nothing(
+        rt,
         b"refusal 4: a table that is neither held nor free",
-        spoiled_store(),
+        spoiled_store(rt),
         b"\x06",
         &mut room,
     );
@@ -243,326 +279,383 @@ fn nothing_taken() {
 
 // ---- opening
 
-fn show_opening(text: &[u8], o: Opened, room: &[u8]) {
-    title(text);
+fn show_opening(rt: &(impl Print + Eprint), text: &[u8], o: Opened, room: &[u8]) {
+    title(rt, text);
     let session = o.session;
     let outcome = o.outcome;
     let answer = outcome.answer;
     let store = store::empty_store();
-    show_answer(session, store, answer, room, outcome.reply_len);
-    show_record(session);
+    show_answer(rt, session, store, answer, room, outcome.reply_len);
+    show_record(rt, session);
 }
 
-fn openings() {
+fn openings(rt: &(impl Print + Eprint)) {
     let mut room = [0u8; OPENING_ROOM];
     let mut short = [0u8; 100];
     let a = open_answerer(b"east", b"west", &mut short);
-    show_opening(b"opening, refusal 1: room of 100", a, &short);
+    show_opening(rt, b"opening, refusal 1: room of 100", a, &short);
     let b = open_answerer(b"", b"west", &mut room);
-    show_opening(b"opening, refusal 3: no name of ours", b, &room);
+    show_opening(rt, b"opening, refusal 3: no name of ours", b, &room);
     let c = open_caller(b"east", b"we st", 7, 0, &mut room);
-    show_opening(b"opening, refusal 3: a space in the peer's name", c, &room);
+    show_opening(
+        rt,
+        b"opening, refusal 3: a space in the peer's name",
+        c,
+        &room,
+    );
     let d = open_caller(b"east", b"west", 7, 0, &mut room);
-    show_opening(b"opening as caller", d, &room);
+    show_opening(rt, b"opening as caller", d, &room);
 }
 
 // ---- handshake
 
-fn handshakes() {
-    as_hello(b"refusal 10: no numbers", b"HAProxyS 2.1\neast\nwest\n");
+fn handshakes(rt: &(impl Print + Eprint)) {
+    as_hello(rt, b"refusal 10: no numbers", b"HAProxyS 2.1\neast\nwest\n");
     as_hello(
+        rt,
         b"refusal 11: version 2.2",
         b"HAProxyS 2.2\neast\nwest 7 0\n",
     );
     as_hello(
+        rt,
         b"refusal 12: another peer is addressed",
         b"HAProxyS 2.1\nnorth\nwest 7 0\n",
     );
     as_hello(
+        rt,
         b"refusal 13: another sender",
         b"HAProxyS 2.1\neast\nsouth 7 0\n",
     );
-    as_status(b"status 200", b"200\n");
-    as_status(b"refusal 14: status 503", b"503\n");
-    as_status(b"refusal 15: status 201", b"201\n");
+    as_status(rt, b"status 200", b"200\n");
+    as_status(rt, b"refusal 14: status 503", b"503\n");
+    as_status(rt, b"refusal 15: status 201", b"201\n");
 }
 
 // ---- messages
 
 // Each key type with the shortest and the longest key that it has.
-fn key_types() {
+fn key_types(rt: &(impl Print + Eprint)) {
     after_hello(
+        rt,
         b"key types 2, 4 and 5",
         b"\x0a\x82\x06\x01\x01a\x02\x04\x00\x0a\x82\x06\x02\x01b\x04\x04\x00\x0a\x82\x06\x03\x01c\x05\x10\x00",
     );
     after_hello(
+        rt,
         b"key types 6 and 7",
         b"\x0a\x82\x06\x01\x01a\x06\x01\x00\x0a\x82\x06\x02\x01b\x06\x40\x00\x0a\x82\x06\x03\x01c\x07\x01\x00\x0a\x82\x06\x04\x01d\x07\x40\x00",
     );
 }
 
 // The numbers beside them, and the key length of another kind.
-fn other_key_types() {
+fn other_key_types(rt: &(impl Print + Eprint)) {
     after_hello(
+        rt,
         b"refusal 24: key type 0",
         b"\x0a\x82\x06\x01\x01t\x00\x04\x00",
     );
     after_hello(
+        rt,
         b"refusal 24: key type 1",
         b"\x0a\x82\x06\x01\x01t\x01\x04\x00",
     );
     after_hello(
+        rt,
         b"refusal 24: key type 3",
         b"\x0a\x82\x06\x01\x01t\x03\x04\x00",
     );
     after_hello(
+        rt,
         b"refusal 24: key type 8",
         b"\x0a\x82\x06\x01\x01t\x08\x04\x00",
     );
     after_hello(
+        rt,
         b"refusal 24: key type 2^32 + 2, and no key length",
         b"\x0a\x82\x08\x01\x01t\xf2\xf1\xfe\xfe\x7e",
     );
     after_hello(
+        rt,
         b"refusal 24: an integer key of 16 bytes",
         b"\x0a\x82\x06\x01\x01t\x02\x10\x00",
     );
     after_hello(
+        rt,
         b"refusal 24: an IPv6 key of 4 bytes",
         b"\x0a\x82\x06\x01\x01t\x05\x04\x00",
     );
 }
 
 // Nine tables, with the names a to i.
-fn nine_tables() {
-    title(b"refusal 26: a ninth table");
-    let mut r = greeted();
+fn nine_tables(rt: &(impl Print + Eprint)) {
+    title(rt, b"refusal 26: a ninth table");
+    let mut r = greeted(rt);
     for i in 0u8..9 {
         let message = [0x0a, 0x82, 6, i, 1, 97 + i, 2, 4, 0];
-        r = feed(r, &message, true);
+        r = feed(rt, r, &message, true);
     }
 }
 
 // 129 entries of a table without data types; the last two updates are shown.
-fn many_entries() {
-    title(b"refusal 29: a 129th entry, after the 128th");
-    let mut r = feed(greeted(), b"\x0a\x82\x06\x01\x01t\x02\x04\x00", false);
+fn many_entries(rt: &(impl Print + Eprint)) {
+    title(rt, b"refusal 29: a 129th entry, after the 128th");
+    let mut r = feed(rt, greeted(rt), b"\x0a\x82\x06\x01\x01t\x02\x04\x00", false);
     for i in 0u8..129 {
         let message = [0x0a, 0x80, 8, 0, 0, 0, i, 0, 0, 0, i];
-        r = feed(r, &message, 127 <= i);
+        r = feed(rt, r, &message, 127 <= i);
     }
 }
 
-fn messages() {
-    after_hello(b"refusal 20: class 0, type 5", b"\x00\x05");
+fn messages(rt: &(impl Print + Eprint)) {
+    after_hello(rt, b"refusal 20: class 0, type 5", b"\x00\x05");
     after_hello(
+        rt,
         b"refusal 21: length over 2^64 - 1",
         b"\x0a\x80\xf0\xf1\xfe\xfe\xfe\xfe\xfe\xfe\xfe\x0e",
     );
-    after_hello(b"refusal 22: length 1,025", b"\x0a\x80\xf1\x31");
+    after_hello(rt, b"refusal 22: length 1,025", b"\x0a\x80\xf1\x31");
     after_hello(
+        rt,
         b"refusal 23: a definition that ends in its name",
         b"\x0a\x82\x03\x01\x02t",
     );
     after_hello(
+        rt,
         b"refusal 23: an update that ends in its string key",
         b"\x0a\x82\x06\x01\x01t\x06\x04\x00\x0a\x80\x08\x00\x00\x00\x01\x04abc",
     );
-    after_hello(b"refusal 24: a name of 33 bytes", b"\x0a\x82\x02\x01\x21");
     after_hello(
+        rt,
+        b"refusal 24: a name of 33 bytes",
+        b"\x0a\x82\x02\x01\x21",
+    );
+    after_hello(
+        rt,
         b"refusal 24: an update whose second value is 2^32",
         b"\x0a\x82\x06\x01\x01t\x02\x04\x06\x0a\x80\x0e\x00\x00\x00\x01\x00\x00\x00\x2a\x05\xf0\xf1\xfe\xfe\x7e",
     );
     after_hello(
+        rt,
         b"refusal 25: another key type under a held name",
         b"\x0a\x82\x06\x01\x01t\x02\x04\x00\x0a\x82\x06\x01\x01t\x04\x04\x00",
     );
-    key_types();
-    other_key_types();
-    nine_tables();
-    after_hello(b"refusal 27: no current table", b"\x0a\x80\x00");
+    key_types(rt);
+    other_key_types(rt);
+    nine_tables(rt);
+    after_hello(rt, b"refusal 27: no current table", b"\x0a\x80\x00");
     after_hello(
+        rt,
         b"refusal 27: a switch to an unbound ID",
         b"\x0a\x83\x01\x01",
     );
     after_hello(
+        rt,
         b"refusal 28: no previous ID",
         b"\x0a\x82\x06\x01\x01t\x02\x04\x00\x0a\x81\x04\x00\x00\x00\x2a",
     );
-    many_entries();
-    after_hello(b"the peer's error message", b"\x01\x01");
+    many_entries(rt);
+    after_hello(rt, b"the peer's error message", b"\x01\x01");
 }
 
 // ---- remaining times
 
 // A session with the table t, whose only data type is 2.
-fn without_expiry() -> Step {
-    feed(greeted(), b"\x0a\x82\x06\x01\x01t\x02\x04\x04", false)
+fn without_expiry(rt: &(impl Print + Eprint)) -> Step {
+    feed(rt, greeted(rt), b"\x0a\x82\x06\x01\x01t\x02\x04\x04", false)
 }
 
 // The same with an expiry of 60,000.
-fn with_expiry() -> Step {
+fn with_expiry(rt: &(impl Print + Eprint)) -> Step {
     feed(
-        greeted(),
+        rt,
+        greeted(rt),
         b"\x0a\x82\x09\x01\x01t\x02\x04\x04\xf0\x97\x1c",
         false,
     )
 }
 
 // An untimed update of a table without expiry.
-fn updated() -> Step {
+fn updated(rt: &(impl Print + Eprint)) -> Step {
     feed(
-        without_expiry(),
+        rt,
+        without_expiry(rt),
         b"\x0a\x80\x09\x00\x00\x00\x01\x00\x00\x00\x2a\x05",
         false,
     )
 }
 
 // An entry with this time remaining.
-fn lasting(remaining: u32) -> Step {
+fn lasting(rt: &(impl Print + Eprint), remaining: u32) -> Step {
     let time = write_number(remaining);
-    let a = feed(without_expiry(), b"\x0a\x85\x0d\x00\x00\x00\x01", false);
-    let b = feed(a, &time, false);
-    feed(b, b"\x00\x00\x00\x2a\x05", false)
+    let a = feed(
+        rt,
+        without_expiry(rt),
+        b"\x0a\x85\x0d\x00\x00\x00\x01",
+        false,
+    );
+    let b = feed(rt, a, &time, false);
+    feed(rt, b, b"\x00\x00\x00\x2a\x05", false)
 }
 
-fn timed_updates() {
+fn timed_updates(rt: &(impl Print + Eprint)) {
     on_table(
+        rt,
         b"a timed update with 60,000",
-        without_expiry(),
+        without_expiry(rt),
         4,
         b"\x0a\x85\x0f\x00\x00\x00\x01\x00\x00\xea\x60\x00\x00\x00\x2a\xf4\x94\x01",
     );
     on_table(
+        rt,
         b"a timed update with 0",
-        without_expiry(),
+        without_expiry(rt),
         4,
         b"\x0a\x85\x0d\x00\x00\x00\x01\x00\x00\x00\x00\x00\x00\x00\x2a\x05",
     );
     on_table(
+        rt,
         b"a timed update with 2^32 - 1, over the expiry",
-        with_expiry(),
+        with_expiry(rt),
         4,
         b"\x0a\x85\x0d\x00\x00\x00\x01\xff\xff\xff\xff\x00\x00\x00\x2a\x05",
     );
     on_table(
+        rt,
         b"a timed incremental update with 60,000 of an entry without a time",
-        updated(),
+        updated(rt),
         4,
         b"\x0a\x86\x09\x00\x00\xea\x60\x00\x00\x00\x2a\x06",
     );
     on_table(
+        rt,
         b"a timed incremental update with 6 of a new key",
-        lasting(5),
+        lasting(rt, 5),
         4,
         b"\x0a\x86\x09\x00\x00\x00\x06\x00\x00\x00\x2b\x06",
     );
 }
 
 // "an untimed update takes the table's expiry, else none"
-fn untimed_updates() {
+fn untimed_updates(rt: &(impl Print + Eprint)) {
     on_table(
+        rt,
         b"untimed updates, expiry 60,000",
-        with_expiry(),
+        with_expiry(rt),
         4,
         b"\x0a\x80\x09\x00\x00\x00\x01\x00\x00\x00\x2a\x05\x0a\x81\x05\x00\x00\x00\x2b\x06",
     );
     on_table(
+        rt,
         b"an untimed update, expiry 0",
-        greeted(),
+        greeted(rt),
         4,
         b"\x0a\x82\x07\x01\x01t\x02\x04\x04\x00\x0a\x80\x09\x00\x00\x00\x01\x00\x00\x00\x2a\x05",
     );
     on_table(
+        rt,
         b"an untimed update of an entry with 5, expiry 60,000",
-        with_expiry(),
+        with_expiry(rt),
         4,
         b"\x0a\x85\x0d\x00\x00\x00\x01\x00\x00\x00\x05\x00\x00\x00\x2a\x05\x0a\x80\x09\x00\x00\x00\x02\x00\x00\x00\x2a\x06",
     );
     on_table(
+        rt,
         b"an untimed update of an entry with 5, no expiry",
-        lasting(5),
+        lasting(rt, 5),
         4,
         b"\x0a\x80\x09\x00\x00\x00\x02\x00\x00\x00\x2a\x06",
     );
     on_table(
+        rt,
         b"an untimed incremental update of an entry with 5, no expiry",
-        lasting(5),
+        lasting(rt, 5),
         4,
         b"\x0a\x81\x05\x00\x00\x00\x2a\x06",
     );
     on_table(
+        rt,
         b"a definition without expiry between two untimed updates",
-        with_expiry(),
+        with_expiry(rt),
         4,
         b"\x0a\x80\x09\x00\x00\x00\x01\x00\x00\x00\x2a\x05\x0a\x82\x06\x01\x01t\x02\x04\x04\x0a\x81\x05\x00\x00\x00\x2b\x06",
     );
 }
 
-fn faults_of_timed_updates() {
+fn faults_of_timed_updates(rt: &(impl Print + Eprint)) {
     on_table(
+        rt,
         b"refusal 23: a timed update that ends in its ID",
-        without_expiry(),
+        without_expiry(rt),
         4,
         b"\x0a\x85\x03\x00\x00\x00",
     );
     on_table(
+        rt,
         b"refusal 23: a timed update that ends before its remaining time",
-        without_expiry(),
+        without_expiry(rt),
         4,
         b"\x0a\x85\x04\x00\x00\x00\x01",
     );
     on_table(
+        rt,
         b"refusal 23: a timed update that ends in its remaining time",
-        without_expiry(),
+        without_expiry(rt),
         4,
         b"\x0a\x85\x07\x00\x00\x00\x01\x00\x00\xea",
     );
     on_table(
+        rt,
         b"refusal 23: a timed update that ends behind its remaining time",
-        without_expiry(),
+        without_expiry(rt),
         4,
         b"\x0a\x85\x08\x00\x00\x00\x01\x00\x00\xea\x60",
     );
     after_hello(
+        rt,
         b"refusal 27: a timed update, no current table",
         b"\x0a\x85\x00",
     );
 }
 
-fn faults_of_timed_incremental_updates() {
+fn faults_of_timed_incremental_updates(rt: &(impl Print + Eprint)) {
     on_table(
+        rt,
         b"refusal 23: a timed incremental update that ends before its remaining time",
-        updated(),
+        updated(rt),
         4,
         b"\x0a\x86\x00",
     );
     on_table(
+        rt,
         b"refusal 23: a timed incremental update that ends in its remaining time",
-        updated(),
+        updated(rt),
         4,
         b"\x0a\x86\x03\x00\x00\xea",
     );
     on_table(
+        rt,
         b"refusal 23: a timed incremental update that ends behind its remaining time",
-        updated(),
+        updated(rt),
         4,
         b"\x0a\x86\x04\x00\x00\xea\x60",
     );
     on_table(
+        rt,
         b"refusal 28: a timed incremental update, no previous ID",
-        without_expiry(),
+        without_expiry(rt),
         4,
         b"\x0a\x86\x00",
     );
 }
 
-fn message_types() {
+fn message_types(rt: &(impl Print + Eprint)) {
     after_hello(
+        rt,
         b"message types 132, 135 and 255",
         b"\x0a\x84\x05\x05\x00\x00\x00\x07\x0a\x87\x02\xff\xff\x0a\xff\x00",
     );
     after_hello(
+        rt,
         b"refusal 23: an acknowledgement that ends in its update ID",
         b"\x0a\x84\x04\x05\x00\x00\x00",
     );
@@ -571,51 +664,56 @@ fn message_types() {
 // ---- time that passes
 
 // So many milliseconds pass; the entries afterwards.
-fn passing(text: &[u8], given: Step, milliseconds: u32) -> Step {
-    title(text);
+fn passing(rt: &(impl Print + Eprint), text: &[u8], given: Step, milliseconds: u32) -> Step {
+    title(rt, text);
     let p = pass(given.store, milliseconds);
     let store = p.store;
-    show_number(b"passed", p.number as u64);
-    show_entries(store, 4);
+    show_number(rt, b"passed", p.number as u64);
+    show_entries(rt, store, 4);
     let mut r = given;
     r.store = store;
     r
 }
 
 // "entries with at most e remaining are removed, other times lowered by e"
-fn times_passed() {
-    passing(b"0 of 60,000 pass", lasting(60000), 0);
-    passing(b"59,999 of 60,000 pass", lasting(60000), 59999);
-    passing(b"60,000 of 60,000 pass", lasting(60000), 60000);
-    passing(b"60,001 of 60,000 pass", lasting(60000), 60001);
-    passing(b"0 of 0 pass", lasting(0), 0);
-    passing(b"0 of 1 pass", lasting(1), 0);
+fn times_passed(rt: &(impl Print + Eprint)) {
+    passing(rt, b"0 of 60,000 pass", lasting(rt, 60000), 0);
+    passing(rt, b"59,999 of 60,000 pass", lasting(rt, 60000), 59999);
+    passing(rt, b"60,000 of 60,000 pass", lasting(rt, 60000), 60000);
+    passing(rt, b"60,001 of 60,000 pass", lasting(rt, 60000), 60001);
+    passing(rt, b"0 of 0 pass", lasting(rt, 0), 0);
+    passing(rt, b"0 of 1 pass", lasting(rt, 1), 0);
     passing(
+        rt,
         b"2^32 - 2 of 2^32 - 1 pass",
-        lasting(0xffff_ffff),
+        lasting(rt, 0xffff_ffff),
         0xffff_fffe,
     );
     passing(
+        rt,
         b"2^32 - 1 of 2^32 - 1 pass",
-        lasting(0xffff_ffff),
+        lasting(rt, 0xffff_ffff),
         0xffff_ffff,
     );
     passing(
+        rt,
         b"2^32 - 1 pass, an entry without a time",
-        updated(),
+        updated(rt),
         0xffff_ffff,
     );
 }
 
 // Entries with 5 and with 10, of which the first is removed; its place is then the lowest free one.
-fn places_used_again() {
+fn places_used_again(rt: &(impl Print + Eprint)) {
     let two = feed(
-        lasting(5),
+        rt,
+        lasting(rt, 5),
         b"\x0a\x86\x09\x00\x00\x00\x0a\x00\x00\x00\x2b\x06",
         false,
     );
-    let one = passing(b"5 of 5 and of 10 pass", two, 5);
+    let one = passing(rt, b"5 of 5 and of 10 pass", two, 5);
     on_table(
+        rt,
         b"new keys behind the removed one, and a known one",
         one,
         4,
@@ -624,8 +722,8 @@ fn places_used_again() {
 }
 
 // An entry with 5 whose mark of a time is then this, and the mark of being held at the place beside it.
-fn marked(timed: u32, beside: u32) -> Step {
-    let mut r = lasting(5);
+fn marked(rt: &(impl Print + Eprint), timed: u32, beside: u32) -> Step {
+    let mut r = lasting(rt, 5);
     let mut store = r.store;
     let mut entries = store.entries;
     let mut e = entries[0];
@@ -639,107 +737,131 @@ fn marked(timed: u32, beside: u32) -> Step {
     r
 }
 
-fn marks() {
+fn marks(rt: &(impl Print + Eprint)) {
     let mut room = [0u8; REPLY_ROOM];
     taking_nothing(
+        rt,
         b"a store with a number beside a time mark of 0",
-        marked(0, 0),
+        marked(rt, 0, 0),
         b"",
         &mut room,
     );
     taking_nothing(
+        rt,
         b"refusal 4: a store with a time mark of 2",
-        marked(2, 0),
+        marked(rt, 2, 0),
         b"",
         &mut room,
     );
-    passing(b"5 pass, a number beside a time mark of 0", marked(0, 0), 5);
-    passing(b"refusal 4: 5 pass, a time mark of 2", marked(2, 0), 5);
     passing(
+        rt,
+        b"5 pass, a number beside a time mark of 0",
+        marked(rt, 0, 0),
+        5,
+    );
+    passing(
+        rt,
+        b"refusal 4: 5 pass, a time mark of 2",
+        marked(rt, 2, 0),
+        5,
+    );
+    passing(
+        rt,
         b"refusal 4: 5 of 5 pass, and a place that is neither held nor free",
-        marked(1, 2),
+        marked(rt, 1, 2),
         5,
     );
 }
 
-fn times() {
-    timed_updates();
-    untimed_updates();
-    faults_of_timed_updates();
-    faults_of_timed_incremental_updates();
-    message_types();
-    times_passed();
-    places_used_again();
-    marks();
+fn times(rt: &(impl Print + Eprint)) {
+    timed_updates(rt);
+    untimed_updates(rt);
+    faults_of_timed_updates(rt);
+    faults_of_timed_incremental_updates(rt);
+    message_types(rt);
+    times_passed(rt);
+    places_used_again(rt);
+    marks(rt);
 }
 
 // ---- names of tables
 
 // A definition whose name has this byte between two letters, and one that ends behind that name.
-fn name_with(text: &[u8], byte: u8) {
+fn name_with(rt: &(impl Print + Eprint), text: &[u8], byte: u8) {
     let whole = [0x0a, 0x82, 8, 1, 3, 97, byte, 98, 2, 4, 0];
     let named = [0x0a, 0x82, 5, 1, 3, 97, byte, 98];
-    title(text);
-    feed(greeted(), &whole, true);
-    feed(greeted(), &named, true);
+    title(rt, text);
+    feed(rt, greeted(rt), &whole, true);
+    feed(rt, greeted(rt), &named, true);
 }
 
 // The first and the last byte of each range of plain bytes, and those beside them.
-fn bytes_of_names() {
-    name_with(b"a name with byte 44", 44);
-    name_with(b"a name with byte 45", 45);
-    name_with(b"a name with byte 46", 46);
-    name_with(b"a name with byte 47", 47);
-    name_with(b"a name with byte 48", 48);
-    name_with(b"a name with byte 57", 57);
-    name_with(b"a name with byte 58", 58);
-    name_with(b"a name with byte 59", 59);
-    name_with(b"a name with byte 64", 64);
-    name_with(b"a name with byte 65", 65);
-    name_with(b"a name with byte 90", 90);
-    name_with(b"a name with byte 91", 91);
-    name_with(b"a name with byte 94", 94);
-    name_with(b"a name with byte 95", 95);
-    name_with(b"a name with byte 96", 96);
-    name_with(b"a name with byte 97", 97);
-    name_with(b"a name with byte 122", 122);
-    name_with(b"a name with byte 123", 123);
-    name_with(b"a name with byte 127", 127);
-    name_with(b"a name with byte 128", 128);
-    name_with(b"a name with byte 255", 255);
+fn bytes_of_names(rt: &(impl Print + Eprint)) {
+    name_with(rt, b"a name with byte 44", 44);
+    name_with(rt, b"a name with byte 45", 45);
+    name_with(rt, b"a name with byte 46", 46);
+    name_with(rt, b"a name with byte 47", 47);
+    name_with(rt, b"a name with byte 48", 48);
+    name_with(rt, b"a name with byte 57", 57);
+    name_with(rt, b"a name with byte 58", 58);
+    name_with(rt, b"a name with byte 59", 59);
+    name_with(rt, b"a name with byte 64", 64);
+    name_with(rt, b"a name with byte 65", 65);
+    name_with(rt, b"a name with byte 90", 90);
+    name_with(rt, b"a name with byte 91", 91);
+    name_with(rt, b"a name with byte 94", 94);
+    name_with(rt, b"a name with byte 95", 95);
+    name_with(rt, b"a name with byte 96", 96);
+    name_with(rt, b"a name with byte 97", 97);
+    name_with(rt, b"a name with byte 122", 122);
+    name_with(rt, b"a name with byte 123", 123);
+    name_with(rt, b"a name with byte 127", 127);
+    name_with(rt, b"a name with byte 128", 128);
+    name_with(rt, b"a name with byte 255", 255);
 }
 
 // Names that aren't plain, with faults behind and before them.
-fn names_with_faults() {
+fn names_with_faults(rt: &(impl Print + Eprint)) {
     after_hello(
+        rt,
         b"refusal 30: a line feed first in a name",
         b"\x0a\x82\x07\x01\x02\nt\x02\x04\x00",
     );
     after_hello(
+        rt,
         b"refusal 30: a line feed last in a name",
         b"\x0a\x82\x07\x01\x02t\n\x02\x04\x00",
     );
     after_hello(
+        rt,
         b"refusal 30: a line feed as name, and key type 3",
         b"\x0a\x82\x06\x01\x01\n\x03\x04\x00",
     );
     after_hello(
+        rt,
         b"refusal 30: a held name and a space, and another key type",
         b"\x0a\x82\x06\x01\x01t\x02\x04\x00\x0a\x82\x07\x01\x02t \x04\x04\x00",
     );
     after_hello(
+        rt,
         b"refusal 23: a line feed, and the body ends in the name",
         b"\x0a\x82\x03\x01\x02\n",
     );
     after_hello(
+        rt,
         b"refusal 24: a name of 33 bytes with a line feed",
         b"\x0a\x82\x03\x01\x21\n",
     );
 }
 
 // A session with the table `ab`, whose name then has these bytes at its last place and behind it.
-fn renamed(last: u8, behind: u8) -> Step {
-    let mut r = feed(greeted(), b"\x0a\x82\x07\x01\x02ab\x02\x04\x00", false);
+fn renamed(rt: &(impl Print + Eprint), last: u8, behind: u8) -> Step {
+    let mut r = feed(
+        rt,
+        greeted(rt),
+        b"\x0a\x82\x07\x01\x02ab\x02\x04\x00",
+        false,
+    );
     let mut store = r.store;
     let mut tables = store.tables;
     let mut t = tables[0];
@@ -753,40 +875,43 @@ fn renamed(last: u8, behind: u8) -> Step {
     r
 }
 
-fn closed_by_name() -> Step {
-    feed(half_way(), b"\x06\x01\x01\n\x02\x04\x00", false)
+fn closed_by_name(rt: &(impl Print + Eprint)) -> Step {
+    feed(rt, half_way(rt), b"\x06\x01\x01\n\x02\x04\x00", false)
 }
 
-fn names() {
+fn names(rt: &(impl Print + Eprint)) {
     let mut room = [0u8; REPLY_ROOM];
-    bytes_of_names();
-    names_with_faults();
+    bytes_of_names(rt);
+    names_with_faults(rt);
     taking_nothing(
+        rt,
         b"a store with the name a:, and a line feed behind it",
-        renamed(58, 10),
+        renamed(rt, 58, 10),
         b"",
         &mut room,
     );
     taking_nothing(
+        rt,
         b"refusal 4: a store with a line feed in a name",
-        renamed(10, 0),
+        renamed(rt, 10, 0),
         b"",
         &mut room,
     );
     taking_nothing(
+        rt,
         b"refusal 2: session closed with 30",
-        closed_by_name(),
+        closed_by_name(rt),
         b"\x06",
         &mut room,
     );
 }
 
-fn main() {
-    server_ids();
-    nothing_taken();
-    openings();
-    handshakes();
-    messages();
-    times();
-    names();
+fn main(rt: HostRuntime) {
+    server_ids(&rt);
+    nothing_taken(&rt);
+    openings(&rt);
+    handshakes(&rt);
+    messages(&rt);
+    times(&rt);
+    names(&rt);
 }

@@ -16,7 +16,7 @@ use Rattle.body.specs.declared.update.Form.{Form}
 use Rattle.body.proofs.Behind.{definition-behind, update-behind, switch-behind, acknowledgement-behind}
 use Rattle.body.proofs.Spans.{span-behind}
 use Rattle.body.proofs.Within.{definition-within, update-within}
-use Rattle.message.specs.Effects.{Effect, Asks, does, commits, refuse_with, refuse, refusal, refuse_body, fields_then, defined_table, definition, switch, acknowledgement, updated_entry, with_fields, following_id, update_of, update, other_message, by_form, stick_table}
+use Rattle.message.specs.Effects.{Effect, Asks, does, commits, refuse_with, refuse, refuse_body, fields_then, defined_table, definition, switch, acknowledgement, updated_entry, with_fields, following_id, update_of, update, other_message, by_form, stick_table}
 
 -- an answer that is no refusal
 abbrev pub is_accepted : Answer → Bool

@@ -1,5 +1,5 @@
 -- What a message does keeps record and store sound, and their shape; its reply is short.
-use Rattle.std.proofs.Common.{◌≡◌, ℕ, ◌+◌, ◌-◌, ◌^◌, ◌<◌, ◌≤◌, true, false, cond, ◌&&◌, eqb, leb, ◌⊎◌, List, length, get_or, ℤ, sym, refl, ap, ◌∙◌, subst, inl, inr, arith, lit<, get_or-set_same, eq-eqb, eqb-true, leb-true}
+use Rattle.std.proofs.Common.{◌≡◌, ℕ, ◌+◌, ◌^◌, ◌<◌, ◌≤◌, true, false, cond, ◌&&◌, eqb, leb, ◌⊎◌, List, length, get_or, ℤ, sym, refl, ap, ◌∙◌, subst, inl, inr, arith, lit<, get_or-set_same, eq-eqb, eqb-true, leb-true}
 use Rattle.lists.specs.declared.Found.{Found}
 use Rattle.lists.specs.declared.Found.TheVariants as found
 use Rattle.lists.specs.Lists.{first_place}
@@ -36,7 +36,7 @@ use Rattle.body.specs.Fields.{got, span_in}
 use Rattle.body.specs.declared.update.Form.{Form}
 use Rattle.body.specs.Bodies.{Definition, definition_fields, Update, time_mark}
 use Rattle.body.proofs.Spans.{span-length, span-bytes}
-use Rattle.body.proofs.Within.{definition-within, UpdateWithin, UpdateRead}
+use Rattle.body.proofs.Within.{definition-within, UpdateRead}
 use Rattle.wire.specs.Value.{Bytes}
 use Rattle.message.specs.Changes.{no_change, table_change, entry_change, changed}
 use Rattle.message.specs.Targets.{goes_to}

@@ -16,7 +16,7 @@ use Rattle.body.proofs.Within.{update-within}
 use Rattle.body.proofs.Given.{update-given}
 use Rattle.message.specs.declared.Effect.{Effect as EffectStruct}
 use Rattle.message.specs.declared.Asked.{Asked}
-use Rattle.message.specs.Effects.{Asks, refusal, definition, switch, acknowledgement, skipped, with_fields, following_id, update_of, update, other_message, by_form, stick_table}
+use Rattle.message.specs.Effects.{refusal, definition, switch, acknowledgement, skipped, with_fields, following_id, update_of, update, other_message, by_form, stick_table}
 use Rattle.message.specs.Structs.{effect_struct, asks_nothing, asked, update_read}
 
 -- ---- the key that was read lies within the body

@@ -1,1 +1,2 @@
-mod Promising
+pub mod Promising
+pub mod Turning

@@ -2,6 +2,7 @@
 #![tactic(auto)]
 
 ghost use Rattle.std.specs.Prelude.{◌≡◌};
+ghost use Rattle.store.specs.Shape.{StoreShape};
 ghost use Rattle.store.specs.Time.{pass_time, PassPromise};
 
 use store::counts::count_entry;
@@ -27,7 +28,8 @@ fn pass_entries(store: &mut Store, milliseconds: u32)
         if held != 0 {
             let e = store.entries[i];
             let left = pass_entry(e, milliseconds);
-            counts = count_entry(counts, left.held, left.table);
+            let counted = count_entry(counts, left.held, left.table);
+            counts = counted;
             store.entries[i] = left;
         }
         i += 1;
@@ -35,10 +37,18 @@ fn pass_entries(store: &mut Store, milliseconds: u32)
     store.counts = counts;
 }
 
+// A lent store has the shape that its type says. A proof knows this where the store is read, so it is read here; nothing is done.
+fn shaped(store: &Store)
+    ensures { StoreShape store.now }
+{
+    let _first = store.counts[0];
+}
+
 // Passes milliseconds on a lent store, which holds the new state afterwards: 0; or 4, and the store stays, where it isn't sound.
 pub fn pass_lent(store: &mut Store, milliseconds: u32) -> u32
     ensures { PassPromise store.old (record { milliseconds = milliseconds; number = result; store = store.new }) }
 {
+    shaped(store);
     if !store_ok(store) {
         return 4;
     }

@@ -10,12 +10,15 @@ use opening::{OPENING_ROOM, open_answerer};
 use reading::{REPLY_ROOM, Step, read};
 use session::{Connection, Outcome};
 use store::{TABLES, Table};
-use text::arguments::none_given;
-use text::input::{Next, next_of, read_some};
+use text::arguments::{none_given, words};
+use text::input::{Next, count, next_of, read_some};
 use text::output::{Page, flush, room_at, write};
 
 // More than any call's lines need.
 const MARGIN: usize = 1024;
+
+// For a piece, and for its lines.
+const ROOM: usize = 65_536;
 
 // Between two pieces: the last call, the output that isn't written yet, and how the input stands.
 #[derive(Clone, Copy)]
@@ -28,6 +31,7 @@ struct Run {
 
 // The lines of a call.
 fn put_lines(
+    rt: &(impl Print + Eprint),
     out: &mut [u8],
     page: Page,
     connection: Connection,
@@ -35,7 +39,7 @@ fn put_lines(
     outcome: Outcome,
     reply: &[u8],
 ) -> Page {
-    let p = room_at(out, page, MARGIN);
+    let p = room_at(rt, out, page, MARGIN);
     let answer = outcome.answer;
     let next = put_call(
         out,
@@ -79,7 +83,7 @@ fn next_start(at: usize, taken: usize, len: usize, over: bool) -> usize
 
 // A piece, offered until all of it is taken, a call takes nothing, as on a closed session, or a write failed. The step goes to the
 // call whole and from the loop itself: taken apart, or passed on by another function, it would be copied once more.
-fn list_piece(run: Run, piece: &[u8], out: &mut [u8]) -> Run {
+fn list_piece(rt: &(impl Print + Eprint), run: Run, piece: &[u8], out: &mut [u8]) -> Run {
     let mut step = run.step;
     let mut page = run.page;
     let mut reply = [0u8; REPLY_ROOM];
@@ -91,7 +95,7 @@ fn list_piece(run: Run, piece: &[u8], out: &mut [u8]) -> Run {
         let connection = session.connection;
         let store = step.store;
         let tables = store.tables;
-        page = put_lines(out, page, connection, tables, outcome, &reply);
+        page = put_lines(rt, out, page, connection, tables, outcome, &reply);
         let over = is_over(connection.closed, page.written);
         at = next_start(at, outcome.taken, piece.len(), over);
     }
@@ -122,29 +126,29 @@ fn listed(run: Run, page: Page) -> Run {
 }
 
 // Reads once, and lists what came.
-fn list_some(run: Run, out: &mut [u8]) -> Run {
-    let mut buffer = io::large_buffer();
-    let got = read_some(&mut buffer);
+fn list_some(rt: &(impl Input + Print + Eprint), run: Run, out: &mut [u8]) -> Run {
+    let mut buffer = [0u8; ROOM];
+    let got = read_some(rt, &mut buffer);
     match next_of(got) {
         Next::Again => run,
         Next::Failed => stopped(run, true),
         Next::End => stopped(run, false),
         Next::Bytes => {
-            let n = io::count(got, &buffer);
-            let r = list_piece(run, &buffer[..n], out);
-            let page = flush(out, r.page);
+            let n = count(got, &buffer);
+            let r = list_piece(rt, run, &buffer[..n], out);
+            let page = flush(rt, out, r.page);
             listed(r, page)
         }
     }
 }
 
 // Nothing says that an input ends, so the turns are counted down from a number that no run uses up.
-fn list_all(run: Run, out: &mut [u8]) -> Run {
+fn list_all(rt: &(impl Input + Print + Eprint), run: Run, out: &mut [u8]) -> Run {
     let mut r = run;
     let mut turns = u64::MAX;
     while turns > 0 {
         turns -= 1;
-        r = list_some(r, out);
+        r = list_some(rt, r, out);
         if !r.goes_on {
             return r;
         }
@@ -152,8 +156,8 @@ fn list_all(run: Run, out: &mut [u8]) -> Run {
     r
 }
 
-fn main() {
-    if !none_given(b"peerlist", os::arg_count()) {
+fn main(rt: HostRuntime) {
+    if !none_given(&rt, &rt.stderr(), b"peerlist", words(&rt)) {
         return;
     }
     let mut room = [0u8; OPENING_ROOM];
@@ -174,11 +178,11 @@ fn main() {
         goes_on: true,
         failed: false,
     };
-    let mut out = io::large_buffer();
-    let last = list_all(run, &mut out);
+    let mut out = [0u8; ROOM];
+    let last = list_all(&rt, run, &mut out);
     if last.failed {
         return;
     }
     let n = put_end(&mut out, 0, last.step.session);
-    write(&out, n);
+    write(&rt, &out, n);
 }

@@ -14,6 +14,7 @@ pub use crate::results::Step;
 use crate::start::start_read;
 use session::{Answer, Outcome, Session};
 use store::Store;
+use store::lent::store_shaped;
 use store_scan::scan;
 
 // Reads bytes of a piece up to and with the first that ends a message or shows a refusal, else all of it. Record and store are lent, and
@@ -26,6 +27,7 @@ pub fn read_lent(
 ) -> Outcome
     ensures { ReadPromise session.old store.old (record { piece = piece.entry.now; room = reply.old; outcome = result; session = session.new; store = store.new; final = reply.new }) }
 {
+    store_shaped(store);
     let tables = store.tables;
     let started = start_read(*session, tables, piece);
     let query = started.query;
@@ -33,7 +35,8 @@ pub fn read_lent(
     let counts = store.counts;
     let step = finish_read(*session, started, scanned, counts, reply);
     *session = step.session;
-    store.counts = step.counts;
+    let counts = step.counts;
+    store.counts = counts;
     if step.puts_entry {
         store.entries[step.place] = step.entry;
     }

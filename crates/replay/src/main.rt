@@ -23,7 +23,7 @@ use passing::pass;
 use reading::{Step, read};
 use sending::{Ask, Sent, send};
 use store::{ENTRIES, Entry, Store, TABLES, Table};
-use text::arguments::none_given;
+use text::arguments::{none_given, words};
 use text::input::Filled;
 use text::output::{Page, flush, room_at};
 use text::put;
@@ -32,6 +32,9 @@ use wire::fixed::{FourBytes, read_number};
 
 // More than the lines of one command, or of one entry, need.
 const MARGIN: usize = 4096;
+
+// For a piece, for a message and for the lines.
+const ROOM: usize = 65_536;
 
 // Between two commands: whether a session was opened, the script goes on and a read failed, record and store in the last reading call's
 // step, and the output that isn't written yet.
@@ -77,9 +80,9 @@ fn open(role: u8, room: &mut [u8]) -> Opened {
     open_caller(b"east", b"west", 7, 0, room)
 }
 
-fn open_session(run: Run, store: Store, out: &mut [u8]) -> Run {
+fn open_session(rt: &(impl Input + Print + Eprint), run: Run, store: Store, out: &mut [u8]) -> Run {
     let mut one = [0u8; 1];
-    let read = text::input::fill(&mut one);
+    let read = text::input::fill(rt, &mut one);
     let Filled::Whole = read else {
         return stopped(run, read);
     };
@@ -91,7 +94,7 @@ fn open_session(run: Run, store: Store, out: &mut [u8]) -> Run {
     let opened = open(role, &mut room);
     let session = opened.session;
     let outcome = opened.outcome;
-    let page = room_at(out, run.page, MARGIN);
+    let page = room_at(rt, out, run.page, MARGIN);
     let b = put(out, page.next, b"open\n");
     let next = put_reply(out, b, &room, outcome.reply_len);
     let step = Step {
@@ -149,11 +152,11 @@ fn put_call(out: &mut [u8], at: usize, step: Step, reply: &[u8]) -> usize {
     put(out, f, b"spoiled\n")
 }
 
-fn call(run: Run, room: u8, piece: &[u8], out: &mut [u8]) -> Run {
+fn call(rt: &(impl Print + Eprint), run: Run, room: u8, piece: &[u8], out: &mut [u8]) -> Run {
     let mut reply = [0xaau8; 256];
     let given = run.step;
     let step = read_with(given, piece, &mut reply, room as usize);
-    let page = room_at(out, run.page, MARGIN);
+    let page = room_at(rt, out, run.page, MARGIN);
     let next = put_call(out, page.next, step, &reply);
     Run {
         opened: true,
@@ -165,23 +168,30 @@ fn call(run: Run, room: u8, piece: &[u8], out: &mut [u8]) -> Run {
 }
 
 // Reads the next n bytes of the script.
-fn fill(buffer: &mut [u8], n: usize) -> Filled {
+fn fill(rt: &(impl Input + Eprint), buffer: &mut [u8], n: usize) -> Filled {
     if buffer.len() < n {
         return Filled::End;
     }
-    text::input::fill(&mut buffer[..n])
+    text::input::fill(rt, &mut buffer[..n])
 }
 
 // A call on the next n bytes of the script.
-fn call_on(run: Run, room: u8, n: usize, buffer: &mut [u8], out: &mut [u8]) -> Run {
-    let read = fill(buffer, n);
+fn call_on(
+    rt: &(impl Input + Print + Eprint),
+    run: Run,
+    room: u8,
+    n: usize,
+    buffer: &mut [u8],
+    out: &mut [u8],
+) -> Run {
+    let read = fill(rt, buffer, n);
     let Filled::Whole = read else {
         return stopped(run, read);
     };
     if buffer.len() < n {
         return ended(run);
     }
-    call(run, room, &buffer[..n], out)
+    call(rt, run, room, &buffer[..n], out)
 }
 
 // A number of two bytes.
@@ -189,24 +199,24 @@ fn big_endian(high: u8, low: u8) -> usize {
     high as usize * 256 + low as usize
 }
 
-fn call_on_piece(run: Run, out: &mut [u8]) -> Run {
+fn call_on_piece(rt: &(impl Input + Print + Eprint), run: Run, out: &mut [u8]) -> Run {
     let mut head = [0u8; 3];
-    let read = text::input::fill(&mut head);
+    let read = text::input::fill(rt, &mut head);
     let Filled::Whole = read else {
         return stopped(run, read);
     };
     let n = big_endian(head[1], head[2]);
-    let mut buffer = io::large_buffer();
-    call_on(run, head[0], n, &mut buffer, out)
+    let mut buffer = [0u8; ROOM];
+    call_on(rt, run, head[0], n, &mut buffer, out)
 }
 
 // ---- passing time
 
 // A run after so many milliseconds, with the line of the call.
-fn passed(run: Run, milliseconds: u32, out: &mut [u8]) -> Run {
+fn passed(rt: &(impl Print + Eprint), run: Run, milliseconds: u32, out: &mut [u8]) -> Run {
     let p = pass(run.step.store, milliseconds);
     let store = p.store;
-    let page = room_at(out, run.page, MARGIN);
+    let page = room_at(rt, out, run.page, MARGIN);
     let a = put(out, page.next, b"passed");
     let b = put_decimal_word(out, a, p.number as u64);
     let next = put(out, b, b"\n");
@@ -218,14 +228,14 @@ fn passed(run: Run, milliseconds: u32, out: &mut [u8]) -> Run {
     r
 }
 
-fn pass_time(run: Run, out: &mut [u8]) -> Run {
+fn pass_time(rt: &(impl Input + Print + Eprint), run: Run, out: &mut [u8]) -> Run {
     let mut bytes = [0u8; 4];
-    let read = text::input::fill(&mut bytes);
+    let read = text::input::fill(rt, &mut bytes);
     let Filled::Whole = read else {
         return stopped(run, read);
     };
     match read_number(&bytes, 0) {
-        FourBytes::Value { value, next } => passed(run, value, out),
+        FourBytes::Value { value, next } => passed(rt, run, value, out),
         FourBytes::Short => ended(run),
     }
 }
@@ -287,13 +297,13 @@ fn put_sending(out: &mut [u8], at: usize, sent: Sent, room: &[u8]) -> usize {
 }
 
 // A run after a sending call, with its lines.
-fn sent_with(run: Run, ask: Ask, n: usize, out: &mut [u8]) -> Run {
-    let mut room = io::large_buffer();
+fn sent_with(rt: &(impl Print + Eprint), run: Run, ask: Ask, n: usize, out: &mut [u8]) -> Run {
+    let mut room = [0u8; ROOM];
     mark(&mut room);
     let s = send_with(run, ask, &mut room, n);
     let session = s.session;
     let sent = s.sent;
-    let page = room_at(out, run.page, MARGIN);
+    let page = room_at(rt, out, run.page, MARGIN);
     let next = put_sending(out, page.next, sent, &room);
     let mut step = run.step;
     step.session = session;
@@ -303,9 +313,9 @@ fn sent_with(run: Run, ask: Ask, n: usize, out: &mut [u8]) -> Run {
     r
 }
 
-fn send_message(run: Run, entry: bool, out: &mut [u8]) -> Run {
+fn send_message(rt: &(impl Input + Print + Eprint), run: Run, entry: bool, out: &mut [u8]) -> Run {
     let mut head = [0u8; 7];
-    let read = text::input::fill(&mut head);
+    let read = text::input::fill(rt, &mut head);
     let Filled::Whole = read else {
         return stopped(run, read);
     };
@@ -317,30 +327,46 @@ fn send_message(run: Run, entry: bool, out: &mut [u8]) -> Run {
         id: value,
         place: big_endian(0, head[0]),
     };
-    sent_with(run, ask, big_endian(head[5], head[6]), out)
+    sent_with(rt, run, ask, big_endian(head[5], head[6]), out)
 }
 
 // ---- a dump
 
-fn dump_table(page: Page, place: usize, t: Table, out: &mut [u8]) -> Page {
-    let p = room_at(out, page, MARGIN);
+fn dump_table(
+    rt: &(impl Print + Eprint),
+    page: Page,
+    place: usize,
+    t: Table,
+    out: &mut [u8],
+) -> Page {
+    let p = room_at(rt, out, page, MARGIN);
     let next = put_table(out, p.next, place, t);
     turned(p, next)
 }
 
-fn dump_tables(page: Page, tables: [Table; TABLES], out: &mut [u8]) -> Page {
+fn dump_tables(
+    rt: &(impl Print + Eprint),
+    page: Page,
+    tables: [Table; TABLES],
+    out: &mut [u8],
+) -> Page {
     let mut at = page;
     let mut place = 0;
     while place < TABLES {
         let t = tables[place];
-        at = dump_table(at, place, t, out);
+        at = dump_table(rt, at, place, t, out);
         place += 1;
     }
     at
 }
 
-fn dump_counts(page: Page, counts: [u32; TABLES], out: &mut [u8]) -> Page {
-    let p = room_at(out, page, MARGIN);
+fn dump_counts(
+    rt: &(impl Print + Eprint),
+    page: Page,
+    counts: [u32; TABLES],
+    out: &mut [u8],
+) -> Page {
+    let p = room_at(rt, out, page, MARGIN);
     let next = put_counts(out, p.next, counts);
     turned(p, next)
 }
@@ -353,13 +379,20 @@ fn types_of(tables: [Table; TABLES], place: usize) -> u32 {
     t.data_types
 }
 
-fn dump_entry(page: Page, place: usize, types: u32, e: Entry, out: &mut [u8]) -> Page {
-    let p = room_at(out, page, MARGIN);
+fn dump_entry(
+    rt: &(impl Print + Eprint),
+    page: Page,
+    place: usize,
+    types: u32,
+    e: Entry,
+    out: &mut [u8],
+) -> Page {
+    let p = room_at(rt, out, page, MARGIN);
     let next = put_entry(out, p.next, place, types, e);
     turned(p, next)
 }
 
-fn dump_entries(page: Page, store: Store, out: &mut [u8]) -> Page {
+fn dump_entries(rt: &(impl Print + Eprint), page: Page, store: Store, out: &mut [u8]) -> Page {
     let tables = store.tables;
     let entries = store.entries;
     let mut at = page;
@@ -367,21 +400,21 @@ fn dump_entries(page: Page, store: Store, out: &mut [u8]) -> Page {
     while place < ENTRIES {
         let e = entries[place];
         let types = types_of(tables, e.table);
-        at = dump_entry(at, place, types, e, out);
+        at = dump_entry(rt, at, place, types, e, out);
         place += 1;
     }
     at
 }
 
-fn show(run: Run, out: &mut [u8]) -> Run {
+fn show(rt: &(impl Print + Eprint), run: Run, out: &mut [u8]) -> Run {
     let store = run.step.store;
     let tables = store.tables;
-    let a = room_at(out, run.page, MARGIN);
+    let a = room_at(rt, out, run.page, MARGIN);
     let b = put_record(out, a.next, run.step.session);
-    let c = dump_tables(turned(a, b), tables, out);
+    let c = dump_tables(rt, turned(a, b), tables, out);
     let counts = store.counts;
-    let d = dump_counts(c, counts, out);
-    let page = dump_entries(d, store, out);
+    let d = dump_counts(rt, c, counts, out);
+    let page = dump_entries(rt, d, store, out);
     let mut r = run;
     r.page = page;
     r
@@ -389,42 +422,42 @@ fn show(run: Run, out: &mut [u8]) -> Run {
 
 // ---- the script
 
-fn later_command(run: Run, command: u8, out: &mut [u8]) -> Run {
+fn later_command(rt: &(impl Input + Print + Eprint), run: Run, command: u8, out: &mut [u8]) -> Run {
     match command {
-        b'N' => open_session(run, run.step.store, out),
-        b'C' => call_on_piece(run, out),
-        b'T' => pass_time(run, out),
-        b'P' => send_message(run, false, out),
-        b'E' => send_message(run, true, out),
-        b'D' => show(run, out),
+        b'N' => open_session(rt, run, run.step.store, out),
+        b'C' => call_on_piece(rt, run, out),
+        b'T' => pass_time(rt, run, out),
+        b'P' => send_message(rt, run, false, out),
+        b'E' => send_message(rt, run, true, out),
+        b'D' => show(rt, run, out),
         _ => ended(run),
     }
 }
 
-fn command(run: Run, out: &mut [u8]) -> Run {
+fn command(rt: &(impl Input + Print + Eprint), run: Run, out: &mut [u8]) -> Run {
     let mut one = [0u8; 1];
-    let read = text::input::fill(&mut one);
+    let read = text::input::fill(rt, &mut one);
     let Filled::Whole = read else {
         return stopped(run, read);
     };
     let c = one[0];
     if c == b'O' {
         let store = store::empty_store();
-        return open_session(run, store, out);
+        return open_session(rt, run, store, out);
     }
     if !run.opened {
         return ended(run);
     }
-    later_command(run, c, out)
+    later_command(rt, run, c, out)
 }
 
 // Nothing says that a script ends, so the turns are counted down from a number that no run uses up.
-fn run_all(run: Run, out: &mut [u8]) -> Run {
+fn run_all(rt: &(impl Input + Print + Eprint), run: Run, out: &mut [u8]) -> Run {
     let mut r = run;
     let mut turns = u64::MAX;
     while turns > 0 {
         turns -= 1;
-        r = command(r, out);
+        r = command(rt, r, out);
         if !r.goes_on {
             return r;
         }
@@ -436,17 +469,17 @@ fn run_all(run: Run, out: &mut [u8]) -> Run {
 }
 
 // The last line, unless reading failed; a failed write is seen by `flush`.
-fn put_end(run: Run, out: &mut [u8]) -> Page {
+fn put_end(rt: &(impl Print + Eprint), run: Run, out: &mut [u8]) -> Page {
     if run.failed {
         return run.page;
     }
-    let page = room_at(out, run.page, MARGIN);
+    let page = room_at(rt, out, run.page, MARGIN);
     let next = put(out, page.next, b"end\n");
     turned(page, next)
 }
 
-fn main() {
-    if !none_given(b"replay", os::arg_count()) {
+fn main(rt: HostRuntime) {
+    if !none_given(&rt, &rt.stderr(), b"replay", words(&rt)) {
         return;
     }
     let mut room = [0u8; OPENING_ROOM];
@@ -469,8 +502,8 @@ fn main() {
             written: true,
         },
     };
-    let mut out = io::large_buffer();
-    let last = run_all(run, &mut out);
-    let page = put_end(last, &mut out);
-    flush(&out, page);
+    let mut out = [0u8; ROOM];
+    let last = run_all(&rt, run, &mut out);
+    let page = put_end(&rt, last, &mut out);
+    flush(&rt, &out, page);
 }

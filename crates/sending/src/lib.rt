@@ -10,7 +10,9 @@ ghost use Rattle.sending.specs.Finish.{asked_by};
 
 use crate::finish::finish_send;
 use session::Session;
+use session::lent::session_shaped;
 use store::Store;
+use store::lent::store_shaped;
 use store_scan::{entry_at, store_ok};
 
 // What is asked for: the entry at a place, with this update ID, or else the definition of the table at a place, with this ID.
@@ -37,8 +39,10 @@ pub struct Step {
 
 // Writes one whole message to the front of the room. For a definition the entry at its place is copied too, and not looked at.
 pub fn send_lent(session: &mut Session, store: &Store, ask: Ask, room: &mut [u8]) -> Sent
-    ensures* { λ r. ⌜ SendPromise session.old store.now (record { asked = asked_by ask; room = room.old; result = r; session = session.new; final = room.new }) ⌝ }
+    ensures { SendPromise session.old store.now (record { asked = asked_by ask; room = room.old; result = result; session = session.new; final = room.new }) }
 {
+    store_shaped(store);
+    session_shaped(session);
     let sound = store_ok(store);
     let tables = store.tables;
     let entry = entry_at(store, ask.place);
@@ -49,7 +53,7 @@ pub fn send_lent(session: &mut Session, store: &Store, ask: Ask, room: &mut [u8]
 
 // The same by value. The record is lent where it lies in the step that is returned.
 pub fn send(session: Session, store: Store, ask: Ask, room: &mut [u8]) -> Step
-    ensures* { λ r. ⌜ SendPromise session store (record { asked = asked_by ask; room = room.old; result = r.sent; session = r.session; final = room.new }) ⌝ }
+    ensures { SendPromise session store (record { asked = asked_by ask; room = room.old; result = result.sent; session = result.session; final = room.new }) }
 {
     let mut step = Step {
         sent: Sent::Refused(0),

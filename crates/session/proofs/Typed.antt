@@ -6,7 +6,7 @@ use mir.Syntax.{w8}
 use borrow.Author.Rules.{rules}
 use denote.Laws.{Is}
 use denote.Struct.Declared.{row}
-use Rattle.lists.proofs.Elements.{each-in-field}
+use Rattle.lists.proofs.Elements.{each-element}
 use Rattle.session.specs.declared.Binding.{Binding}
 use Rattle.session.specs.declared.Connection.{Connection}
 use Rattle.session.specs.declared.Sending.{Sending}
@@ -36,8 +36,7 @@ connection-shape c vs p =
       remote = record { size = search rules; small = λ i. let f : Fits w8 (get_or c.remote i 0) = search rules in f.fits };
       places = search (rules, length-mapped);
       binding =
-          each-in-field (binding-type.the_field).row (λ (b : Binding). (binding-type.the_type).to b) BindingShape (λ b us q. binding-shape b us q) 8
-          c.bindings _ p.1.1.1.1.1.1.1.1.1.1.0 no_binding;
+          each-element (row binding-type.the_type) BindingShape binding-shape 8 c.bindings _ p.1.1.1.1.1.1.1.1.1.1.0 no_binding;
     }
 
 pub sending-shape : (x : Sending) (vs : List Val) → Is (row sending-type.the_type) x vs → SendingShape x

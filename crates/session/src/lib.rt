@@ -5,6 +5,7 @@
 
 pub mod answers;
 pub mod bound_ids;
+pub mod lent;
 pub mod reply_bytes;
 
 ghost use Rattle.std.specs.Prelude.{◌≡◌, ◌≤◌, length};

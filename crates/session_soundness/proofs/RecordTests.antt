@@ -19,7 +19,6 @@ use Rattle.session.proofs.Unfinished.{unfinished-within}
 use Rattle.session_soundness.specs.Sound.{field_tests, binding_tests, sound_connection, waits, unfinished_ok, sending_ok, is_refused_opening, sound_session}
 use Rattle.session_soundness.proofs.Waiting.{waits-whole}
 use Rattle.session.proofs.Basics.{told}
-use Rattle.session_soundness.proofs.ArrayParts.{part-fits, part-long}
 
 -- ---- the connection
 

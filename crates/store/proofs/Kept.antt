@@ -1,5 +1,5 @@
 -- Lookup in a sound store, and that putting a table or an entry by the rules keeps a store sound and every other lookup.
-use Rattle.std.proofs.Common.{◌≡◌, ℕ, ◌^◌, ◌<◌, ◌≤◌, true, false, eqb, ◌⊎◌, List, length, get_or, set, replicate, ℤ, sym, ◌∙◌, subst, ⊎_elim, arith, lit<, length-set, eqb-true}
+use Rattle.std.proofs.Common.{◌≡◌, ℕ, ◌^◌, ◌<◌, ◌≤◌, true, false, eqb, List, length, get_or, set, replicate, ℤ, sym, ◌∙◌, subst, ⊎_elim, arith, lit<, length-set, eqb-true}
 use lib.ListN.{get_or-replicate, length-replicate, get_or-eq_default}
 use lib.Signed.{mag}
 use native.Mathlib.Nat.{pow-le-pow_right}

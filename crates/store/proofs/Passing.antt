@@ -10,7 +10,7 @@ use Rattle.store.specs.declared.Store.{Store}
 use Rattle.store.specs.Store.{entry_held, entry_of, entry_keyed, key_of, with_entries, no_entry}
 use Rattle.store.specs.Shape.{EntryShape, StoreShape}
 use Rattle.store.specs.Sound.{entry_key_length_ok, key_rest_zero, values_ok, same_key, sound_store}
-use Rattle.store.specs.Time.{entry_timed, lowered, pass_entry, pass_time, pass_number, pass_store, Passed, PassPromise, PassedTwice}
+use Rattle.store.specs.Time.{entry_timed, lowered, pass_entry, pass_time, pass_number, pass_store, PassedTwice}
 use Rattle.store.proofs.Facts.{EntryFacts, SoundStore, sound-facts, facts-sound}
 use Rattle.store.proofs.Counting.{counts-cells}
 use Rattle.store.proofs.Kept.{entry_zero}

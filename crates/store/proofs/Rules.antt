@@ -1,5 +1,5 @@
 -- The rules of key types and data types: one law for each case.
-use Rattle.std.proofs.Common.{◌≡◌, ℕ, ◌-◌, ◌/◌, ◌%◌, ◌^◌, ◌<◌, ◌≤◌, Bool, true, false, ◌&&◌, eqb, leb, List, [], ◌∷◌, length, get_or, sym, refl, ap, ◌∙◌, subst, arith, lit<, ne_eqb, eqb-true, le-leb, leb-true}
+use Rattle.std.proofs.Common.{◌≡◌, ℕ, ◌/◌, ◌%◌, ◌^◌, ◌<◌, ◌≤◌, Bool, true, false, ◌&&◌, eqb, leb, List, [], ◌∷◌, length, get_or, sym, refl, ap, ◌∙◌, subst, arith, lit<, ne_eqb, eqb-true, le-leb, leb-true}
 use native.Mathlib.Nat.{div-eq_of_lt, pow-le-pow_right}
 use lib.ListN.{get_or-eq_default}
 use borrow.Author.Tests.{lt-leb}

@@ -5,7 +5,7 @@ use denote.Laws.{Is}
 use denote.Array.{Array}
 use denote.Struct.Declared.{row}
 use Rattle.lists.proofs.Maps.{length-mapped}
-use Rattle.lists.proofs.Elements.{each-element, each-in-field}
+use Rattle.lists.proofs.Elements.{each-element}
 use Rattle.store.specs.declared.Table.{Table}
 use Rattle.store.specs.declared.Entry.{Entry}
 use Rattle.store.specs.declared.Store.{Store}
@@ -58,9 +58,7 @@ store-shape s vs p =
       counts = record { size = search rules; small = λ i. let f : Fits w32 (get_or s.counts i 0) = search rules in f.fits };
       entries = search (rules, length-mapped);
       table =
-          each-in-field (table-type.the_field).row (λ (t : Table). (table-type.the_type).to t) TableShape (λ t us q. table-shape t us q) 8 s.tables _
-          p.1.1.0 no_table;
+          each-element (row table-type.the_type) TableShape table-shape 8 s.tables _ p.1.1.0 no_table;
       entry =
-          each-in-field (entry-type.the_field).row (λ (e : Entry). (entry-type.the_type).to e) EntryShape (λ e us q. entry-shape e us q) 128 s.entries _
-          p.1.1.1.1.0 no_entry;
+          each-element (row entry-type.the_type) EntryShape entry-shape 128 s.entries _ p.1.1.1.1.0 no_entry;
     }

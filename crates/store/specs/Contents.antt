@@ -1,5 +1,5 @@
 -- What a store holds, places apart: "the same tables, keys, values and remaining times, places apart".
-use Rattle.std.specs.Prelude.{◌≡◌, ℕ, ◌<◌, Bool, true, cond, ◌&&◌, List, [], ◌∷◌, map, replicate, ℤ, pos, ◌==◌, slice_index_or, refl}
+use Rattle.std.specs.Prelude.{◌≡◌, ℕ, ◌<◌, true, cond, ◌&&◌, List, [], ◌∷◌, map, replicate, ℤ, pos, ◌==◌, slice_index_or, refl}
 use Rattle.std.proofs.Math.Option.{Option, some, none}
 use Rattle.lists.specs.Lists.{among}
 use Rattle.store.specs.declared.Table.{Table}

@@ -1,5 +1,5 @@
 -- Request 2: time that passes, in milliseconds.
-use Rattle.std.specs.Prelude.{◌≡◌, ℕ, ◌+◌, ◌-◌, ◌^◌, ◌<◌, Bool, true, cond, ◌&&◌, List, [], ◌∷◌, map, pos, ◌==◌, nat_le, refl}
+use Rattle.std.specs.Prelude.{◌≡◌, ℕ, ◌+◌, ◌-◌, ◌^◌, ◌<◌, Bool, true, cond, ◌&&◌, [], ◌∷◌, map, pos, ◌==◌, nat_le, refl}
 use Rattle.lists.specs.declared.Found.TheVariants as found
 use Rattle.lists.specs.Lists.{first_place, first_from, pad_to}
 use Rattle.store.specs.declared.Entry.{Entry}

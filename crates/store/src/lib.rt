@@ -4,6 +4,7 @@
 
 pub mod counts;
 pub mod entries;
+pub mod lent;
 pub mod names;
 pub mod tables;
 pub mod time;

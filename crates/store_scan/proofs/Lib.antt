@@ -1,5 +1,4 @@
-pub mod Items
-pub mod Lending
+pub mod Filling
 pub mod Looking
 pub mod Scanning
 mod Testing

@@ -15,7 +15,9 @@ use Rattle.lists.specs.Lists.{first_place, eq_bytes}
 use Rattle.lists.proofs.Cases.{by-test, not-passed, and_first, and_second, and-true, and-false}
 use Rattle.lists.proofs.Bytes.{bytes-stop, bytes_next, bytes-end}
 use Rattle.lists.proofs.Searching.{Searching, search-start, search-here, search-next, search-end}
+use Rattle.std.proofs.lemmas.List.{get_or_default}
 use Rattle.store.specs.declared.Entry.{Entry}
+use Rattle.store.specs.Shape.{EntryShape}
 use Rattle.store.specs.Store.{entry_held, entry_of, entry_keyed, key_of, no_entry}
 use Rattle.message.specs.Targets.{keyed_as}
 use Rattle.store_scan.specs.Scan.{may_equal, Coded}
@@ -46,6 +48,19 @@ module _ (entry e : Entry) where
 pub ruleset keying = (rules, long-other, short-as)
 
 -- ---- the loop over the key's bytes: those of `entry`, and those of an entry e of the store
+
+module _ (entry e : Entry) where
+  -- from byte j on the keys say what they say as a whole
+  pub record Matching (j : ℕ) : Type 0 where
+    pub may : may_equal entry e ≡ true
+    pub within : j ≤ entry.key_len
+    pub rest : eq_bytes (key_of e) (key_of entry) ≡ eq_bytes (drop j (key_of e)) (drop j (key_of entry))
+
+  pub match-start : may_equal entry e ≡ true → Matching 0
+  match-start h = record { may = h; within = omega arith; rest = refl }
+
+  pub byte-within : {j : ℕ} → Matching j → j < entry.key_len → j < 64
+  byte-within r l = omega (arith, may-short entry e r.may)
 
 module _ (entry e : Entry) (long : length entry.key ≡ 64) (e-long : length e.key ≡ 64) where
   abbrev n : ℕ
@@ -78,16 +93,7 @@ module _ (entry e : Entry) (long : length entry.key ≡ 64) (e-long : length e.k
       ∙ and-true (entry_of entry.table (length (key_of entry)) e) (eq_bytes (key_of e) (key_of entry))
       (ap (λ (m : ℕ). entry_of entry.table m e) (length-of (leb-true n 64 t)) ∙ and_second (leb n 64) (entry_of entry.table n e) h)
 
-  -- from byte j on the keys say what they say as a whole
-  pub record Matching (j : ℕ) : Type 0 where
-    pub may : may_equal entry e ≡ true
-    pub within : j ≤ n
-    pub rest : eq_bytes (key_of e) (key_of entry) ≡ eq_bytes (drop j (key_of e)) (drop j (key_of entry))
-
-  pub match-start : may_equal entry e ≡ true → Matching 0
-  match-start h = record { may = h; within = omega arith; rest = refl }
-
-  module _ {j : ℕ} (r : Matching j) where
+  module _ {j : ℕ} (r : Matching entry e j) where
     byte : j < n → get_or (key_of entry) j 0 ≡ get_or entry.key j 0
     unfolding key_of
     byte l = get_or-take n entry.key j 0 l
@@ -96,16 +102,13 @@ module _ (entry e : Entry) (long : length entry.key ≡ 64) (e-long : length e.k
     unfolding key_of
     e-byte l = get_or-take e.key_len e.key j 0 (omega (arith, may-long entry e r.may))
 
-    pub byte-within : j < n → j < 64
-    byte-within l = omega (arith, may-short entry e r.may)
-
     inside : j < n → j < length (key_of entry)
     inside l = omega (arith, length-of (may-short entry e r.may))
 
     e-inside : j < n → j < length (key_of e)
     e-inside l = omega (arith, e-length-of r.may)
 
-    pub match-next : j < n → get_or e.key j 0 ≡ get_or entry.key j 0 → Matching (j + 1)
+    pub match-next : j < n → get_or e.key j 0 ≡ get_or entry.key j 0 → Matching entry e (j + 1)
     match-next l q =
         record {
           may = r.may;
@@ -121,10 +124,11 @@ module _ (entry e : Entry) (long : length entry.key ≡ 64) (e-long : length e.k
 
 -- ---- the loop over the entries
 
-module _ (entry : Entry) (hash : ℕ) (codes : List ℕ) (entries : List Entry) where
-  abbrev here : ℕ → Entry
-  here i = get_or entries i no_entry
+-- each place's key is as long as the code has room for
+pub key-long : (es : List Entry) → (length es ≡ 128) × ((k : ℕ) → k < 128 → EntryShape (get_or es k no_entry)) → (i : ℕ) (d : Entry) → i < 128 → length (get_or es i d).key ≡ 64
+key-long es h i d l = ap (λ (e : Entry). length e.key) (get_or_default es i d no_entry (omega (arith, h.0))) ∙ (h.1 i l).key.size
 
+module _ (entry : Entry) (hash : ℕ) (codes : List ℕ) (entries : List Entry) where
   -- no entry before place i has the key, where each entry with the key has this code
   abbrev pub Looking : ℕ → Type 0
   Looking i = Coded entry hash codes entries → Searching (keyed_as entry) entries 128 i
@@ -132,14 +136,14 @@ module _ (entry : Entry) (hash : ℕ) (codes : List ℕ) (entries : List Entry) 
   pub look : length entries ≡ 128 → Looking 0
   look n c = search-start n
 
-  pub look-next : (i : ℕ) → i < 128 → Looking i → keyed_as entry (here i) ≡ false → Looking (i + 1)
-  look-next i l r t c = search-next (r c) no_entry l t
+  pub look-next : (i : ℕ) (d : Entry) → i < 128 → Looking i → keyed_as entry (get_or entries i d) ≡ false → Looking (i + 1)
+  look-next i d l r t c = search-next (r c) d l t
 
   pub look-past : (i : ℕ) → i < 128 → Looking i → (get_or codes i 0 ≡ hash → ⊥) → Looking (i + 1)
-  look-past i l r f c = search-next (r c) no_entry l (not-passed (keyed_as entry (here i)) (λ t. f (c i l t)))
+  look-past i l r f c = search-next (r c) no_entry l (not-passed (keyed_as entry (get_or entries i no_entry)) (λ t. f (c i l t)))
 
-  pub look-here : (i : ℕ) → i < 128 → Looking i → keyed_as entry (here i) ≡ true → Coded entry hash codes entries → found.At i ≡ first_place (keyed_as entry) entries
-  look-here i l r t c = search-here (r c) no_entry l t
+  pub look-here : (i : ℕ) (d : Entry) → i < 128 → Looking i → keyed_as entry (get_or entries i d) ≡ true → Coded entry hash codes entries → found.At i ≡ first_place (keyed_as entry) entries
+  look-here i d l r t c = search-here (r c) d l t
 
   pub look-end : (i : ℕ) → 128 ≤ i → Looking i → Coded entry hash codes entries → found.Nothing ≡ first_place (keyed_as entry) entries
   look-end i l r c = search-end (r c) l

@@ -53,7 +53,8 @@ fn codes_of(store: &Store, tables: [Table; TABLES]) -> [u32; ENTRIES]
         let held = store.entries[i].held;
         if held != 0 {
             let e = store.entries[i];
-            found = count_entry(found, held, e.table);
+            let counted = count_entry(found, held, e.table);
+            found = counted;
             codes[i] = entry_code(tables, e);
         }
         i += 1;
@@ -86,10 +87,12 @@ fn may_equal(entry: Entry, e: Entry) -> bool
 }
 
 // The lowest place held with the table and the key of an entry. A place with another code than the key's hash is passed without a look
-// at its entry: each entry with the key has this code where the entries are sound.
+// at its entry: each entry with the key has this code where the entries are sound. The first read, which is not used, is for the proof: what is
+// read tells that the store has all its places.
 fn held_place(store: &Store, entry: Entry, hash: u32, codes: [u32; ENTRIES]) -> Found
     ensures { Coded entry hash codes store.now.entries → result ≡ first_place (keyed_as entry) store.now.entries }
 {
+    let _first = store.counts[0];
     let n = entry.key_len;
     let key = entry.key;
     let mut i = 0;
@@ -195,8 +198,8 @@ pub fn store_ok(store: &Store) -> bool
 pub fn entry_at(store: &Store, place: usize) -> Entry
     ensures { result ≡ get_or store.now.entries place no_entry }
 {
-    if place < ENTRIES {
-        return store.entries[place];
+    match store.entries.get(place) {
+        Some(e) => *e,
+        None => no_entry(),
     }
-    no_entry()
 }

@@ -86,9 +86,9 @@ keyed-before e f h = keyed-facts f.table (key_of f) e (and_second (leb f.key_len
 
 -- ---- a free place holds nothing
 
-pub no_table : table_held no_table ≡ false
+pub no-table : table_held no_table ≡ false
 unfolding table_held no_table
-no_table = refl
+no-table = refl
 
 pub no-entry : entry_held no_entry ≡ false
 unfolding entry_held no_entry

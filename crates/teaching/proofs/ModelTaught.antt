@@ -27,7 +27,7 @@ use Rattle.teaching.proofs.Members.{Member, spot, at_place, map-member, among-me
 use Rattle.teaching.proofs.OneMessage.{read_table, read_entry, AllFree, Reading}
 use Rattle.teaching.proofs.Running.{taught_tables, tables-run}
 use Rattle.teaching.proofs.Owned.{taught_entries, places-taught, member-taught, taught-member}
-use Rattle.teaching.proofs.Fitting.{IdsFacts, ids-facts, no_table, no-entry, made_held, made_table, owned-held, owned-table, known, all-ready, ids-few, taught-fits}
+use Rattle.teaching.proofs.Fitting.{IdsFacts, ids-facts, no-table, no-entry, made_held, made_table, owned-held, owned-table, known, all-ready, ids-few, taught-fits}
 use Rattle.teaching.proofs.ContentsKept.{table_kept, entry_kept, expiry-held, expiry-table}
 
 -- what stands past the last table's IDs
@@ -60,7 +60,7 @@ module _ (start : Store) (free : AllFree start) where
   none-held i =
       split (lt-or-le i (length start.tables))
       (λ l. free-not-one (table_at start i).held (every-at table_free start.tables no_table i free.tables-free l))
-      (λ l. ap table_held (get_or-eq_default start.tables no_table l) ∙ no_table)
+      (λ l. ap table_held (get_or-eq_default start.tables no_table l) ∙ no-table)
 
   none-entry-held : (i : ℕ) → entry_held (entry_at start i) ≡ false
   unfolding entry_held entry_free
@@ -75,7 +75,7 @@ module _ (start : Store) (sound : sound_store start ≡ true) (empty : is_empty 
   empty-table i =
       split (lt-or-le i (length start.tables))
       (λ l. not-true (table_held (table_at start i)) (every-at (λ u. not (table_held u)) start.tables no_table i empty l))
-      (λ l. ap table_held (get_or-eq_default start.tables no_table l) ∙ no_table)
+      (λ l. ap table_held (get_or-eq_default start.tables no_table l) ∙ no-table)
 
   -- a held entry's table is held
   pub empty-entry : (i : ℕ) → entry_held (entry_at start i) ≡ false

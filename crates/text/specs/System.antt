@@ -1,6 +1,6 @@
--- What holds of what the system answers. The contract of `libc::read` bounds its count, that of `io::write_all` says nothing, and none says
+-- What holds of what the system answers. The contract of `Read::read` bounds its count, that of `Print::write_all` says nothing, and none says
 -- which bytes were moved: so the rest, named at each definition, is free.
-use Rattle.std.specs.Prelude.{ℕ, ◌≤◌, ◌<◌, ◌≡◌, Bool, true, false, cond, ℤ, pos, negsuc, eqb}
+use Rattle.std.specs.Prelude.{ℕ, ◌≤◌, ◌<◌, ◌≡◌, Bool, true, false, cond, min, ℤ, pos, negsuc, eqb}
 use Rattle.text.specs.declared.input.Next.{Next}
 use Rattle.text.specs.declared.input.Next.TheVariants as next
 use Rattle.text.specs.declared.input.Filled.{Filled}
@@ -17,6 +17,11 @@ ReadAnswer size (negsuc k) = k ≤ 1
 unfoldable pub next_of : ℤ → Next
 next_of (pos k) = cond (eqb k 0) next.End next.Bytes
 next_of (negsuc k) = cond (eqb k 0) next.Failed (cond (eqb k 1) next.Again next.Bytes)
+
+-- how many of a buffer's first bytes an answer counts, in a buffer of some size: none where it is no count
+unfoldable pub count_of : ℕ → ℤ → ℕ
+count_of size (pos k) = min size k
+count_of size (negsuc k) = 0
 
 -- how filling a buffer of some size ended: an empty one is whole; free: how another ended, and the bytes
 unfoldable pub FillAnswer : ℕ → Filled → Type 0

@@ -4,8 +4,6 @@ ghost use Rattle.std.specs.Prelude.{◌≡◌, true, length};
 ghost use Rattle.text.specs.Room.{fits_behind, place_for};
 ghost use Rattle.text.specs.System.{WrittenAfter, WrittenFor};
 
-use libc::STDOUT_FILENO;
-
 // The position behind the text that isn't written yet, and whether all text before it was written.
 #[derive(Clone, Copy)]
 pub struct Page {
@@ -14,17 +12,19 @@ pub struct Page {
 }
 
 // Writes the first n bytes, and answers whether they were written.
-pub fn write(out: &[u8], n: usize) -> bool
+pub fn write(rt: &(impl Print + Eprint), out: &[u8], n: usize) -> bool
     ensures { WrittenAfter (length out.now) n true result }
 {
     if out.len() < n {
         return false;
     }
-    let is_written = io::write_all(STDOUT_FILENO, &out[..n]);
-    if !is_written {
-        os::fail(b"standard output");
+    match rt.write_all(&out[..n]) {
+        Ok(()) => true,
+        Err(e) => {
+            let _ = eprintln!(rt; "standard output: {e}");
+            false
+        }
     }
-    is_written
 }
 
 // Whether so many bytes fit behind a position.
@@ -38,27 +38,27 @@ fn fits_behind(size: usize, next: usize, most: usize) -> bool
 }
 
 // Whether all was written once the first n bytes are too. After a failed write none is tried.
-fn write_more(out: &[u8], n: usize, written: bool) -> bool
+fn write_more(rt: &(impl Print + Eprint), out: &[u8], n: usize, written: bool) -> bool
     ensures { WrittenAfter (length out.now) n written result }
 {
     if written {
-        return write(out, n);
+        return write(rt, out, n);
     }
     false
 }
 
 // Writes what isn't written yet.
-pub fn flush(out: &[u8], page: Page) -> Page
+pub fn flush(rt: &(impl Print + Eprint), out: &[u8], page: Page) -> Page
     ensures next_value { result.next ≡ 0 }
     ensures written_after { WrittenAfter (length out.now) page.next page.written result.written }
 {
-    let written = write_more(out, page.next, page.written);
+    let written = write_more(rt, out, page.next, page.written);
     Page { next: 0, written }
 }
 
 // The page with room for the next text, of at most so many bytes: as it is if there is room behind `next`, else from the start, and what
 // stands before `next` is written.
-pub fn room_at(out: &[u8], page: Page, most: usize) -> Page
+pub fn room_at(rt: &(impl Print + Eprint), out: &[u8], page: Page, most: usize) -> Page
     ensures next_value { result.next ≡ place_for (length out.now) page.next most }
     ensures written_for { WrittenFor (length out.now) page.next most page.written result.written }
 {
@@ -69,6 +69,6 @@ pub fn room_at(out: &[u8], page: Page, most: usize) -> Page
             written: page.written,
         };
     }
-    let written = write_more(out, next, page.written);
+    let written = write_more(rt, out, next, page.written);
     Page { next: 0, written }
 }

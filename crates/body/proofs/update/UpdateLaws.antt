@@ -1,12 +1,11 @@
 -- Each way through the readers of an update, in the form of what it has to show.
-use Prim.Native.Nat.{ℕ, ◌-◌}
+use Prim.Native.Nat.{ℕ}
 use mathlib.Core.Path.{◌≡◌, refl, ◌∙◌}
 use mathlib.Core.List.{List}
 use mathlib.Core.Bool.{Bool, true, false}
 use lib.ListN.{replicate}
 use lib.IntN.{pos}
 use borrow.Author.Rules.{rules}
-use Rattle.wire.specs.declared.values.ServerId.TheVariants as server
 use Rattle.store.specs.declared.types.KeyKind.{KeyKind}
 use Rattle.store.specs.Limits.{key_kind, is_string}
 use Rattle.body.specs.declared.update.Form.{Form}

@@ -1,4 +1,3 @@
-use Prim.Native.Nat.{◌-◌}
 use Rattle.handshake.proofs.NameBytes.{passing}
 use Rattle.handshake.proofs.bytes_within.Goals as goal
 

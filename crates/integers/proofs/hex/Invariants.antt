@@ -2,7 +2,4 @@ use Rattle.std.proofs.Common.{◌-◌, ◌≤◌, length}
 use Rattle.integers.proofs.hex.Given as goal
 
 abbrev pub invariant-loop-i : goal.invariant-loop-i
-invariant-loop-i l = l.i-end ≤ length l.bytes
-
-abbrev pub decreases-loop-i : goal.decreases-loop-i
-decreases-loop-i l = l.i-end - l.i
+invariant-loop-i g l = l.i-end ≤ length l.bytes

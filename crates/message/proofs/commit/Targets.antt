@@ -6,7 +6,6 @@ use Rattle.lists.specs.Lists.{first_place}
 use Rattle.lists.proofs.Cases.{never, cond-true, cond-false, and-true}
 use Rattle.lists.proofs.Places.{first-agree}
 use Rattle.store.specs.declared.Entry.{Entry}
-use Rattle.store.specs.declared.Store.{Store}
 use Rattle.store.specs.Store.{entry_keyed, entry_free, key_of}
 use Rattle.store.proofs.Lookup.{blank_entry}
 use Rattle.store.specs.declared.entries.Place.{Place}

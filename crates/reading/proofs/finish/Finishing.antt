@@ -357,10 +357,10 @@ module _ (t : Store) (shape : StoreShape t) (c : Change) (cs : List ℕ) where
 
 -- ---- what the three parts of the reading call ensure gives its promise
 
-pub finished_as : (m : StepChange) (cs rs : List ℕ) (a b : Bool) → rs ≡ answered_counts m.outcome.answer cs → a ≡ (eqb m.change.kind 2 && ltb m.change.place 128) → b ≡ (eqb m.change.kind 1 && ltb m.change.place 8)
+pub finished-so : (m : StepChange) (cs rs : List ℕ) (a b : Bool) → rs ≡ answered_counts m.outcome.answer cs → a ≡ (eqb m.change.kind 2 && ltb m.change.place 128) → b ≡ (eqb m.change.kind 1 && ltb m.change.place 8)
     → ◌≡◌ {A = Finished} (record { outcome = m.outcome; session = m.session; counts = rs; puts_entry = a; puts_table = b; place = m.change.place; entry = m.change.entry; table = m.change.table }) (finished_as cs m)
 unfolding finished_as
-finished_as m cs rs a b o p q = rw (o, p, q)
+finished-so m cs rs a b o p q = rw (o, p, q)
 
 -- where m is what `finish_change` returned
 pub ends_read : (s : Session) (x : Started) (y : Scanned) (room : List ℕ) (m : StepChange) (final cs rs : List ℕ) (a b : Bool)
@@ -370,7 +370,7 @@ pub ends_read : (s : Session) (x : Started) (y : Scanned) (room : List ℕ) (m :
     → (◌≡◌ {A = Finished} (record { outcome = m.outcome; session = m.session; counts = rs; puts_entry = a; puts_table = b; place = m.change.place; entry = m.change.entry; table = m.change.table })
     (finished_as cs (end_step s x.taken (end_of s x y (length room)))))
     × (final ≡ end_room room (end_of s x y (length room)))
-ends_read s x y room m final cs rs a b f o p q = (finished_as m cs rs a b o p q ∙ ap (finished_as cs) f.0, f.1)
+ends_read s x y room m final cs rs a b f o p q = (finished-so m cs rs a b o p q ∙ ap (finished_as cs) f.0, f.1)
 
 within : (b : Bool) (kind wanted i n : ℕ) → b ≡ (eqb kind wanted && ltb i n) → b ≡ true → i < n
 within b kind wanted i n e h = ltb-true i n (and_second (eqb kind wanted) (ltb i n) (sym e ∙ h))

@@ -1,10 +1,4 @@
 use Rattle.session_soundness.proofs.RecordTests.{sounding}
-use Rattle.session_soundness.proofs.session_ok.Reads as reads
-use Rattle.session_soundness.proofs.session_ok.Lts as lts
-use Rattle.session_soundness.proofs.connection_ok.Reads as connection-ok-reads
-use Rattle.session_soundness.proofs.refused.is_refused_opening.Reads as is-refused-opening-reads
-use Rattle.session_soundness.proofs.sending.sending_ok.Reads as sending-ok-reads
-use Rattle.session_soundness.proofs.unfinished_ok.Reads as unfinished-ok-reads
 use Rattle.session_soundness.proofs.session_ok.Goals as goal
 
 -- src/lib.rt:53:8

@@ -1,9 +1,4 @@
 use Rattle.store_scan.proofs.Scanning.{comparing}
-use Rattle.store_scan.proofs.by_keys.Reads as reads
-use Rattle.store_scan.proofs.by_keys.Lts as lts
-use Rattle.store_scan.proofs.place_from.Reads as place-from-reads
-use Rattle.store_soundness.proofs.codes.all_sound.Reads as all-sound-reads
-use Rattle.store_soundness.proofs.keys.keys_distinct.Reads as keys-distinct-reads
 use Rattle.store_scan.proofs.by_keys.Goals as goal
 
 -- src/lib.rt:150:9

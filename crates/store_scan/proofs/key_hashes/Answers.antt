@@ -1,8 +1,4 @@
 use Rattle.store_scan.proofs.Scanning.{hashing}
-use Rattle.store_scan.proofs.key_hashes.Reads as reads
-use Rattle.store_scan.proofs.key_hashes.Lts as lts
-use Rattle.store_soundness.proofs.hashes.hashes_distinct.Reads as hashes-distinct-reads
-use Rattle.store_soundness.proofs.hashes.held_hash.Reads as held-hash-reads
 use Rattle.store_scan.proofs.key_hashes.Goals as goal
 
 -- src/lib.rt:66:9

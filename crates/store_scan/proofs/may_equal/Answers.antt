@@ -1,7 +1,4 @@
 use Rattle.store_scan.proofs.Looking.{keying}
-use Rattle.store_scan.proofs.may_equal.Reads as reads
-use Rattle.store_scan.proofs.may_equal.Lts as lts
-use Rattle.store.proofs.tables.entry_of.Reads as entry-of-reads
 use Rattle.store_scan.proofs.may_equal.Goals as goal
 
 -- src/lib.rt:80:9

@@ -1,7 +1,4 @@
 use Rattle.store_scan.proofs.Scanning.{going}
-use Rattle.store_scan.proofs.place_from.Reads as reads
-use Rattle.store_scan.proofs.place_from.Lts as lts
-use Rattle.store_scan.proofs.lowest_free.Reads as lowest-free-reads
 use Rattle.store_scan.proofs.place_from.Goals as goal
 
 -- src/lib.rt:132:19

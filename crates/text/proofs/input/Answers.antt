@@ -1,24 +1,24 @@
 -- What a read answered, and how filling a buffer ended.
-use Prim.Native.Nat.{ℕ, zero, suc, ◌^◌, ◌-◌, ◌≤◌, ◌<◌}
+use Prim.Native.Nat.{ℕ, min, zero, suc, ◌^◌, ◌-◌, ◌≤◌, ◌<◌}
 use native.Mathlib.Omega.{arith}
-use mathlib.Core.Path.{◌≡◌, refl, sym, ap, ◌∙◌}
-use lib.IntN.{ℤ, pos, negsuc}
+use mathlib.Core.Path.{◌≡◌, refl, sym, ap, subst, ◌∙◌}
+use mathlib.Core.Bool.{true, false}
+use lib.IntN.{ℤ, pos, negsuc, nat_abs}
+use lib.Signed.{lt_z}
 use borrow.Author.Rules.{rules}
-use borrow.Author.Tests.{ne_eqb}
+use borrow.Author.Tests.{ltb-true, ne_eqb}
 use mir.Facts.{to_z-of_z}
 use mir.Syntax.{w64}
 use mir.Val.{SFits, to_z, of_z}
-use Rattle.libc.specs.Io.{Moved}
 use Rattle.text.specs.declared.input.Filled.TheVariants as filled
 use Rattle.text.specs.declared.input.Next.TheVariants as next
-use Rattle.text.specs.System.{ReadAnswer, next_of, FillAnswer}
+use Rattle.text.specs.System.{ReadAnswer, next_of, FillAnswer, count_of}
 
 -- ---- one read
 module _ (size : ℕ) where
-  pub read_count : (r : ℤ) → Moved size r → ReadAnswer size r
+  pub read_count : (k : ℕ) (z : ℤ) → z ≡ pos k → k ≤ size → ReadAnswer size z
   unfolding ReadAnswer
-  read_count (pos k) m = m
-  read_count (negsuc k) m = omega arith
+  read_count k z e l = rw e l
 
   pub read-failed : ReadAnswer size (negsuc 0)
   unfolding ReadAnswer
@@ -29,6 +29,19 @@ module _ (size : ℕ) where
   read-interrupted = omega arith
 
 pub ruleset one-read = (rules, read_count, read-failed, read-interrupted)
+
+-- ---- the bytes that an answer counts
+module _ (size : ℕ) where
+  -- of a number below 0, and of one that isn't
+  pub counts-none : (z u : ℤ) → u ≡ z → lt_z u (pos 0) ≡ true → 0 ≡ count_of size z
+  unfolding count_of
+  counts-none (pos k) u e l = absurd (omega (arith, ltb-true k 0 (subst (λ v. lt_z v (pos 0) ≡ true) e l)))
+  counts-none (negsuc k) u e l = refl
+
+  pub counts : (z u : ℤ) → u ≡ z → lt_z u (pos 0) ≡ false → min size (nat_abs u) ≡ count_of size z
+  unfolding count_of
+  counts (pos k) u e l = rw e refl
+  counts (negsuc k) u e l = let h : true ≡ false = subst (λ v. lt_z v (pos 0) ≡ false) e l in cc
 
 -- ---- what follows a read
 module _ (z : ℤ) (f : SFits w64 z) where

@@ -1,4 +1,3 @@
-use Prim.Native.Nat.{◌-◌}
 use Rattle.wire.proofs.Reading.{reading}
 use Rattle.wire.proofs.read_int.Goals as goal
 

@@ -1,5 +1,4 @@
 use Rattle.body.proofs.Filling.{filling-laws}
-use Prim.Native.Nat.{◌-◌}
 use Rattle.body.proofs.times.read_periods.Goals as goal
 
 pub loop-i-init : goal.loop-i-init

@@ -1,7 +1,4 @@
 use Rattle.body.proofs.update.UpdateLaws.{number-laws}
-use Rattle.body.proofs.update.read_number_or.Reads as reads
-use Rattle.body.proofs.update.read_number_or.Lts as lts
-use Rattle.wire.proofs.fixed.read_number.Reads as read-number-reads
 use Rattle.body.proofs.update.read_number_or.Goals as goal
 
 -- src/update.rt:88:22

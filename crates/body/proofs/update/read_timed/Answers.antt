@@ -1,10 +1,4 @@
 use Rattle.body.proofs.update.UpdateLaws.{timed-laws}
-use Rattle.body.proofs.update.read_timed.Reads as reads
-use Rattle.body.proofs.update.read_timed.Lts as lts
-use Rattle.body.proofs.update.no_update.Reads as no-update-reads
-use Rattle.body.proofs.update.read_entry.Reads as read-entry-reads
-use Rattle.body.proofs.update.read_number_or.Reads as read-number-or-reads
-use Rattle.body.proofs.update.time_mark.Reads as time-mark-reads
 use Rattle.body.proofs.update.read_timed.Goals as goal
 
 -- src/update.rt:116:11

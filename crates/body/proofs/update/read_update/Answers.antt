@@ -1,9 +1,4 @@
 use Rattle.body.proofs.update.UpdateLaws.{update-laws}
-use Rattle.body.proofs.update.read_update.Reads as reads
-use Rattle.body.proofs.update.read_update.Lts as lts
-use Rattle.body.proofs.update.no_update.Reads as no-update-reads
-use Rattle.body.proofs.update.read_number_or.Reads as read-number-or-reads
-use Rattle.body.proofs.update.read_timed.Reads as read-timed-reads
 use Rattle.body.proofs.update.read_update.Goals as goal
 
 -- src/update.rt:129:11

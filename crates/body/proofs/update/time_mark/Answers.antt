@@ -1,6 +1,4 @@
 use Rattle.body.proofs.update.UpdateLaws.{mark-laws}
-use Rattle.body.proofs.update.time_mark.Reads as reads
-use Rattle.body.proofs.update.time_mark.Lts as lts
 use Rattle.body.proofs.update.time_mark.Goals as goal
 
 -- src/update.rt:107:9

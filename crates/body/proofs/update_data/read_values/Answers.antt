@@ -1,5 +1,4 @@
 use Rattle.body.proofs.Filling.{filling-laws}
-use Prim.Native.Nat.{◌-◌}
 use Rattle.body.proofs.update_data.read_values.Goals as goal
 
 pub loop-slot-init : goal.loop-slot-init

@@ -1,6 +1,5 @@
 use native.Mathlib.Omega.{arith}
 use borrow.Author.Rules.{rules}
-use Prim.Native.Nat.{◌-◌}
 use Rattle.body.proofs.writing.WritingLaws.{each-laws, each_turn}
 use Rattle.body.proofs.writing.put_values.Goals as goal
 

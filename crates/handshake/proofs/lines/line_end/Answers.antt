@@ -1,4 +1,3 @@
-use Prim.Native.Nat.{◌-◌}
 use Rattle.handshake.proofs.lines.LineLoop.{walking}
 use Rattle.handshake.proofs.lines.line_end.Goals as goal
 

@@ -1,4 +1,3 @@
-use Prim.Native.Nat.{◌-◌}
 use Rattle.handshake.proofs.sender.Numbers.{summing}
 use Rattle.handshake.proofs.sender.read_digits.Goals as goal
 

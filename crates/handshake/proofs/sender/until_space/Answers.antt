@@ -1,4 +1,3 @@
-use Prim.Native.Nat.{◌-◌}
 use Rattle.handshake.proofs.sender.Spaces.{seeking}
 use Rattle.handshake.proofs.sender.until_space.Goals as goal
 

@@ -1,4 +1,3 @@
-use Prim.Native.Nat.{◌-◌}
 use Rattle.handshake.proofs.writing.Putting.{pasting}
 use Rattle.handshake.proofs.writing.put.Goals as goal
 

@@ -47,7 +47,7 @@ returns-in-Switch c = rw c.in-Switch.is c.number_line-in-Switch.ensures
 
 pub returns-in-Update : goal.returns-in-Update
 unfolding answer_line
-returns-in-Update c = rw c.in-Update.is c.update_Line.ensures
+returns-in-Update c = rw c.in-Update.is c.update_line.ensures
 
 pub returns-in-Acknowledgement : goal.returns-in-Acknowledgement
 unfolding answer_line

@@ -1,13 +1,4 @@
 use Rattle.message.proofs.Updating.{typing}
-use Rattle.message.proofs.stick_table.stick_table.Reads as reads
-use Rattle.message.proofs.stick_table.stick_table.Lts as lts
-use Rattle.message.proofs.changes.ask_nothing.Reads as ask-nothing-reads
-use Rattle.message.proofs.control.skipped.Reads as skipped-reads
-use Rattle.message.proofs.definition.definition.Reads as definition-reads
-use Rattle.message.proofs.stick_table.acknowledgement.Reads as acknowledgement-reads
-use Rattle.message.proofs.stick_table.form.Reads as form-reads
-use Rattle.message.proofs.stick_table.switch.Reads as switch-reads
-use Rattle.message.proofs.update.update.Reads as update-reads
 use Rattle.message.proofs.stick_table.stick_table.Goals as goal
 
 -- src/stick_table.rt:97:46

@@ -1,6 +1,4 @@
 use Rattle.message.proofs.Updating.{numbering}
-use Rattle.message.proofs.update.has_id.Reads as reads
-use Rattle.message.proofs.update.has_id.Lts as lts
 use Rattle.message.proofs.update.has_id.Goals as goal
 
 -- src/update.rt:55:9

@@ -1,8 +1,4 @@
 use Rattle.message.proofs.Updating.{updating}
-use Rattle.message.proofs.update.update.Reads as reads
-use Rattle.message.proofs.update.update.Lts as lts
-use Rattle.message.proofs.changes.ask_refusal.Reads as ask-refusal-reads
-use Rattle.message.proofs.update.update_of.Reads as update-of-reads
 use Rattle.message.proofs.update.update.Goals as goal
 
 -- src/update.rt:84:19

@@ -1,13 +1,4 @@
 use Rattle.message.proofs.Updating.{updating}
-use Rattle.message.proofs.update.update_of.Reads as reads
-use Rattle.message.proofs.update.update_of.Lts as lts
-use Rattle.body.proofs.update.read_update.Reads as read-update-reads
-use Rattle.message.proofs.binding_at.Reads as binding-at-reads
-use Rattle.message.proofs.changes.ask_refusal.Reads as ask-refusal-reads
-use Rattle.message.proofs.update.has_id.Reads as has-id-reads
-use Rattle.message.proofs.update.with_fields.Reads as with-fields-reads
-use Rattle.std.proofs.num.wrapping_add_u32.Reads as wrapping-add-u32-reads
-use Rattle.store.proofs.tables.table_at.Reads as table-at-reads
 use Rattle.message.proofs.update.update_of.Goals as goal
 
 -- src/update.rt:71:9

@@ -23,7 +23,7 @@ returns-then-count-eq0 c =
 pub returns-then-taken : goal.returns-then-taken
 returns-then-taken c =
     ends-answered _ _ _ _ c.if-reply-lt-REPLY_ROOM.false c.if-not-started.false c.if-not-scanned.false c.if-connection-eq1.false c.if-count-eq0.false c.if-taken.true _ c.finish_at.ensures _ _
-    c.give.ensures.0 c.give.ensures.1
+    c.give.ensures.result c.give.ensures.content
 
 pub returns : goal.returns
 returns c =

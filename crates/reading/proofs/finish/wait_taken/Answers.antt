@@ -15,4 +15,4 @@ wait-requires c = search wait-rules
 
 pub returns : goal.returns
 returns c =
-    waits-taken _ _ c.args.taken _ _ c.shorter-n.ensures (taken-long c.args.taken _ c.type_inv.1.1.0) c.wait.ensures
+    waits-taken _ _ c.args.taken _ _ c.shorter-n.ensures (taken-long c.args.taken _ c.well_formed.1.1.0) c.wait.ensures

@@ -1,4 +1,8 @@
 use mathlib.Core.Path.{refl}
+use borrow.Author.Tests.{lt-ltb}
+use Rattle.lists.proofs.Every.{every-from}
+use Rattle.session.proofs.Typed.{session-shape}
+use Rattle.receiver.specs.Model.{is_byte}
 use Rattle.reading.proofs.start.start_read.Goals as goal
 
 pub returns : goal.returns
@@ -8,6 +12,6 @@ returns c =
       taken = c.take_piece-taken.ensures;
       asks = c.ask_taken-asked.ensures;
       query = refl;
-      session = shaped c;
-      bytes = bytes k;
+      session = session-shape c.args.session _ c.well_formed.0;
+      bytes = every-from is_byte c.args.piece.now 0 (λ i l. lt-ltb _ 256 (c.type_inv.piece i).fits);
     }

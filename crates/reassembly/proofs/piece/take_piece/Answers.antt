@@ -1,6 +1,6 @@
 use Rattle.reassembly.proofs.piece.Skipping.{skipping}
 use Rattle.reassembly.proofs.Taking.{ends, all-taken}
-use Rattle.session.proofs.Basics.{told-not-true}
+use Rattle.session.proofs.Basics.{told-false}
 use mathlib.Core.Path.{refl}
 use Prim.Native.Nat.{◌-◌}
 use Rattle.reassembly.proofs.piece.take_piece.Goals as goal
@@ -38,7 +38,7 @@ bytes_wait-requires c = search skipping
 pub returns-then-not-bytes_wait : goal.returns-then-not-bytes_wait
 returns-then-not-bytes_wait c =
     ends c.loop-i.invariant.state _ refl c.loop-i-test.true _ c.unfinished_bytes-bytes.ensures c.unfinished_len-len.ensures.0 _ c.bytes_wait.ensures
-    (told-not-true refl c.if-not-bytes_wait.true)
+    (told-false refl c.if-not-bytes_wait.true)
 
 pub slice_bounds-bytes-end-then-until-len : goal.slice_bounds-bytes-end-then-until-len
 slice_bounds-bytes-end-then-until-len c = search skipping

@@ -17,13 +17,13 @@ put_definition_message-len-requires c = search defining
 
 pub overflow_add-after : goal.overflow_add-after
 overflow_add-after c =
-    place-fits _ _ c.args.tables _ c.args.id c.args.room.now _ _ c.table_at-table.ensures c.send_number-number.ensures c.if-number-ne0.false (tables-shape c.args.tables _ c.type_inv.1.1.0).0
+    place-fits _ _ c.args.tables _ c.args.id c.args.room.now _ _ c.table_at-table.ensures c.send_number-number.ensures c.if-number-ne0.false (tables-shape c.args.tables _ c.well_formed.1.1.0).0
 
 pub shape_of-room : goal.shape_of-room
 shape_of-room c = search defining
 
 pub returns : goal.returns
 returns c =
-    let shape = tables-shape c.args.tables _ c.type_inv.1.1.0 in
+    let shape = tables-shape c.args.tables _ c.well_formed.1.1.0 in
     definition-sent _ _ _ _ _ _ _ _ c.table_at-table.ensures c.send_number-number.ensures c.if-number-ne0.false shape.0 shape.1 c.ranges.id.fits _ _
     c.put_definition_message-len.ensures

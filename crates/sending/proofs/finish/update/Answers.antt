@@ -26,5 +26,5 @@ shape_of-room c = search updating
 
 pub returns : goal.returns
 returns c =
-    update-sent _ _ _ _ _ _ _ _ c.is_of-there.ensures c.send_number-number.ensures c.if-number-ne0.false (entry-shape c.args.entry _ c.type_inv.1.1.1.0) _
+    update-sent _ _ _ _ _ _ _ _ c.is_of-there.ensures c.send_number-number.ensures c.if-number-ne0.false (entry-shape c.args.entry _ c.well_formed.1.1.1.0) _
     c.table_at-table.ensures _ c.form_for-form.ensures _ _ c.put_update_message-len.ensures

@@ -23,4 +23,4 @@ shape_of-room c = search putting-body
 
 pub returns : goal.returns
 returns c =
-    definition-put _ _ c.ranges.id.fits (table-shape c.args.table _ c.type_inv.1.1.0) c.put_definition-len.ensures c.put_message.ensures
+    definition-put _ _ c.ranges.id.fits (table-shape c.args.table _ c.well_formed.1.1.0) c.put_definition-len.ensures c.put_message.ensures

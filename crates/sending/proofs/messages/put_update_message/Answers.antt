@@ -26,4 +26,4 @@ shape_of-room c = search putting-body
 
 pub returns : goal.returns
 returns c =
-    update-put _ _ _ _ _ c.type_of.ensures (entry-shape c.args.entry _ c.type_inv.1.1.1.1.0) c.put_update-len.ensures c.put_message.ensures
+    update-put _ _ _ _ _ c.type_of.ensures (entry-shape c.args.entry _ c.well_formed.1.1.1.1.0) c.put_update-len.ensures c.put_message.ensures

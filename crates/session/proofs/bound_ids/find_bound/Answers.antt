@@ -1,4 +1,3 @@
-use Prim.Native.Nat.{◌-◌}
 use Rattle.session.proofs.bound_ids.BindingLoops.{finding}
 use Rattle.session.proofs.bound_ids.find_bound.Goals as goal
 

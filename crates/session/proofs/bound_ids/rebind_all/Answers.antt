@@ -1,4 +1,3 @@
-use Prim.Native.Nat.{◌-◌}
 use Rattle.session.proofs.bound_ids.BindingLoops.{rebinding}
 use Rattle.session.proofs.bound_ids.rebind_all.Goals as goal
 

@@ -1,4 +1,3 @@
-use Prim.Native.Nat.{◌-◌}
 use Rattle.session_soundness.proofs.bindings.IdTests.{denying}
 use Rattle.session_soundness.proofs.bindings.id_apart.Goals as goal
 

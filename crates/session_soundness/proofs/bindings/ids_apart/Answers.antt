@@ -1,4 +1,3 @@
-use Prim.Native.Nat.{◌-◌}
 use Rattle.session_soundness.proofs.bindings.IdTests.{aparting}
 use Rattle.session_soundness.proofs.bindings.ids_apart.Goals as goal
 

@@ -1,4 +1,3 @@
-use Prim.Native.Nat.{◌-◌}
 use Rattle.session_soundness.proofs.free_places.PlaceTests.{placing}
 use Rattle.session_soundness.proofs.free_places.free_places_ok.Goals as goal
 

@@ -1,4 +1,3 @@
-use Prim.Native.Nat.{◌-◌}
 use Rattle.session_soundness.proofs.EachBinding.{walking}
 use Rattle.session_soundness.proofs.refused.all_empty.Goals as goal
 

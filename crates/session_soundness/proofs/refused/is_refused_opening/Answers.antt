@@ -1,10 +1,4 @@
 use Rattle.session_soundness.proofs.refused.RefusedTests.{refused}
-use Rattle.session_soundness.proofs.refused.is_refused_opening.Reads as reads
-use Rattle.session_soundness.proofs.refused.is_refused_opening.Lts as lts
-use Rattle.session_soundness.proofs.fields.refuses_opening.Reads as refuses-opening-reads
-use Rattle.session_soundness.proofs.refused.empty_buffer.Reads as empty-buffer-reads
-use Rattle.session_soundness.proofs.refused.empty_connection.Reads as empty-connection-reads
-use Rattle.session_soundness.proofs.sending.sent_nothing.Reads as sent-nothing-reads
 use Rattle.session_soundness.proofs.refused.is_refused_opening.Goals as goal
 
 -- src/refused.rt:91:9

@@ -1,6 +1,4 @@
 use Rattle.session_soundness.proofs.sending.SendingTests.{defining}
-use Rattle.session_soundness.proofs.sending.defined_ok.Reads as reads
-use Rattle.session_soundness.proofs.sending.defined_ok.Lts as lts
 use Rattle.session_soundness.proofs.sending.defined_ok.Goals as goal
 
 -- src/sending.rt:13:9

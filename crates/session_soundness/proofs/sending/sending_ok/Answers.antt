@@ -1,7 +1,4 @@
 use Rattle.session_soundness.proofs.sending.SendingTests.{sending}
-use Rattle.session_soundness.proofs.sending.sending_ok.Reads as reads
-use Rattle.session_soundness.proofs.sending.sending_ok.Lts as lts
-use Rattle.session_soundness.proofs.sending.defined_ok.Reads as defined-ok-reads
 use Rattle.session_soundness.proofs.sending.sending_ok.Goals as goal
 
 -- src/sending.rt:27:9

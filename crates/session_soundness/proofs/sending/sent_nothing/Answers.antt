@@ -1,6 +1,4 @@
 use Rattle.session_soundness.proofs.sending.SendingTests.{sending-none}
-use Rattle.session_soundness.proofs.sending.sent_nothing.Reads as reads
-use Rattle.session_soundness.proofs.sending.sent_nothing.Lts as lts
 use Rattle.session_soundness.proofs.sending.sent_nothing.Goals as goal
 
 -- src/sending.rt:37:9

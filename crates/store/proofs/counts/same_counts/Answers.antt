@@ -1,4 +1,3 @@
-use Rattle.std.proofs.Common.{◌-◌}
 use Rattle.store.proofs.Counting.{comparing}
 use Rattle.store.proofs.counts.same_counts.Goals as goal
 

@@ -1,4 +1,3 @@
-use Rattle.std.proofs.Common.{◌-◌}
 use Rattle.store.proofs.tables.Finding.{named}
 use Rattle.store.proofs.tables.find_table.Goals as goal
 

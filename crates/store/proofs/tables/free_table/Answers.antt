@@ -1,4 +1,3 @@
-use Rattle.std.proofs.Common.{◌-◌}
 use Rattle.store.proofs.tables.Finding.{free}
 use Rattle.store.proofs.tables.free_table.Goals as goal
 

@@ -1,4 +1,4 @@
-use Rattle.std.proofs.Common.{sym, ap}
+use Rattle.std.proofs.Common.{sym, ap, rules}
 use Rattle.store.specs.Limits.{key_kind}
 use Rattle.store.proofs.Rules.{kind-unknown}
 use Rattle.store.proofs.types.key_kind.Goals as goal
@@ -24,4 +24,4 @@ unfolding key_kind
 returns-in-7 c = sym (ap key_kind c.in-7.is)
 
 pub returns-in_default : goal.returns-in_default
-returns-in_default c = let r = c.in-2.rest in kind-unknown c.args.key-type r.0.0.0.0.1 r.0.0.0.1 r.0.0.1 r.0.1 r.1
+returns-in_default c = search (rules, kind-unknown)

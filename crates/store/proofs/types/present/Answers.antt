@@ -5,9 +5,9 @@ use Rattle.store.proofs.types.present.Goals as goal
 pub returns-then-t-ge32 : goal.returns-then-t-ge32
 returns-then-t-ge32 c = search (rules, present-past)
 
-pub UNKNOWN-nonzero-div-result : goal.UNKNOWN-nonzero-div-result
+pub nonzero_div-result : goal.nonzero_div-result
 unfolding powers
-UNKNOWN-nonzero-div-result c = power_pos c.args.t c.if-t-ge32.false
+nonzero_div-result c = power_pos c.args.t c.if-t-ge32.false
 
 pub returns : goal.returns
 unfolding powers

@@ -1,4 +1,3 @@
-use Prim.Native.Nat.{◌-◌}
 use Rattle.store_soundness.proofs.codes.Coding.{finding}
 use Rattle.store_soundness.proofs.codes.code_place.Goals as goal
 

@@ -1,7 +1,7 @@
 use lib.ListN.{length}
-use mathlib.Core.Path.{◌≡◌}
+use mathlib.Core.Path.{◌≡◌, ap}
+use mathlib.Core.Bool.{not}
 use borrow.Author.Rules.{rules}
-use Rattle.lists.proofs.Maps.{length-mapped}
 use Rattle.store_soundness.proofs.codes.Coding.{coding, code_free, code-flag, code-place, code-rows, code-held}
 use Rattle.store_soundness.proofs.codes.entry_code.Goals as goal
 
@@ -25,13 +25,13 @@ held_entry_ok-requires c = search coding
 
 pub returns-then-not-held_entry_ok : goal.returns-then-not-held_entry_ok
 returns-then-not-held_entry_ok c =
-    let n : length c.args.t1 ≡ 8 = search (rules, length-mapped) in
-    code-rows _ _ c.if-e-ne1.false c.if-place-ge-TABLES.false n c.held_entry_ok.ensures c.if-not-held_entry_ok.true
+    let n : length c.args.tables ≡ 8 = search rules in
+    code-rows _ _ c.if-e-ne1.false c.if-place-ge-TABLES.false n c.held_entry_ok.ensures (ap not c.if-not-held_entry_ok.true)
 
 pub held_hash-requires : goal.held_hash-requires
 held_hash-requires c = search coding
 
 pub returns : goal.returns
 returns c =
-    let n : length c.args.t1 ≡ 8 = search (rules, length-mapped) in
-    code-held _ _ c.if-e-ne1.false c.if-place-ge-TABLES.false n c.held_entry_ok.ensures c.if-not-held_entry_ok.false c.held_hash.ensures
+    let n : length c.args.tables ≡ 8 = search rules in
+    code-held _ _ c.if-e-ne1.false c.if-place-ge-TABLES.false n c.held_entry_ok.ensures (ap not c.if-not-held_entry_ok.false) c.held_hash.ensures

@@ -1,7 +1,8 @@
 use Rattle.store_soundness.proofs.entry.EntryTests.{slots, slots_next, slots-narrow}
-use Prim.Native.Nat.{◌-◌}
-use mathlib.Core.Logic.{⊎_elim}
+use mathlib.Core.Path.{ap}
+use mathlib.Core.Bool.{not}
 use Rattle.store_soundness.proofs.entry.slots_ok.Goals as goal
+use Rattle.store_soundness.proofs.entry.slots_ok.Goals.{then-v-ge-VALUE_END+else-not-slot_ok, else-v-ge-VALUE_END}
 
 pub loop-i-init : goal.loop-i-init
 loop-i-init c = search slots
@@ -30,10 +31,10 @@ loop-i-smaller c = search slots
 pub loop-i-preserved : goal.loop-i-preserved
 loop-i-preserved c =
     let r = c.loop-i.invariant in
-    ⊎_elim
-    (λ w. slots_next r c.loop-i-test.true w.1.ensures w.2.ensures w.3.left)
-    (λ w. slots-narrow r c.loop-i-test.true w.left)
-    c.if-v-ge-VALUE_END.branch
+    elim c.if-v-ge-VALUE_END.branch [
+      | then-v-ge-VALUE_END+else-not-slot_ok w ↦ slots_next r c.loop-i-test.true w.slot_type-t.ensures w.slot_ok.ensures (ap not w.if-not-slot_ok.false)
+      | else-v-ge-VALUE_END w ↦ slots-narrow r c.loop-i-test.true w.if-v-ge-VALUE_END.false
+    ]
 
 pub returns : goal.returns
 returns c = search slots

@@ -1,8 +1,7 @@
-use mathlib.Core.Logic.{⊎_elim}
-use Prim.Native.Nat.{◌-◌}
 use Rattle.lists.proofs.Passing.{passing, pass-good, pass-bad}
 use Rattle.store_soundness.proofs.hashes.Hashing.{hash-same, hash-other}
 use Rattle.store_soundness.proofs.hashes.hash_apart.Goals as goal
+use Rattle.store_soundness.proofs.hashes.hash_apart.Goals.{then-hashes-i, else-hashes-i}
 
 pub loop-i-init : goal.loop-i-init
 loop-i-init c = search passing
@@ -22,10 +21,10 @@ loop-i-smaller c = search passing
 pub loop-i-preserved : goal.loop-i-preserved
 loop-i-preserved c =
     let r = c.loop-i.invariant in
-    ⊎_elim
-    (λ w. pass-bad r 0 c.loop-i-test.true (hash-same _ _ w.0.taken) w.1)
-    (λ w. pass-good r 0 c.loop-i-test.true (hash-other _ _ w.0.left) w.1)
-    c.if-hashes-i.branch
+    elim c.if-hashes-i.branch [
+      | then-hashes-i w ↦ pass-bad r 0 c.loop-i-test.true (hash-same _ _ w.if-hashes-i.true) w.apart-is
+      | else-hashes-i w ↦ pass-good r 0 c.loop-i-test.true (hash-other _ _ w.if-hashes-i.false) w.apart-is
+    ]
 
 pub returns : goal.returns
 returns c = search passing

@@ -1,4 +1,3 @@
-use Prim.Native.Nat.{◌-◌}
 use Rattle.store_soundness.proofs.hashes.Hashing.{hashing}
 use Rattle.store_soundness.proofs.hashes.hash_bytes.Goals as goal
 

@@ -1,4 +1,3 @@
-use Prim.Native.Nat.{◌-◌}
 use Rattle.store_soundness.proofs.hashes.Hashing.{wording}
 use Rattle.store_soundness.proofs.hashes.hash_words.Goals as goal
 

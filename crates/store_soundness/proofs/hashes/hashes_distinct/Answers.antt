@@ -1,7 +1,8 @@
-use mathlib.Core.Logic.{⊎_elim}
-use Prim.Native.Nat.{◌-◌}
+use mathlib.Core.Path.{ap}
+use mathlib.Core.Bool.{not}
 use Rattle.store_soundness.proofs.hashes.Hashing.{pairs, pair-free, pair-apart}
 use Rattle.store_soundness.proofs.hashes.hashes_distinct.Goals as goal
+use Rattle.store_soundness.proofs.hashes.hashes_distinct.Goals.{then-hash-lt-HASH_END+else-not-hash_apart, else-hash-lt-HASH_END}
 
 pub loop-i-init : goal.loop-i-init
 loop-i-init c = search pairs
@@ -42,10 +43,10 @@ loop-i-smaller c = search pairs
 pub loop-i-preserved : goal.loop-i-preserved
 loop-i-preserved c =
     let r = c.loop-i.invariant in
-    ⊎_elim
-    (λ w. pair-apart r c.loop-i-test.true w.0.taken w.3.ensures w.4.left)
-    (λ w. pair-free r c.loop-i-test.true w.left)
-    c.if-hash-lt-HASH_END.branch
+    elim c.if-hash-lt-HASH_END.branch [
+      | then-hash-lt-HASH_END+else-not-hash_apart w ↦ pair-apart r c.loop-i-test.true w.if-hash-lt-HASH_END.true w.hash_apart.ensures (ap not w.if-not-hash_apart.false)
+      | else-hash-lt-HASH_END w ↦ pair-free r c.loop-i-test.true w.if-hash-lt-HASH_END.false
+    ]
 
 pub returns : goal.returns
 returns c = search pairs

@@ -1,16 +1,11 @@
 use Rattle.store.proofs.Lookup.{array-keys}
 use Rattle.store_soundness.proofs.Pairs.{held_start, held-equal, held-passed}
 use Rattle.store_soundness.proofs.keys.Keying.{equal-keys, key-free}
-use Prim.Native.Nat.{◌-◌}
-use mathlib.Core.Logic.{⊎_elim}
 use Rattle.store_soundness.proofs.keys.keys_distinct.Goals as goal
-
-slice-aggregate-entry-keyed :
-    tie.Need-slice-aggregate-entry-keyed invariant-loop2 decreases-loop2 invariant-loop decreases-loop
-slice-aggregate-entry-keyed c = search equal-keys
+use Rattle.store_soundness.proofs.keys.keys_distinct.Goals.{then-e-eq1+else-loop-j-test, else-e-eq1}
 
 pub loop-i-init : goal.loop-i-init
-loop-i-init c = held_start (array-keys c.args.t1 _ c.type_inv.0)
+loop-i-init c = held_start (array-keys c.args.entries _ c.well_formed.0)
 
 pub offset_bounds-entries-i : goal.offset_bounds-entries-i
 offset_bounds-entries-i c = search equal-keys
@@ -60,10 +55,10 @@ loop-i-smaller c = search equal-keys
 
 pub loop-i-preserved : goal.loop-i-preserved
 loop-i-preserved c =
-    ⊎_elim
-    (λ w. held-passed w.3.inv w.4.left)
-    (λ w. key-free c.loop-i.invariant c.loop-i-test.true w.left)
-    c.if-e-eq1.branch
+    elim c.if-e-eq1.branch [
+      | then-e-eq1+else-loop-j-test w ↦ held-passed w.loop-j.invariant w.loop-j-test.false
+      | else-e-eq1 w ↦ key-free c.loop-i.invariant c.loop-i-test.true w.if-e-eq1.false
+    ]
 
 pub returns : goal.returns
 returns c = search equal-keys

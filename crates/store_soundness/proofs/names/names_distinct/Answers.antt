@@ -1,16 +1,11 @@
 use Rattle.store.proofs.Lookup.{array-names}
 use Rattle.store_soundness.proofs.Pairs.{held_start, held-equal, held-passed}
 use Rattle.store_soundness.proofs.names.Naming.{naming, name_free}
-use Prim.Native.Nat.{◌-◌}
-use mathlib.Core.Logic.{⊎_elim}
 use Rattle.store_soundness.proofs.names.names_distinct.Goals as goal
-
-slice-aggregate-table-named :
-    tie.Need-slice-aggregate-table-named invariant-loop2 decreases-loop2 invariant-loop decreases-loop
-slice-aggregate-table-named c = search naming
+use Rattle.store_soundness.proofs.names.names_distinct.Goals.{then-t-eq1+else-loop-j-test, else-t-eq1}
 
 pub loop-i-init : goal.loop-i-init
-loop-i-init c = held_start (array-names c.args.t1 _ c.type_inv.0)
+loop-i-init c = held_start (array-names c.args.tables _ c.well_formed.0)
 
 pub offset_bounds-tables-i : goal.offset_bounds-tables-i
 offset_bounds-tables-i c = search naming
@@ -60,10 +55,10 @@ loop-i-smaller c = search naming
 
 pub loop-i-preserved : goal.loop-i-preserved
 loop-i-preserved c =
-    ⊎_elim
-    (λ w. held-passed w.3.inv w.4.left)
-    (λ w. name_free c.loop-i.invariant c.loop-i-test.true w.left)
-    c.if-t-eq1.branch
+    elim c.if-t-eq1.branch [
+      | then-t-eq1+else-loop-j-test w ↦ held-passed w.loop-j.invariant w.loop-j-test.false
+      | else-t-eq1 w ↦ name_free c.loop-i.invariant c.loop-i-test.true w.if-t-eq1.false
+    ]
 
 pub returns : goal.returns
 returns c = search naming

@@ -1,5 +1,4 @@
 use Rattle.store_soundness.proofs.table.TableTests.{all-tables}
-use Prim.Native.Nat.{◌-◌}
 use Rattle.store_soundness.proofs.table.sound_tables.Goals as goal
 
 pub loop-i-init : goal.loop-i-init

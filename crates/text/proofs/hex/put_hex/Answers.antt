@@ -1,5 +1,4 @@
 use Rattle.text.proofs.hex.HexText.{putting-hex}
-use Prim.Native.Nat.{◌-◌}
 use Rattle.text.proofs.hex.put_hex.Goals as goal
 
 pub loop-i-init : goal.loop-i-init

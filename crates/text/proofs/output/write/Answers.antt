@@ -1,15 +1,11 @@
-use Rattle.text.proofs.output.Places.{parts}
 use Rattle.text.proofs.output.Written.{writing}
 use Rattle.text.proofs.output.write.Goals as goal
 
 pub returns-then-out-n : goal.returns-then-out-n
-returns-then-out-n c = search writing
+returns-then-out-n g c = search writing
 
-pub slice_bounds-write_all-end : goal.slice_bounds-write_all-end
-slice_bounds-write_all-end c = search parts
+pub returns-in-Ok : goal.returns-in-Ok
+returns-in-Ok g c = search writing
 
-pub returns-then-not-is_written : goal.returns-then-not-is_written
-returns-then-not-is_written c = search writing
-
-pub returns-else-not-is_written : goal.returns-else-not-is_written
-returns-else-not-is_written c = search writing
+pub returns-in-Err : goal.returns-in-Err
+returns-in-Err g c = search writing

@@ -1,4 +1,3 @@
-use Prim.Native.Nat.{◌-◌}
 use Rattle.wire.proofs.buffer.Room.{putting}
 use Rattle.wire.proofs.buffer.fit_bytes.Goals as goal
 

@@ -1,5 +1,4 @@
 use Rattle.wire.proofs.buffer.Reach.{putting}
-use Prim.Native.Nat.{◌-◌}
 use Rattle.wire.proofs.buffer.put.Goals as goal
 
 pub loop-i-init : goal.loop-i-init

@@ -1,0 +1,4 @@
+use Rattle.reading.proofs.read.Goals as goal
+
+pub returns : goal.returns
+returns c = c.read_lent-step.ensures
