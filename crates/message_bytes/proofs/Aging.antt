@@ -2,8 +2,8 @@
 use Prim.Native.Nat.{ℕ, ◌+◌, ◌-◌, ◌≤◌, ◌<◌}
 use native.Mathlib.Omega.{arith}
 use mathlib.Core.Path.{◌≡◌, refl, sym, ap, subst, ◌∙◌}
-use mathlib.Core.Logic.{◌⊎◌, inl, inr, ⊎_elim}
-use mathlib.Core.Bool.{true, false, cond}
+use mathlib.Core.Logic.{inl, inr, ⊎_elim}
+use mathlib.Core.Bool.{true, false}
 use mathlib.Core.List.{List, [], ◌∷◌, ◌++◌}
 use lib.ListN.{length, get_or}
 use lib.Dec.{eqb}
@@ -15,7 +15,7 @@ use Rattle.store.specs.Store.{no_entry}
 use Rattle.store.specs.Time.{entry_timed, lowered, pass_entry, Passed, PassPromise}
 use Rattle.store.proofs.Passing.{pass-stays, pass-removes, pass-lowers, no-entry-timed, lowered-timed, lowered-left, lowered-twice, entry-passes}
 use Rattle.receiver.proofs.OnePass.{refused-pass-untouched}
-use Rattle.message_bytes.specs.LastUpdates.{passed_in, NonePasses, Removed, Since, same, less, removed}
+use Rattle.message_bytes.specs.LastUpdates.{passed_in, NonePasses, Since, same, less, removed}
 
 -- ---- the sum
 

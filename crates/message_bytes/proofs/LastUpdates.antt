@@ -29,7 +29,6 @@ use Rattle.receiver.proofs.OneRead.{call-is, made-state}
 use Rattle.receiver.proofs.Lawfully.{lawful}
 use Rattle.receiver.proofs.Ways.{Way, staying, waiting-on, judging, ways, taken_is, record-stays}
 use Rattle.receiver.proofs.Acknowledging.{others-untouched}
-use Rattle.message_bytes.specs.MessageBytes.{table_at, UpdateMessage}
 use Rattle.message_bytes.specs.LastUpdates.{last_entry, NoneUpdates, passing, NonePasses, Since, same, NeverUpdated, LastUpdate, BytesOfEveryEntry}
 use Rattle.message_bytes.proofs.Aging.{passed-since}
 use Rattle.message_bytes.proofs.UpdateMessages.{bytes-of-update, place-of-update, updated-elsewhere}

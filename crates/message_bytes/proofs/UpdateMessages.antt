@@ -2,14 +2,14 @@
 use Prim.Native.Nat.{ℕ, ◌+◌, ◌-◌, ◌%◌, ◌^◌, ◌≤◌, ◌<◌}
 use native.Mathlib.Omega.{arith}
 use mathlib.Core.Path.{◌≡◌, refl, sym, ap, subst, ◌∙◌}
-use mathlib.Core.Bool.{true, false, cond}
+use mathlib.Core.Bool.{true, false}
 use mathlib.Core.Option.{some}
 use mathlib.Core.List.{List, [], ◌++◌, append_assoc}
 use lib.Seq.{get_or-set_other, drop-append_seam, take-append_seam}
 use lib.ListN.{length, take, drop, get_or}
 use lib.IntN.{ℤ}
 use lib.Signed.{mag}
-use Rattle.lists.proofs.Cases.{by-test, cond-true, cond-false}
+use Rattle.lists.proofs.Cases.{by-test, cond-true}
 use Rattle.wire.specs.Integer.{encode_int}
 use Rattle.wire.specs.Number.{encode_number}
 use Rattle.wire.specs.Server.{server_word}
@@ -33,7 +33,7 @@ use Rattle.session.specs.Session.{binding_at}
 use Rattle.body.specs.Fields.{got, span_in}
 use Rattle.body.specs.declared.update.Form.{Form}
 use Rattle.body.specs.Bodies.{Update, update_fields, time_mark, form_of}
-use Rattle.body.specs.Encodings.{message_bytes, entry_bytes, number_if, update_bytes, entry_start, server_start, slot_start}
+use Rattle.body.specs.Encodings.{message_bytes, entry_bytes, number_if, update_bytes}
 use Rattle.body.proofs.Within.{UpdateWithin, UpdateRead, update-within}
 use Rattle.body.proofs.UpdateEncoding.{EntryRead, update-encoded, if-length, entry-start, slot-there, server-there}
 use Rattle.body.proofs.OneEncoding.{Fitting, SameFields, update-once, type-once, body-once}

@@ -32,7 +32,7 @@ use Rattle.session.specs.declared.Connection.{Connection}
 use Rattle.session.specs.declared.Answer.{Answer}
 use Rattle.session.specs.declared.Answer.TheVariants as answer
 use Rattle.session.specs.Session.{unfinished, local_name, remote_name}
-use Rattle.session_soundness.specs.Sound.{sound, waits}
+use Rattle.session_soundness.specs.Sound.{waits}
 use Rattle.session_soundness.proofs.Records.{sound-session, open-facts}
 use Rattle.session_soundness.proofs.Waiting.{waits-frame, frame-is-waiting}
 use Rattle.body.specs.Encodings.{message_bytes, body_start}

@@ -1,7 +1,7 @@
 -- "which bytes stood for this counter?": the message of an accepted update or definition, from its first byte to its last.
 -- The records below fix the reading by themselves: no other key, server ID, values or remaining time fit the message of an update, and no other
 -- ID, name, shape or times that of a definition.
-use Rattle.std.specs.Prelude.{ℕ, ◌+◌, ◌%◌, ◌^◌, ◌≤◌, ◌<◌, ◌≡◌, ◌⊎◌, List, [], ◌++◌, true, false, cond, length, take, drop, get_or, replicate, pos, eqb}
+use Rattle.std.specs.Prelude.{ℕ, ◌+◌, ◌%◌, ◌^◌, ◌≤◌, ◌<◌, ◌≡◌, List, [], ◌++◌, true, false, cond, length, take, drop, get_or, replicate, pos}
 use Rattle.std.specs.Int.Signed.{mag}
 use Rattle.std.proofs.Math.Option.{some}
 use Rattle.frame.specs.Frame.{definition_type}

@@ -3,7 +3,6 @@ use Prim.Native.Nat.{ℕ, ◌<◌, ◌≤◌}
 use native.Mathlib.Omega.{arith}
 use mathlib.Core.Path.{◌≡◌, refl, sym, ap, ◌∙◌, subst}
 use mathlib.Core.Logic.{◌⊎◌, inl, inr, ⊎_elim}
-use mathlib.Core.Option.{some}
 use mathlib.Core.Bool.{true, ◌&&◌}
 use mathlib.Core.List.{List, [], ◌∷◌, ◌++◌, map, flatten, map-append}
 use lib.ListN.{length, take, get_or, length-map, get_or-eq_default}
@@ -65,7 +64,7 @@ use Rattle.message_bytes.proofs.DefinitionMessages.{bytes-of-definition}
 use Rattle.peers.specs.declared.numbers.RawOpened.{RawOpened}
 use Rattle.peers.specs.Numbers.{raw_outcome, raw_opened}
 use Rattle.peers.specs.Reading.{RawMade, RawPromise}
-use Rattle.peers.specs.ExportedDemand3.{RawCalled, raw_reads, raw_passes, RawChain, raw_values, raw_reply, raw_taken, raw_last_session, RawResult, raw_came_to, RawOffersTo}
+use Rattle.peers.specs.ExportedDemand3.{RawCalled, raw_reads, RawChain, raw_values, raw_reply, raw_taken, raw_last_session, RawResult, raw_came_to, RawOffersTo}
 use Rattle.peers.specs.ExportedCorollaries.{RawSameByAnyDivision, RawAnyDivision, RawOfferedReachable, RawBytesOffered, RawBytesByReading, RawBytesRecord, RawReadingTakes, raw_message, ToldUpdate, RawEntryHeld, RawHeldWhenAcknowledged, answering, raw_last_entry, RawNoneUpdates, raw_passing, RawNeverUpdated, RawLastUpdate, RawBytesOfEveryEntry, ToldTable, RawDefinition, RawBytesOfDefinition, RawNothingChanged, RawOnlyClosed, RawRefusedCall, RawRefusedUntouched, RawTestsInOrder, RawBodyBroke, RawUntouched, RawOthersUntouched, raw_counts, RawCountsKept, KeptStore, RawStoreSound, RawRefusedOpening, RawRefusedOpeningUntouched, RawOtherRecordsSound, FreedPlace, PassingCalls, RawSendingStays}
 use Rattle.peers.proofs.AsMade.{raw_of, raw_called, made_by, made-promised, made-same, mades_by, mades-chain, mades-same, values-told}
 use Rattle.peers.proofs.ExportedDemand3.{same-reply, same_taken, same-session, same_store, offered, offering, exported-demand-3}

@@ -1,5 +1,4 @@
 -- The listing's stream through the exported calls, in any division; and it can be offered in every cutting.
-use Prim.Native.Nat.{ℕ}
 use mathlib.Core.Path.{◌≡◌, refl, sym, ap, ◌∙◌, subst}
 use mathlib.Core.Bool.{false, ◌||◌}
 use mathlib.Core.List.{List, [], flatten}

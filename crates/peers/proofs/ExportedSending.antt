@@ -23,7 +23,7 @@ use Rattle.session.specs.declared.Connection.{Connection}
 use Rattle.session.specs.declared.Sending.{Sending}
 use Rattle.session.specs.declared.Session.{Session}
 use Rattle.session.specs.declared.Answer.{Answer}
-use Rattle.session.specs.Session.{is_closed, established, unfinished, with_sending}
+use Rattle.session.specs.Session.{is_closed, established, with_sending}
 use Rattle.session.specs.Shape.{ConnectionShape, SendingShape, SessionShape}
 use Rattle.session_soundness.specs.Sound.{sound}
 use Rattle.session_soundness.proofs.Records.{sound-store}

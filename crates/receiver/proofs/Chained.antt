@@ -2,11 +2,11 @@
 use Prim.Native.Nat.{ℕ, zero, suc, ◌+◌, ◌^◌, ◌≤◌, ◌<◌, min}
 use native.Mathlib.Omega.{arith}
 use mathlib.Core.Path.{◌≡◌, refl, sym, ap, subst, ◌∙◌}
-use mathlib.Core.Logic.{◌⊎◌, inl, inr, ⊎_elim}
+use mathlib.Core.Logic.{inl, inr, ⊎_elim}
 use mathlib.Core.List.{List, [], ◌∷◌, ◌++◌}
 use mathlib.Core.Option.{some}
 use mathlib.Core.Bool.{true, false, cond, true≢false}
-use lib.ListN.{length, get_or, take, drop, length-append}
+use lib.ListN.{length, get_or, take, length-append}
 use lib.Seq.{length-take-le}
 use lib.Dec.{eqb, ltb, lit<}
 use borrow.Author.Tests.{eqb-true, eqb-false, ne_eqb, ltb-true, ltb-false}
@@ -173,7 +173,7 @@ module _ (law : Lawful peers Good) where
   module _ (P : Answer → List ℕ → Type 0)
       (byte-has : (k : State) (b : ℕ) (a : Answer) (r : List ℕ) (k' : State) → Good k → is_byte b ≡ true → feed k b ≡ answered a r k' → P a r)
       (more-has : P answer.More [])
-      (one_Has : P (answer.Refused 1) [])
+      (one-has : P (answer.Refused 1) [])
       (two-has : P (answer.Refused 2) []) where
     scan-has : (s : State) (p : List ℕ) → Good s → every is_byte p ≡ true → P (scan peers s p).answer (scan peers s p).reply
     scan-has s [] g q = rw (scan-nil peers s) more-has
@@ -187,7 +187,7 @@ module _ (law : Lawful peers Good) where
     pub call-has : (s : State) (p : List ℕ) (n : ℕ) → Good s → every is_byte p ≡ true → P (read_call peers s p n).answer (read_call peers s p n).reply
     call-has s p n g q =
         by-test (ltb n 12)
-        (λ a. rw (call-short peers s p n (ltb-true n 12 a)) one_Has)
+        (λ a. rw (call-short peers s p n (ltb-true n 12 a)) one-has)
         (λ a.
         let l = ltb-false n 12 a in
         by-test (is_closed s.connection)

@@ -1,10 +1,10 @@
 -- Another division of the same stream leaves the same table and record. Which streams are offered, and those of bytes alone.
-use Prim.Native.Nat.{ℕ, zero, suc}
+use Prim.Native.Nat.{ℕ}
 use mathlib.Core.Path.{◌≡◌, refl, sym, ap, ◌∙◌}
 use mathlib.Core.Logic.{⊎_elim}
 use mathlib.Core.Bool.{true, true≢false, cond, ◌||◌}
 use mathlib.Core.List.{List, [], ◌∷◌, ◌++◌, map, flatten, map-append}
-use lib.ListN.{length, take, drop}
+use lib.ListN.{length, take}
 use lib.Dec.{eqb}
 use Rattle.lists.specs.Lists.{every}
 use Rattle.store.specs.declared.Store.{Store}
@@ -12,7 +12,7 @@ use Rattle.session.specs.declared.Session.{Session}
 use Rattle.session.specs.declared.Answer.{Answer}
 use Rattle.session.specs.Session.{is_closed, holding}
 use Rattle.session_soundness.specs.Sound.{sound}
-use Rattle.streams.specs.Model.{Item, byte, event, bytes}
+use Rattle.streams.specs.Model.{Item, byte, bytes}
 use Rattle.streams.specs.Calls.{Result, piece, pieces, on_part, eventless, reachable}
 use Rattle.streams.proofs.Basics.{every-nil, every-cons, every-both}
 use Rattle.streams.proofs.Timeline.{only-bytes}

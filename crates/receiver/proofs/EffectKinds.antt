@@ -3,7 +3,6 @@
 use Prim.Native.Nat.{ℕ, ◌-◌, ◌≤◌, ◌<◌}
 use native.Mathlib.Omega.{arith}
 use mathlib.Core.Path.{◌≡◌, refl, sym, ap, ◌∙◌, subst}
-use mathlib.Core.Logic.{◌⊎◌, inl, inr}
 use mathlib.Core.Option.{Option, some, none}
 use mathlib.Core.Bool.{true, false, ◌||◌}
 use mathlib.Core.List.{List, [], ◌∷◌}
@@ -14,8 +13,7 @@ use Rattle.lists.specs.declared.Found.{Found}
 use Rattle.lists.specs.declared.Found.TheVariants as found
 use Rattle.lists.specs.Lists.{first_place}
 use Rattle.lists.proofs.Places.{first-at}
-use Rattle.lists.proofs.Cases.{by-test, or-false, cond-true, cond-false}
-use Rattle.store.specs.declared.Table.{Table}
+use Rattle.lists.proofs.Cases.{by-test, or-false}
 use Rattle.store.specs.declared.Entry.{Entry}
 use Rattle.store.specs.declared.Store.{Store}
 use Rattle.store.specs.Store.{table_free, table_named, find_table, free_table, entry_free, no_table, no_entry}
@@ -40,12 +38,12 @@ use Rattle.body.specs.declared.Failure.{Failure}
 use Rattle.body.specs.declared.Failure.TheVariants as failure
 use Rattle.body.specs.declared.Fault.{Fault}
 use Rattle.body.specs.Fields.{Read, got, failed, span_in}
-use Rattle.body.specs.Bodies.{Definition, Update, definition_fields, switch_fields, acknowledgement_fields, update_fields, form_of}
+use Rattle.body.specs.Bodies.{Definition, Update, definition_fields, switch_fields, acknowledgement_fields, form_of}
 use Rattle.body.proofs.BodiesBreak.{bodies-break}
 use Rattle.message.specs.Targets.{keyed_as, goes_to}
 use Rattle.message.proofs.Kept.{failure-least, failure-most}
 use Rattle.session.specs.Answers.{refusal_of, answer_values}
-use Rattle.message.specs.Effects.{Effect, refuse_with, refuse, refusal, failure_number, refuse_body, note, fields_then, control, control_answer, peer_error, defined_table, define_at, define_new, define_named, agrees, definition, switch_to, switch, acknowledgement, skipped, updated_entry, commit_at, commit_entry, with_fields, following_id, update_of, update, other_message, by_form, stick_table, done}
+use Rattle.message.specs.Effects.{Effect, refuse_with, refuse, refusal, failure_number, refuse_body, note, fields_then, control, control_answer, peer_error, defined_table, define_at, define_new, define_named, agrees, definition, switch_to, switch, acknowledgement, skipped, updated_entry, commit_at, commit_entry, with_fields, update_of, update, other_message, by_form, stick_table, done}
 use Rattle.body.specs.declared.update.Form.{Form}
 use Rattle.reassembly.specs.Judge.{Judged, waiting, settled, hello_judged, status_judged, frame_judged, asks_none, judge_bytes, done_of, judge}
 use Rattle.receiver.specs.Corollaries.{EntryWent, TableWent, held_name, new_name, closes, fields_of, gives_offset, FieldFails, in_definition, in_switch, in_acknowledgement, in_update, BodyBroke, OffsetGiven}

@@ -3,11 +3,11 @@ use Prim.Native.Nat.{ℕ, ◌+◌, ◌-◌, ◌≤◌}
 use native.Mathlib.Omega.{arith}
 use mathlib.Core.Path.{◌≡◌, refl, sym, ap, subst, ◌∙◌}
 use mathlib.Core.List.{List, ◌++◌}
-use mathlib.Core.Bool.{Bool, true}
+use mathlib.Core.Bool.{true}
 use lib.ListN.{length, take, drop, get_or, take-append-drop}
 use lib.Seq.{length-take-le}
 use lib.Dec.{ltb}
-use Rattle.lists.proofs.Cases.{by-test, cond-true, cond-false}
+use Rattle.lists.proofs.Cases.{by-test, cond-true}
 use Rattle.wire.specs.declared.Int.{Int}
 use Rattle.wire.specs.declared.Int.TheVariants as int
 use Rattle.wire.specs.declared.fixed.FourBytes.{FourBytes}

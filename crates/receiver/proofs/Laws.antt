@@ -8,7 +8,7 @@ use mathlib.Core.Bool.{true, false, cond, ◌&&◌, ◌||◌}
 use mathlib.Core.Option.{Option, some, none}
 use lib.ListN.{length, take, drop, get_or}
 use lib.Dec.{eqb, leb, lit<}
-use borrow.Author.Tests.{eq-eqb, ne_eqb, eqb-true, eqb-false, le-leb, lt-leb}
+use borrow.Author.Tests.{ne_eqb, eqb-false, le-leb, lt-leb}
 use Rattle.lists.specs.declared.Found.{Found}
 use Rattle.lists.specs.declared.Found.TheVariants as found
 use Rattle.lists.specs.Lists.{first_place}
@@ -309,11 +309,11 @@ module _ (c : Connection) (s : Store) (h : Held c s) (m : List ℕ) (mb : Bytes 
       × ((l : Ledger) → Follows c l → update_id m (at l.last l.current) ≡ some u.id))
       → Right c s m (done c s.entries (with_fields c body table r))
   unfolding with_fields fields_then refusal done
-  with-right form following table (got u n) small now facts =
+  with-right form following table (got u n) within now facts =
       let w = facts u n refl in
       commit-right c s h m u.id w.1 (updated_entry body table u) (made-now table u now) (goes_to s.entries (updated_entry body table u))
-      (update-kept c s h form following body table u body_bytes small now w.0)
-  with-right form following table (failed e) small now facts = body_refused c s h m e
+      (update-kept c s h form following body table u body_bytes within now w.0)
+  with-right form following table (failed e) within now facts = body_refused c s h m e
 
   current-is : eqb c.current 0 ≡ false → c.current ≡ c.current - 1 + 1
   current-is z = let q = eqb-false c.current 0 z in current-positive c.current q

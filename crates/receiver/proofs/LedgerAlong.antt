@@ -1,9 +1,8 @@
 -- Along a list of calls, each acknowledgement carries its table's IDs by the ledger of the messages so far.
 use Prim.Native.Nat.{ℕ}
-use native.Mathlib.Omega.{arith}
 use mathlib.Core.Path.{◌≡◌, refl, sym, ap, ◌∙◌, subst}
-use mathlib.Core.Logic.{◌⊎◌, inl, inr, ⊎_elim}
-use mathlib.Core.Bool.{Bool, true, false, cond}
+use mathlib.Core.Logic.{⊎_elim}
+use mathlib.Core.Bool.{true, false}
 use mathlib.Core.List.{List, [], ◌∷◌, ◌++◌, append-nil}
 use lib.ListN.{length, take}
 use Rattle.store.specs.declared.Store.{Store}
@@ -16,18 +15,17 @@ use Rattle.session.specs.Session.{unfinished, is_closed}
 use Rattle.session_soundness.specs.Sound.{sound}
 use Rattle.message.specs.Effects.{Effect}
 use Rattle.streams.specs.Model.{Ended}
-use Rattle.streams.specs.Calls.{Call, stay}
+use Rattle.streams.specs.Calls.{Call}
 use Rattle.receiver.specs.Model.{ends_refused, State, held_by, ends}
 use Rattle.receiver.specs.Good.{Good}
 use Rattle.receiver.specs.Promise.{Made, ReadPromise, call_of}
-use Rattle.receiver.specs.Ledger.{Ledger, start_ledger, post, RightReply}
+use Rattle.receiver.specs.Ledger.{Ledger, post, RightReply}
 use Rattle.receiver.specs.Demand3.{Called, reads, passes, Chain, reply_in, ended_by, AcknowledgedCalls}
 use Rattle.receiver.specs.Corollaries.{message_of}
-use Rattle.receiver.proofs.Held.{sound-held}
 use Rattle.receiver.proofs.OneRead.{call-is, made-state, made-sound, made-good}
 use Rattle.receiver.proofs.OnePass.{passed-keeps-sound, passed-good}
 use Rattle.receiver.proofs.SettledLaws.{settled-ends}
-use Rattle.receiver.proofs.Following.{Follows, Follow, ended_as}
+use Rattle.receiver.proofs.Following.{Follows, ended_as}
 use Rattle.receiver.proofs.Laws.{Right}
 use Rattle.receiver.proofs.Lawfully.{lawful}
 use Rattle.receiver.proofs.Ways.{Way, Early, Waiting, Judging, staying, waiting-on, judging, ways, answer-is, taken_is, reply-is, record-stays}

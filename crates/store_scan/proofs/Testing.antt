@@ -1,12 +1,11 @@
 -- A store's test in two parts: the tables, then the entries with their counts.
-use mathlib.Core.Path.{◌≡◌, refl, sym, ap, ◌∙◌}
+use mathlib.Core.Path.{◌≡◌, refl, sym, ◌∙◌}
 use mathlib.Core.Bool.{Bool, true, false, ◌&&◌}
 use Rattle.lists.specs.Lists.{all_of, every, distinct}
 use Rattle.lists.proofs.Cases.{and-true, and-false}
 use Rattle.store.specs.declared.Entry.{Entry}
 use Rattle.store.specs.declared.Store.{Store}
 use Rattle.store.specs.Sound.{sound_table, sound_entry, same_name, same_key, counts_right, sound_store}
-use Rattle.store_scan.specs.declared.Query.{Query}
 use Rattle.store_scan.specs.declared.Scanned.{Scanned}
 use Rattle.store_scan.specs.Scan.{Scans}
 

@@ -17,7 +17,7 @@ use Rattle.handshake.specs.Handshake.{name_ok}
 use Rattle.session.specs.declared.Sending.{Sending}
 use Rattle.session.specs.declared.Session.{Session}
 use Rattle.session.specs.declared.Answer.{Answer}
-use Rattle.session.specs.Session.{unfinished, is_closed, holding, nothing_sent}
+use Rattle.session.specs.Session.{is_closed, holding, nothing_sent}
 use Rattle.session_soundness.specs.Sound.{sound}
 use Rattle.session_soundness.proofs.Records.{sound-both}
 use Rattle.opening.specs.Opening.{answerer, opening_room, Opening, «open», opened, new_connection}

@@ -1,10 +1,10 @@
 -- The line of a reply, for each way through the functions that put it.
-use Prim.Native.Nat.{ℕ, ◌≤◌, ◌<◌}
+use Prim.Native.Nat.{ℕ, ◌≤◌}
 use native.Mathlib.Omega.{arith}
 use mathlib.Core.Path.{◌≡◌, refl, sym, ap}
 use mathlib.Core.List.{List, [], ◌∷◌}
 use lib.ListN.{length, take}
-use lib.Seq.{take_all, length-take-le}
+use lib.Seq.{take_all}
 use borrow.Author.Rules.{rules}
 use Rattle.lists.proofs.Prefix.{first-bytes}
 use Rattle.handshake.specs.Bytes.{ascii}

@@ -1,4 +1,3 @@
-use Prim.Native.Nat.{◌-◌}
 use Rattle.dump.proofs.bound.BoundWords.{bounds}
 use Rattle.dump.proofs.bound.bindings_lines.Goals as goal
 

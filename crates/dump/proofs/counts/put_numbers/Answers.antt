@@ -1,4 +1,3 @@
-use Prim.Native.Nat.{◌-◌}
 use Rattle.dump.proofs.counts.CountWords.{numbers}
 use Rattle.dump.proofs.counts.put_numbers.Goals as goal
 

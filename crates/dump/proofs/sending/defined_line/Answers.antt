@@ -1,7 +1,4 @@
 use Rattle.dump.proofs.sending.SendingWords.{sent}
-use Rattle.dump.proofs.sending.defined_line.Reads as reads
-use Rattle.dump.proofs.sending.defined_line.Lts as lts
-use Rattle.dump.proofs.sending.number_line.Reads as number-line-reads
 use Rattle.dump.proofs.sending.defined_line.Goals as goal
 
 -- src/sending.rt:29:9

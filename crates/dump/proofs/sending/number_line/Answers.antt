@@ -1,8 +1,4 @@
 use Rattle.dump.proofs.sending.SendingWords.{numbers}
-use Rattle.dump.proofs.sending.number_line.Reads as reads
-use Rattle.dump.proofs.sending.number_line.Lts as lts
-use Rattle.text.proofs.put.Reads as put_reads
-use Rattle.text.proofs.spaced.put_decimal_word.Reads as put-decimal-word-reads
 use Rattle.dump.proofs.sending.number_line.Goals as goal
 
 -- src/sending.rt:16:9

@@ -1,8 +1,4 @@
 use Rattle.dump.proofs.sending.SendingWords.{sent}
-use Rattle.dump.proofs.sending.sending_lines.Reads as reads
-use Rattle.dump.proofs.sending.sending_lines.Lts as lts
-use Rattle.dump.proofs.sending.defined_line.Reads as defined-line-reads
-use Rattle.dump.proofs.sending.sent_line.Reads as sent-line-reads
 use Rattle.dump.proofs.sending.sending_lines.Goals as goal
 
 -- src/sending.rt:44:9

@@ -2,7 +2,6 @@ use Rattle.reassembly.proofs.piece.Skipping.{skipping}
 use Rattle.reassembly.proofs.Taking.{ends, all-taken}
 use Rattle.session.proofs.Basics.{told-false}
 use mathlib.Core.Path.{refl}
-use Prim.Native.Nat.{◌-◌}
 use Rattle.reassembly.proofs.piece.take_piece.Goals as goal
 
 pub unfinished_bytes-bytes-requires : goal.unfinished_bytes-bytes-requires
