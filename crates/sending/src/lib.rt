@@ -41,6 +41,7 @@ pub struct Step {
 pub fn send_lent(session: &mut Session, store: &Store, ask: Ask, room: &mut [u8]) -> Sent
     ensures { SendPromise session.old store.now (record { asked = asked_by ask; room = room.old; result = result; session = session.new; final = room.new }) }
 {
+    // What the types of store and record say, which the promise repeats. Neither call has code.
     store_shaped(store);
     session_shaped(session);
     let sound = store_ok(store);
