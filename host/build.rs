@@ -1,4 +1,4 @@
-//! Links the static library: from the folder that `PEERS_LIB_DIR` names, else from where `rt staticlib peers` leaves it.
+//! Links the static library: from the folder that `PEERS_LIB_DIR` names, else from where `tools/build peers` leaves it.
 //! A relative `PEERS_LIB_DIR` is one of the folder in which cargo was called: a build script runs in its own, so `PWD` says which.
 
 use std::env;
@@ -12,7 +12,7 @@ fn main() {
     let archive = folder.join("libpeers.a");
     assert!(
         Path::new(&archive).is_file(),
-        "no {}: run `rt staticlib peers` at the top of the repository, or set PEERS_LIB_DIR",
+        "no {}: run `tools/build peers` at the top of the repository, or set PEERS_LIB_DIR",
         archive.display()
     );
     println!("cargo:rerun-if-env-changed=PEERS_LIB_DIR");

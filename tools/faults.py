@@ -145,7 +145,7 @@ class Host:
         return sources('include/peers.h') + sources('host/src/*.rs') + sources('host/examples/**/*.rs')
 
     def missing(self, _):
-        return None if sources('target/staticlib/libpeers.a') else 'target/staticlib has no libpeers.a: run `rt staticlib peers` first'
+        return None if sources('target/staticlib/libpeers.a') else 'target/staticlib has no libpeers.a: run `tools/build peers` first'
 
     def commands(self, fault):
         if fault.path.endswith('.h'):

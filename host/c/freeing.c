@@ -99,11 +99,17 @@ static void entry_alone(struct state state) {
     CHECK(call(state, (const uint8_t *)"H", 1, 12, reply).number == PEERS_REFUSED_UNSOUND);
 }
 
-/* Whether reading and passing time are refused with 4. */
+/* Whether reading and passing time are refused with 4, and change nothing. */
 static bool is_refused(struct state state) {
+    static struct peers_session session;
+    static struct peers_store store;
     uint8_t reply[12];
-    return call(state, incremental, INCREMENTAL, 12, reply).number == PEERS_REFUSED_UNSOUND &&
-           pass_time(state.store, UINT32_MAX) == PEERS_REFUSED_UNSOUND;
+    session = *state.session;
+    store = *state.store;
+    struct peers_outcome outcome = call(state, incremental, INCREMENTAL, 12, reply);
+    pass_time(state.store, UINT32_MAX, PEERS_REFUSED_UNSOUND);
+    CHECK(memcmp(&session, state.session, sizeof session) == 0 && memcmp(&store, state.store, sizeof store) == 0);
+    return outcome.number == PEERS_REFUSED_UNSOUND && outcome.taken == 0 && outcome.reply_len == 0;
 }
 
 /* A count that the host left, or lowered twice, is refused until it is right; then reading goes on. */
@@ -126,7 +132,7 @@ static void count_that_was_left(struct state state) {
     CHECK(is_refused(state));
     state.store->counts[0] = 0;
     CHECK(call(state, (const uint8_t *)"H", 1, 12, reply).number == PEERS_MORE);
-    CHECK(pass_time(state.store, 0) == 0);
+    pass_time(state.store, 0, 0);
 }
 
 /* A record that defined the table last, and neither bound nor updated it: refused while the place is free; once another table takes it, that
@@ -160,7 +166,8 @@ static void by_the_host_and_by_time(struct state state) {
     timed_update(state, 2, 7, "keyb", 4, (const uint64_t[]){5}, 1);
     timed_update(state, 3, 8, "keyc", 4, (const uint64_t[]){5}, 1);
     free_entry(state.store, 2);
-    CHECK(pass_time(state.store, 7) == 0 && state.store->counts[0] == 1);
+    pass_time(state.store, 7, 0);
+    CHECK(state.store->counts[0] == 1);
     /* the place that the host freed keeps what it held, and its time isn't lowered */
     CHECK(state.store->entries[2].remaining == 8 && all_zero(&state.store->entries[1], sizeof state.store->entries[1]));
     update(state, 4, "keyd", 4, (const uint64_t[]){5}, 1);

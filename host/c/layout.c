@@ -1,5 +1,4 @@
-/* Sizes and offsets, and then limits and the numbers of types, places and phases, are those of layout.txt, which the Rust test reads too. No
- * struct has padding: its size is the sum of its fields'. */
+/* Sizes and offsets are those of layout.txt, which the Rust test reads too. No struct has padding: its size is the sum of its fields'. */
 #include "test.h"
 
 /* A struct's size and alignment, or a field's offset and size. */
@@ -30,40 +29,6 @@ static const struct line lines[] = {
     SIZE(sent), FIELD(sent, number), FIELD(sent, len),
 };
 
-/* A constant of the header. */
-struct constant {
-    const char *name;
-    unsigned long number;
-};
-
-#define IS(name) {#name, name}
-
-static const struct constant constants[] = {
-    IS(PEERS_TABLES), IS(PEERS_ENTRIES), IS(PEERS_NAME_MAX), IS(PEERS_KEY_MAX), IS(PEERS_RATES), IS(PEERS_VALUES), IS(PEERS_UNFINISHED_MAX),
-    IS(PEERS_BUFFER), IS(PEERS_OPENING_ROOM), IS(PEERS_READING_ROOM), IS(PEERS_SEND_ROOM),
-    IS(PEERS_KEY_INTEGER), IS(PEERS_KEY_IPV4), IS(PEERS_KEY_IPV6), IS(PEERS_KEY_STRING), IS(PEERS_KEY_BINARY),
-    IS(PEERS_SERVER_ID), IS(PEERS_GPT0), IS(PEERS_GPC0), IS(PEERS_GPC0_RATE), IS(PEERS_CONN_CNT), IS(PEERS_CONN_RATE), IS(PEERS_CONN_CUR),
-    IS(PEERS_SESS_CNT), IS(PEERS_SESS_RATE), IS(PEERS_HTTP_REQ_CNT), IS(PEERS_HTTP_REQ_RATE), IS(PEERS_HTTP_ERR_CNT),
-    IS(PEERS_HTTP_ERR_RATE), IS(PEERS_BYTES_IN_CNT), IS(PEERS_BYTES_IN_RATE), IS(PEERS_BYTES_OUT_CNT), IS(PEERS_BYTES_OUT_RATE),
-    IS(PEERS_GPC1), IS(PEERS_GPC1_RATE),
-    IS(PEERS_SLOT_GPT0), IS(PEERS_SLOT_GPC0), IS(PEERS_SLOT_GPC0_RATE), IS(PEERS_SLOT_CONN_CNT), IS(PEERS_SLOT_CONN_RATE),
-    IS(PEERS_SLOT_CONN_CUR), IS(PEERS_SLOT_SESS_CNT), IS(PEERS_SLOT_SESS_RATE), IS(PEERS_SLOT_HTTP_REQ_CNT), IS(PEERS_SLOT_HTTP_REQ_RATE),
-    IS(PEERS_SLOT_HTTP_ERR_CNT), IS(PEERS_SLOT_HTTP_ERR_RATE), IS(PEERS_SLOT_BYTES_IN_CNT), IS(PEERS_SLOT_BYTES_IN_RATE),
-    IS(PEERS_SLOT_BYTES_OUT_CNT), IS(PEERS_SLOT_BYTES_OUT_RATE), IS(PEERS_SLOT_GPC1), IS(PEERS_SLOT_GPC1_RATE),
-    IS(PEERS_PERIOD_GPC0_RATE), IS(PEERS_PERIOD_CONN_RATE), IS(PEERS_PERIOD_SESS_RATE), IS(PEERS_PERIOD_HTTP_REQ_RATE),
-    IS(PEERS_PERIOD_HTTP_ERR_RATE), IS(PEERS_PERIOD_BYTES_IN_RATE), IS(PEERS_PERIOD_BYTES_OUT_RATE), IS(PEERS_PERIOD_GPC1_RATE),
-    IS(PEERS_AWAITING_HELLO), IS(PEERS_AWAITING_STATUS), IS(PEERS_ESTABLISHED),
-};
-
-static void test_constants(FILE *from) {
-    for (size_t i = 0; i < sizeof constants / sizeof *constants; i++) {
-        char expected[80], own[80];
-        CHECK(fgets(expected, sizeof expected, from) != NULL);
-        snprintf(own, sizeof own, "%s %lu\n", constants[i].name, constants[i].number);
-        CHECK(strcmp(expected, own) == 0);
-    }
-}
-
 void test_layout(const char *file) {
     FILE *from = fopen(file, "r");
     size_t rest = 0; /* bytes of the struct that belong to no field so far */
@@ -83,7 +48,6 @@ void test_layout(const char *file) {
         CHECK(strcmp(expected, own) == 0);
     }
     CHECK(rest == 0);
-    test_constants(from);
     CHECK(fgetc(from) == EOF);
     fclose(from);
 }

@@ -6,9 +6,12 @@
 
 enum edge edge;
 
-void choose_edge(const char *word) {
-    edge = strcmp(word, "before") == 0 ? EDGE_BEFORE : EDGE_AFTER;
-    CHECK(edge == EDGE_BEFORE || strcmp(word, "after") == 0);
+uint64_t next(void) {
+    static uint64_t seed = 0x123456789ABCDEF1;
+    seed ^= seed << 13;
+    seed ^= seed >> 7;
+    seed ^= seed << 17;
+    return seed;
 }
 
 static size_t pages(size_t size) {
@@ -31,8 +34,7 @@ void give_back(void *memory, size_t size) {
     CHECK(munmap(start - page, inner + 2 * page) == 0);
 }
 
-/* Whether such memory may be written, or only be read. */
-static void allow_writing(void *memory, size_t size, bool allowed) {
+void allow_writing(void *memory, size_t size, bool allowed) {
     size_t inner = pages(size);
     uint8_t *start = edge == EDGE_AFTER ? (uint8_t *)memory + size - inner : memory;
     CHECK(mprotect(start, inner, allowed ? PROT_READ | PROT_WRITE : PROT_READ) == 0);
@@ -54,14 +56,10 @@ bool all_zero(const void *memory, size_t size) {
     return true;
 }
 
-/* Whether each count is the number of held entries that walking finds, and 0 at a free place. */
-static bool counts_are_right(const struct peers_store *store) {
+bool counts_are_right(const struct peers_store *store) {
     uint32_t walked[PEERS_TABLES] = {0};
-    for (size_t i = 0; i < PEERS_ENTRIES; i++) {
-        if (store->entries[i].held != 1) continue;
-        if (store->entries[i].table >= PEERS_TABLES) return false;
-        walked[store->entries[i].table]++;
-    }
+    for (size_t i = 0; i < PEERS_ENTRIES; i++)
+        if (store->entries[i].held == 1) walked[store->entries[i].table]++;
     for (size_t i = 0; i < PEERS_TABLES; i++)
         if (store->tables[i].held == 0 && walked[i] != 0) return false;
     return memcmp(walked, store->counts, sizeof walked) == 0;
@@ -74,35 +72,25 @@ void free_entry(struct peers_store *store, size_t place) {
     }
 }
 
-size_t open_session(struct state state, bool caller, uint8_t hello[PEERS_OPENING_ROOM]) {
-    const uint8_t *local = (const uint8_t *)"east", *remote = (const uint8_t *)"west";
-    uint8_t *room = lend(PEERS_OPENING_ROOM);
-    memset(room, FILL, PEERS_OPENING_ROOM);
-    struct peers_opened opened = caller ? peers_open_caller(local, 4, remote, 4, 7, 0, room, PEERS_OPENING_ROOM)
-                                        : peers_open_answerer(local, 4, remote, 4, room, PEERS_OPENING_ROOM);
+static void take_opened(struct state state, struct peers_opened opened) {
     CHECK(opened.outcome.number == PEERS_MORE && opened.outcome.taken == 0 && opened.outcome.count == 0);
-    CHECK(opened.outcome.reply_len <= PEERS_OPENING_ROOM && all_zero(opened.outcome.values, sizeof opened.outcome.values));
-    for (size_t i = opened.outcome.reply_len; i < PEERS_OPENING_ROOM; i++) CHECK(room[i] == FILL);
-    memcpy(hello, room, opened.outcome.reply_len);
     *state.session = opened.session;
-    give_back(room, PEERS_OPENING_ROOM);
-    return opened.outcome.reply_len;
-}
-
-void open_answerer_on(struct state state) {
-    uint8_t hello[PEERS_OPENING_ROOM];
-    CHECK(open_session(state, false, hello) == 0);
+    *state.store = peers_empty_store();
 }
 
 void open_answerer(struct state state) {
-    open_answerer_on(state);
-    *state.store = peers_empty_store();
+    uint8_t room[PEERS_OPENING_ROOM];
+    take_opened(state, peers_open_answerer((const uint8_t *)"east", 4, (const uint8_t *)"west", 4, room, sizeof room));
+}
+
+void open_answerer_on(struct state state) {
+    uint8_t room[PEERS_OPENING_ROOM];
+    *state.session = peers_open_answerer((const uint8_t *)"east", 4, (const uint8_t *)"west", 4, room, sizeof room).session;
 }
 
 void open_caller(struct state state) {
-    uint8_t hello[PEERS_OPENING_ROOM];
-    open_session(state, true, hello);
-    *state.store = peers_empty_store();
+    uint8_t room[PEERS_OPENING_ROOM];
+    take_opened(state, peers_open_caller((const uint8_t *)"east", 4, (const uint8_t *)"west", 4, 7, 0, room, sizeof room));
 }
 
 void establish(struct state state) {
@@ -120,36 +108,9 @@ static bool has_offset(uint32_t number) {
     return number == PEERS_REFUSED_CUT || number == PEERS_REFUSED_RANGE || number == PEERS_REFUSED_TABLE_NAME;
 }
 
-/* What a refused call leaves: `session` is the record before it. */
-static void check_refused(struct peers_session *session, const struct peers_session *left, const struct peers_outcome *outcome) {
-    CHECK(outcome->count == (has_offset(outcome->number) ? 1 : 0) && outcome->values[0] <= 1024);
-    CHECK((outcome->taken == 0) == (outcome->number < PEERS_REFUSED_HELLO));
-    if (outcome->taken > 0) {
-        session->connection.closed = 1;
-        session->connection.number = outcome->number;
-        session->len = 0;
-        memset(session->buffer, 0, sizeof session->buffer);
-    }
-    CHECK(memcmp(session, left, sizeof *session) == 0);
-}
-
-/* What a call leaves: `session` and `store` are those before it. */
-static void check_left(struct peers_session *session, const struct peers_store *store, struct state left,
-                       const struct peers_outcome *outcome) {
-    CHECK(memcmp(&session->sending, &left.session->sending, sizeof session->sending) == 0);
-    for (size_t i = outcome->count; i < 4; i++) CHECK(outcome->values[i] == 0);
-    if (was_sound(outcome->number)) CHECK(counts_are_right(left.store));
-    if (outcome->taken == 0) CHECK(outcome->reply_len == 0 && memcmp(session, left.session, sizeof *session) == 0);
-    if (outcome->taken == 0 || outcome->number < PEERS_MORE) CHECK(memcmp(store, left.store, sizeof *store) == 0);
-    if (outcome->number < PEERS_MORE) check_refused(session, left.session, outcome);
-}
-
 struct peers_outcome call(struct state state, const uint8_t *piece, size_t len, size_t room, uint8_t reply[12]) {
-    static struct peers_session session;
-    static struct peers_store store;
     uint8_t *lent_piece = lend(len), *lent_room = lend(room);
-    memcpy(&session, state.session, sizeof session);
-    memcpy(&store, state.store, sizeof store);
+    struct peers_sending sending = state.session->sending;
     memcpy(lent_piece, piece, len);
     memset(lent_room, FILL, room);
     struct peers_outcome outcome = peers_read(state.session, state.store, lent_piece, len, lent_room, room);
@@ -157,10 +118,24 @@ struct peers_outcome call(struct state state, const uint8_t *piece, size_t len, 
     CHECK(memcmp(lent_piece, piece, len) == 0);
     memcpy(reply, lent_room, outcome.reply_len);
     for (size_t i = outcome.reply_len; i < room; i++) CHECK(lent_room[i] == FILL);
-    check_left(&session, &store, state, &outcome);
+    if (outcome.number < PEERS_MORE) CHECK(outcome.count == (has_offset(outcome.number) ? 1 : 0) && outcome.values[0] <= 1024);
+    for (size_t i = outcome.count; i < 4; i++) CHECK(outcome.values[i] == 0);
+    if (was_sound(outcome.number)) CHECK(counts_are_right(state.store));
+    CHECK(memcmp(&sending, &state.session->sending, sizeof sending) == 0);
     give_back(lent_piece, len);
     give_back(lent_room, room);
     return outcome;
+}
+
+void offer(struct state state, const uint8_t *bytes, size_t len, void (*told)(const struct peers_outcome *, const uint8_t *)) {
+    size_t at = 0;
+    while (at < len && state.session->connection.closed == 0) {
+        uint8_t reply[12];
+        struct peers_outcome outcome = call(state, bytes + at, len - at, 15, reply);
+        CHECK(outcome.taken > 0);
+        at += outcome.taken;
+        if (outcome.number != PEERS_MORE) told(&outcome, reply);
+    }
 }
 
 /* What the rule leaves of the record after a sending call. */
@@ -203,6 +178,10 @@ bool is_key_type(uint64_t number) {
     return false;
 }
 
+bool is_plain(uint8_t byte) {
+    return byte != 0 && strchr("ABCDEFGHIJKLMNOPQRSTUVWXYZabcdefghijklmnopqrstuvwxyz0123456789._-/:", byte) != NULL;
+}
+
 size_t put_int(uint8_t *to, uint64_t value) {
     size_t len = 1;
     if (value < 240) {
@@ -242,8 +221,7 @@ void define(struct state state, uint32_t id, const char *name, uint8_t key_type,
     accept(state, 130, body, len, PEERS_TABLE);
 }
 
-/* Writes a number big-endian and gives its length. */
-static size_t put_four(uint8_t *to, uint32_t number) {
+size_t put_four(uint8_t *to, uint32_t number) {
     to[0] = (uint8_t)(number >> 24);
     to[1] = (uint8_t)(number >> 16);
     to[2] = (uint8_t)(number >> 8);
@@ -281,17 +259,14 @@ static void lower(struct peers_store *store, size_t place, uint32_t milliseconds
         entry->remaining -= milliseconds;
         return;
     }
-    CHECK(entry->table < PEERS_TABLES);
     store->counts[entry->table]--;
     memset(entry, 0, sizeof *entry);
 }
 
-uint32_t pass_time(struct peers_store *store, uint32_t milliseconds) {
+void pass_time(struct peers_store *store, uint32_t milliseconds, uint32_t number) {
     static struct peers_store expected;
     memcpy(&expected, store, sizeof expected);
-    uint32_t number = peers_pass_time(store, milliseconds);
     for (size_t i = 0; number == 0 && i < PEERS_ENTRIES; i++) lower(&expected, i, milliseconds);
-    CHECK(number == 0 ? counts_are_right(store) : number == PEERS_REFUSED_UNSOUND);
+    CHECK(peers_pass_time(store, milliseconds) == number);
     CHECK(memcmp(&expected, store, sizeof expected) == 0);
-    return number;
 }

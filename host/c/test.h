@@ -22,12 +22,12 @@
 enum edge { EDGE_AFTER, EDGE_BEFORE };
 extern enum edge edge;
 
-/* Takes the edge from its word, `after` or `before`. */
-void choose_edge(const char *word);
-
 /* Memory with a page that can't be touched at its edge. */
 void *lend(size_t size);
 void give_back(void *memory, size_t size);
+
+/* Whether such memory may be written, or only be read. */
+void allow_writing(void *memory, size_t size, bool allowed);
 
 /* A session and a store in such memory. */
 struct state {
@@ -40,12 +40,14 @@ void give_back_state(struct state state);
 
 bool all_zero(const void *memory, size_t size);
 
+/* A random number. */
+uint64_t next(void);
+
+/* Whether each count is the number of held entries that walking finds, and 0 at a free place. */
+bool counts_are_right(const struct peers_store *store);
+
 /* Frees the entry at a place, as the header says. */
 void free_entry(struct peers_store *store, size_t place);
-
-/* Opens a session as `east` for `west`; the caller has process number 7 and relative process number 0. Its hello is left in `hello`, the rest
- * of the room must stay. Gives the hello's length. */
-size_t open_session(struct state state, bool caller, uint8_t hello[PEERS_OPENING_ROOM]);
 
 /* States to start from, in the memory of `state`. */
 void open_answerer(struct state state);
@@ -53,14 +55,16 @@ void open_answerer_on(struct state state); /* the store stays */
 void open_caller(struct state state);
 void establish(struct state state);
 
-/* One call, with piece and room in such memory. The reply is left in `reply`, and the room past it must stay, and the sending state. A call
- * that takes nothing must change nothing. A refusal must leave the store, and of the record all but what closing changes; it must have a
- * value if it is one that says where the body broke, and no other may. A call that tested the store must leave counts that are right. */
+/* One call, with piece and room in such memory. The reply is left in `reply`, and the room past it must stay, and the sending state. A
+ * refusal must have a value if it is one that says where the body broke, and no other may. A call that tested the store must leave counts
+ * that are right. */
 struct peers_outcome call(struct state state, const uint8_t *piece, size_t len, size_t room, uint8_t reply[12]);
 
-/* Passes time and gives the number; the store must be left as the rule says, with counts that are right, and as it was where the
- * number isn't 0. */
-uint32_t pass_time(struct peers_store *store, uint32_t milliseconds);
+/* Offers bytes until all are taken or the session is closed; every answer but "more wanted" goes to `told`. */
+void offer(struct state state, const uint8_t *bytes, size_t len, void (*told)(const struct peers_outcome *, const uint8_t *));
+
+/* Passes time; the store must be left as the rule says, counts too, which is as it was where the number is 4. */
+void pass_time(struct peers_store *store, uint32_t milliseconds, uint32_t number);
 
 /* What a sending call sends. */
 enum part { A_TABLE, AN_ENTRY };
@@ -81,6 +85,9 @@ extern const struct key_lengths key_lengths[KEY_TYPES];
 
 bool is_key_type(uint64_t number);
 
+/* Whether a table's name may have this byte. */
+bool is_plain(uint8_t byte);
+
 /* Messages. */
 size_t put_int(uint8_t *to, uint64_t value);
 size_t put_message(uint8_t *to, uint8_t kind, const uint8_t *body, size_t len);
@@ -88,12 +95,19 @@ void define(struct state state, uint32_t id, const char *name, uint8_t key_type,
 void update(struct state state, uint32_t id, const void *key, size_t key_len, const uint64_t *values, size_t count);
 void timed_update(struct state state, uint32_t id, uint32_t time, const void *key, size_t key_len, const uint64_t *values, size_t count);
 
+/* Writes a number big-endian and gives its length. */
+size_t put_four(uint8_t *to, uint32_t number);
+
 /* Groups of tests. */
 void test_layout(const char *file);
 void test_bytes(void);
 void test_texts(const char *file);
 void test_opening(void);
+void test_listing(void);
 void test_definition(void);
+void test_offsets(void);
+void test_times(void);
+void test_counts(void);
 void test_sending(void);
 void test_unsound(void);
 void test_random(void);

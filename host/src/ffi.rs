@@ -80,7 +80,7 @@ fn check() {
     });
 }
 
-/// `peers_empty_store`: an empty store, which takes 144 KB of stack.
+/// `peers_empty_store`: an empty store, which takes 48 KB of stack.
 pub fn empty_store() -> Store {
     check();
     // SAFETY: it takes nothing.
