@@ -217,12 +217,12 @@ fn second_record(session: &peers::Session) -> Record {
     let connection = &session.layout().connection;
     let name = |bytes: &[u8], len: usize| bytes[..len].to_vec();
     Record {
-        phase: match (session.closed_with(), session.is_established()) {
+        phase: match (session.closed_by(), session.is_established()) {
             (Some(closed), _) => Phase::Closed(closed.number()),
             (None, true) => Phase::Open,
             (None, false) => Phase::Handshake,
         },
-        role: match (session.closed_with(), connection.phase) {
+        role: match (session.closed_by(), connection.phase) {
             (None, 1) => Role::Caller,
             _ => Role::Answerer,
         },

@@ -54,26 +54,22 @@ impl Session {
     ///
     /// # Errors
     ///
-    /// [`Refusal::Name`]; the room is then as it was.
+    /// [`Refusal::Room`] for a room under [`OPENING_ROOM`], else [`Refusal::Name`]; the room is then as it was.
     pub fn caller<'a>(
         local: &[u8],
         remote: &[u8],
         process: u32,
         relative: u32,
-        room: &'a mut [u8; OPENING_ROOM],
+        room: &'a mut [u8],
     ) -> Result<(Session, &'a [u8]), Refusal> {
         let (session, len) = opened(ffi::open_caller(local, remote, process, relative, room))?;
         Ok((session, &room[..len]))
     }
 
-    /// Takes bytes up to the end of one message, or up to the byte that shows a refusal, or all of them. Past the reply the room stays as it
-    /// was. Replies go to the peer in the order of the calls, each at once or several together.
-    pub fn read<'a>(
-        &mut self,
-        store: &mut Store,
-        piece: &[u8],
-        room: &'a mut [u8; READING_ROOM],
-    ) -> Step<'a> {
+    /// Takes bytes up to the end of one message, or up to the byte that shows a refusal, or all of them.
+    ///
+    /// The room is [`READING_ROOM`] bytes or more; past the reply it stays as it was. Replies go to the peer in the order of the calls, each at once or several together.
+    pub fn read<'a>(&mut self, store: &mut Store, piece: &[u8], room: &'a mut [u8]) -> Step<'a> {
         let outcome = ffi::read(&mut self.record, store.layout_mut(), piece, room);
         Step {
             taken: outcome.taken,
@@ -85,19 +81,19 @@ impl Session {
     /// Writes the definition of the table at a place, under this ID, for the peer: one whole message, at the front of the room. Messages and
     /// replies go to the peer in the order of their calls. It is the table defined last from now on.
     ///
-    /// Past the message the room stays as it was. Of the record only the sending state changes
+    /// The room is [`SEND_ROOM`] bytes or more; past the message it stays as it was. Of the record only the sending state changes
     /// ([`Session::defined`], [`Session::last_sent`]): a message that is read in part and what was read don't matter.
     ///
     /// # Errors
     ///
-    /// In this order: [`Refusal::Unsound`], [`Refusal::Closed`], [`Refusal::Handshake`], and [`Refusal::Place`] where
+    /// In this order: [`Refusal::SendRoom`], [`Refusal::Unsound`], [`Refusal::Closed`], [`Refusal::Handshake`], and [`Refusal::Place`] where
     /// no table is held at the place. Nothing is then written or changed, and the session isn't closed by it.
     pub fn send_definition<'a>(
         &mut self,
         store: &Store,
         table: usize,
         id: u32,
-        room: &'a mut [u8; SEND_ROOM],
+        room: &'a mut [u8],
     ) -> Result<&'a [u8], Refusal> {
         let sent = ffi::send_definition(&mut self.record, store.layout(), table, id, room);
         message(sent, room)
@@ -117,15 +113,23 @@ impl Session {
         store: &Store,
         entry: usize,
         id: u32,
-        room: &'a mut [u8; SEND_ROOM],
+        room: &'a mut [u8],
     ) -> Result<&'a [u8], Refusal> {
         let sent = ffi::send_entry(&mut self.record, store.layout(), entry, id, room);
         message(sent, room)
     }
 
+    /// What a closed session was closed with: 0 after the peer's error message, else a refusal's number.
+    pub fn closed_with(&self) -> Option<u8> {
+        let connection = &self.record.connection;
+        // no session is closed with a number past 255: a call on such a record is refused with 4
+        let number = u8::try_from(connection.number).ok();
+        number.filter(|_| connection.closed == 1)
+    }
+
     /// What closed the session; nothing while it is open, nor for a record whose number closes none, which every call refuses with
     /// [`Refusal::Unsound`].
-    pub fn closed_with(&self) -> Option<Closed> {
+    pub fn closed_by(&self) -> Option<Closed> {
         let connection = &self.record.connection;
         Closed::of(connection.number).filter(|_| connection.closed == 1)
     }
@@ -169,7 +173,7 @@ impl Session {
     pub fn uses(&self, place: usize) -> bool {
         let read = self.bound_id(place).is_some() || self.last_update(place).is_some();
         let used = read || self.defined() == Some(place);
-        used && self.closed_with().is_none()
+        used && self.closed_by().is_none()
     }
 
     /// The bytes of a message that isn't whole.
@@ -198,7 +202,7 @@ impl fmt::Debug for Session {
             .field("local", &format_args!("{local}"))
             .field("remote", &format_args!("{remote}"))
             .field("established", &self.is_established())
-            .field("closed_with", &self.closed_with())
+            .field("closed_by", &self.closed_by())
             .field("current", &self.current())
             .field("unfinished", &self.unfinished().len())
             .field("defined", &self.defined())

@@ -1,4 +1,4 @@
-/* Sizes and offsets, and then limits and the numbers of types, places and phases, are those of layout.txt, which the Rust test reads too. No
+/* Sizes and offsets, and then limits and the numbers of types, places and phases, are those of constants.txt, which the Rust test reads too. No
  * struct has padding: its size is the sum of its fields'. */
 #include "test.h"
 

@@ -250,10 +250,7 @@ mod tests {
     #[test]
     fn without_it_a_new_key_is_refused() {
         let (session, store, purging, ..) = sent(ENTRIES + 1, false);
-        assert_eq!(
-            session.closed_with(),
-            Some(Closed::Refused(Refusal::Entries))
-        );
+        assert_eq!(session.closed_by(), Some(Closed::Refused(Refusal::Entries)));
         assert_eq!((store.entries_of(0), purging.total()), (128, 0));
     }
 }

@@ -1,8 +1,7 @@
 //! Messages to send, and sessions to send them to.
 
-use peers::ffi;
 use peers::layout::{self, Entry, Sending, TABLES};
-use peers::{Answer, Closed, KeyType, Part, Refusal, Session, Store, READING_ROOM, SEND_ROOM};
+use peers::{Answer, KeyType, Part, Refusal, Session, Store, READING_ROOM, SEND_ROOM};
 use std::time::Duration;
 
 /// The content of a room before a call.
@@ -191,14 +190,6 @@ pub fn refused_at(refusal: Refusal, offset: usize) -> Answer {
     }
 }
 
-/// What a session is closed with by a refusal of this number, or with 0 by the peer's error message.
-pub fn closed(number: u8) -> Option<Closed> {
-    match number {
-        0 => Some(Closed::PeerError),
-        number => Refusal::of(number).map(Closed::Refused),
-    }
-}
-
 /// An answer with its reply.
 pub type Told = (Answer, Vec<u8>);
 
@@ -232,7 +223,7 @@ impl State {
     /// One call; the room past the reply must stay, and the sending state, and a call that tested the store must leave counts that are
     /// right.
     pub fn call(&mut self, piece: &[u8]) -> (usize, Told) {
-        let mut room = [FILL; READING_ROOM];
+        let mut room = [FILL; READING_ROOM + 3];
         let sending = self.session.layout().sending;
         let step = self.session.read(&mut self.store, piece, &mut room);
         let (taken, told) = (step.taken, (step.answer, step.reply.to_vec()));
@@ -278,8 +269,13 @@ impl State {
     pub fn send_with(&mut self, part: Part, id: u32, room: usize) -> Result<Vec<u8>, Refusal> {
         let mut expected = self.clone();
         let mut room = vec![FILL; room];
-        let sent = self.written(part, id, &mut room);
-        let sent = sent.map(|len| room[..len].to_vec());
+        let sent = match part {
+            Part::Table(place) => self
+                .session
+                .send_definition(&self.store, place, id, &mut room),
+            Part::Entry(place) => self.session.send_entry(&self.store, place, id, &mut room),
+        };
+        let sent = sent.map(<[u8]>::to_vec);
         let len = sent.as_ref().map_or(0, Vec::len);
         assert_eq!(len > 0, sent.is_ok());
         assert!(len <= SENT_MAX && room[len..].iter().all(|&byte| byte == FILL));
@@ -288,27 +284,6 @@ impl State {
         }
         assert!(*self == expected, "{part:?} as {id}: {sent:?}");
         sent
-    }
-
-    /// The length of a message, written through the wrapper into as much room as it has, else by the library's call.
-    fn written(&mut self, part: Part, id: u32, room: &mut [u8]) -> Result<usize, Refusal> {
-        let (session, store) = (&mut self.session, &self.store);
-        if let Ok(room) = <&mut [u8; SEND_ROOM]>::try_from(&mut *room) {
-            let sent = match part {
-                Part::Table(place) => session.send_definition(store, place, id, room),
-                Part::Entry(place) => session.send_entry(store, place, id, room),
-            };
-            return sent.map(<[u8]>::len);
-        }
-        let (session, store) = (session.layout_mut(), store.layout());
-        let sent = match part {
-            Part::Table(place) => ffi::send_definition(session, store, place, id, room),
-            Part::Entry(place) => ffi::send_entry(session, store, place, id, room),
-        };
-        match sent.number {
-            0 => Ok(sent.len as usize),
-            number => Err(Refusal::of(number as u8).expect("a refusal's number")),
-        }
     }
 
     /// The same with as much room as is asked for.

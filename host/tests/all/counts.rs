@@ -1,6 +1,6 @@
 //! The counts of entries by table: what each kind of call does to them. That they are what walking finds, every call of these tests checks.
 
-use crate::common::{closed, define, message, refused, timed_update, update, State};
+use crate::common::{define, message, refused, timed_update, update, State};
 use peers::{Answer, KeyType, Refusal, Store};
 
 /// Tables `a` to `d` at places 0 to 3, with IDs 0 to 3; the last is current.
@@ -87,11 +87,7 @@ fn other_messages_leave_them() {
     ] {
         let mut state = base.clone();
         assert_eq!(state.offer(&bytes).len(), 1);
-        assert_eq!(
-            state.session.closed_with(),
-            number.and_then(closed),
-            "{bytes:?}"
-        );
+        assert_eq!(state.session.closed_with(), number, "{bytes:?}");
         assert_eq!(counts(&state), [1, 0, 2, 0]);
         state.offer(&[1, 0]);
         assert_eq!(state.call(&[0, 4]).1 .0, refused(Refusal::Closed));

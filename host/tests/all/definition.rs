@@ -1,8 +1,6 @@
 //! Fields of a definition, on each side of each boundary.
 
-use crate::common::{
-    self, closed, define, define_of, int, message, refused_at, State, KEY_LENGTHS, PLAIN,
-};
+use crate::common::{self, define, define_of, int, message, refused_at, State, KEY_LENGTHS, PLAIN};
 use peers::{Answer, KeyType, Refusal};
 
 /// A definition is taken, and makes the table at place 0.
@@ -20,7 +18,7 @@ fn refused(mut state: State, bytes: &[u8], expected: Refusal) {
         panic!("not refused: {bytes:?}");
     };
     assert_eq!((*refusal, &reply[..]), (expected, &[1, 0][..]), "{bytes:?}");
-    assert_eq!(state.session.closed_with(), closed(refusal.number()));
+    assert_eq!(state.session.closed_with(), Some(refusal.number()));
     assert!(state.store == store, "the store changed");
 }
 
@@ -215,7 +213,7 @@ fn after_a_name_that_is_not_plain() {
         assert_eq!(state.offer(&bytes[..cut]), []);
         let told = state.offer(&bytes[cut..]);
         assert_eq!(told, [(refused_at(Refusal::TableName, 2), vec![1, 0])]);
-        assert_eq!(state.session.closed_with(), closed(30));
+        assert_eq!(state.session.closed_with(), Some(30));
         assert_eq!(state.session.unfinished(), b"");
         let (taken, told) = state.call(&[0, 4]);
         assert_eq!((taken, told.0), (0, common::refused(Refusal::Closed)));

@@ -126,25 +126,6 @@ fn a_table_that_a_record_uses() {
     assert_eq!(state.store.entry(0).unwrap().table().name(), b"other");
 }
 
-/// A record that updated the table, whose ID is another's since.
-#[test]
-fn a_table_that_a_record_updated() {
-    let mut state = one_entry();
-    state.accept(&[define(1, b"u", KeyType::Integer, 4, 4, &[])]);
-    let session = &state.session;
-    assert_eq!(
-        (session.bound_id(0), session.last_update(0)),
-        (None, Some(1))
-    );
-    assert_eq!(
-        (session.bound_id(1), session.last_update(1)),
-        (Some(1), None)
-    );
-    assert!(session.uses(0) && session.uses(1) && !session.uses(2));
-    assert!(state.store.free_table(0));
-    assert_eq!(state.call(&[0, 4]).1 .0, refused(Refusal::Unsound));
-}
-
 /// A record that defined the table last, and neither bound nor updated it.
 #[test]
 fn a_table_that_a_record_defined_last() {

@@ -1,7 +1,5 @@
 //! Tests of the library through its Rust wrapper.
 
-mod answerer;
-mod boxed;
 mod bytes;
 mod common;
 mod counts;

@@ -1,6 +1,6 @@
 //! Where a body broke: each field of each message cut short at each place, out of range, and overflowing.
 
-use crate::common::{closed, define, int, message, refused_at, update, State};
+use crate::common::{define, int, message, refused_at, update, State};
 use peers::{DataType, KeyType, Refusal};
 
 /// All data types.
@@ -64,7 +64,7 @@ fn breaks(state: &State, kind: u8, body: &[u8], refusal: Refusal, offset: usize)
     let told = after.offer(&message(kind, body));
     let expected = [(refused_at(refusal, offset), vec![1, 0])];
     assert_eq!(told, expected, "{body:?}");
-    assert_eq!(after.session.closed_with(), closed(refusal.number()));
+    assert_eq!(after.session.closed_with(), Some(refusal.number()));
     assert!(after.store == state.store, "the store changed");
 }
 

@@ -1,11 +1,11 @@
 //! Opening in either role.
 
-use crate::common::{closed, refused, State, FILL};
-use peers::{ffi, Answer, Refusal, Session, OPENING_ROOM};
+use crate::common::{refused, State, FILL};
+use peers::{Answer, Refusal, Session};
 
 #[test]
 fn the_callers_hello() {
-    let mut room = [FILL; OPENING_ROOM];
+    let mut room = [FILL; 103];
     let (session, hello) = Session::caller(b"east", b"west", 7, 0, &mut room).unwrap();
     assert_eq!(hello, b"HAProxyS 2.1\nwest\neast 7 0\n");
     let len = hello.len();
@@ -16,25 +16,17 @@ fn the_callers_hello() {
 #[test]
 fn the_longest_hello() {
     let (local, remote) = ([b'l'; 32], [b'r'; 32]);
-    let mut room = [FILL; OPENING_ROOM];
+    let mut room = [FILL; 101];
     let (_, hello) = Session::caller(&local, &remote, u32::MAX, u32::MAX, &mut room).unwrap();
     assert_eq!(hello.len(), 101);
 }
 
-/// Room that is too short, and more than is needed.
 #[test]
-fn other_rooms() {
-    for len in [0, 100, 103] {
-        let mut room = vec![FILL; len];
-        let number = if len < OPENING_ROOM { 1 } else { 256 };
-        let answerer = ffi::open_answerer(b"east", b"west", &mut room);
-        assert_eq!(answerer.outcome.number, number);
-        assert!(room.iter().all(|&byte| byte == FILL));
-        let caller = ffi::open_caller(b"east", b"west", 7, 0, &mut room);
-        let hello = caller.outcome.reply_len;
-        assert_eq!((caller.outcome.number, hello > 0), (number, number == 256));
-        assert!(room[hello..].iter().all(|&byte| byte == FILL));
-    }
+fn a_hundred_bytes_of_room() {
+    let mut room = [FILL; 100];
+    let refused = Session::caller(b"east", b"west", 7, 0, &mut room);
+    assert_eq!(refused.err(), Some(Refusal::Room));
+    assert_eq!(room, [FILL; 100]);
 }
 
 #[test]
@@ -58,5 +50,5 @@ fn a_caller_reads_a_status() {
     assert!(state.session.is_established());
     let mut other = State::caller();
     assert_eq!(other.offer(b"300\n"), [(refused(Refusal::Status), vec![])]);
-    assert_eq!(other.session.closed_with(), closed(14));
+    assert_eq!(other.session.closed_with(), Some(14));
 }

@@ -1,8 +1,8 @@
 //! Random bytes as record and store, and sound ones with some bytes changed: no call crashes, writes outside of what is lent, or
 //! changes anything where it refuses with 1, 2 or 4.
 
-use crate::common::{define, listing, message, update, walked, Random, State, FILL};
-use peers::{ffi, KeyType, Part, Refusal, SEND_ROOM};
+use crate::common::{define, listing, message, refused, update, walked, Random, State, FILL};
+use peers::{KeyType, Part, Refusal, SEND_ROOM};
 use std::mem::size_of;
 
 /// Writes a byte anywhere into a struct of integers, for which every content is allowed.
@@ -70,23 +70,22 @@ fn call(random: &mut Random, state: &mut State) {
     let lent = [&[FILL; EDGE][..], &piece, &[FILL; EDGE]].concat();
     let room_len = random.below(40);
     let mut room = vec![FILL; EDGE + room_len + EDGE];
-    let outcome = ffi::read(
-        state.session.layout_mut(),
-        state.store.layout_mut(),
-        &lent[EDGE..EDGE + piece.len()],
-        &mut room[EDGE..EDGE + room_len],
-    );
-    let (taken, reply_len, number) = (outcome.taken, outcome.reply_len, outcome.number);
+    let (store, lent_room) = (&mut state.store, &mut room[EDGE..EDGE + room_len]);
+    let step = state
+        .session
+        .read(store, &lent[EDGE..EDGE + piece.len()], lent_room);
+    let (taken, reply_len, answer) = (step.taken, step.reply.len(), step.answer);
     assert!(taken <= piece.len() && reply_len <= 12.min(room_len));
     assert!(room[..EDGE].iter().all(|&b| b == FILL));
     assert!(room[EDGE + reply_len..].iter().all(|&b| b == FILL));
     assert_eq!(&lent[EDGE..EDGE + piece.len()], &piece[..]);
-    if [1, 2, 4].contains(&number) {
+    let unchanged = [Refusal::Room, Refusal::Closed, Refusal::Unsound].map(refused);
+    if unchanged.contains(&answer) {
         assert_eq!((taken, reply_len), (0, 0));
         assert!(*state == before, "a refused call changed something");
     } else {
         let store = state.store.layout();
-        assert_eq!(store.counts, walked(store), "{number}");
+        assert_eq!(store.counts, walked(store), "{answer:?}");
     }
     sends(random, state);
     // this helper too looks at what is left

@@ -1,7 +1,7 @@
 //! Every answer, every refusal, and every data type of an entry.
 
-use crate::common::{closed, define, define_of, int, message, refused, update, State, FILL, HELLO};
-use peers::{ffi, Answer, Commit, DataType, KeyType, Refusal, Value};
+use crate::common::{define, define_of, int, message, refused, update, State, FILL, HELLO};
+use peers::{Answer, Commit, DataType, KeyType, Refusal, Value};
 
 /// All data types.
 const ALL: u32 = 0x7_FFFF;
@@ -27,25 +27,10 @@ fn the_peers_error() {
         state.offer(&[1, 1, 0, 0]),
         [(Answer::Error { kind: 1 }, vec![])]
     );
-    assert_eq!(state.session.closed_with(), closed(0));
+    assert_eq!(state.session.closed_with(), Some(0));
     let before = state.clone();
     assert_eq!(state.call(&[0, 0]), (0, (refused(Refusal::Closed), vec![])));
     assert_eq!(state, before);
-}
-
-/// Each number of a record, which is open, closed, or has a mark that isn't one.
-#[test]
-fn what_closed_a_session() {
-    let mut session = State::answerer().session;
-    for number in (0..300).chain([256 + 20, (1 << 16) + 20, 1 << 31, u32::MAX]) {
-        for mark in [0, 1, 2] {
-            let connection = &mut session.layout_mut().connection;
-            (connection.closed, connection.number) = (mark, number);
-            let closes = mark == 1 && matches!(number, 0 | 1 | 3 | 10..=15 | 20..=30);
-            let closed = session.closed_with().map(|closed| closed.number().into());
-            assert_eq!(closed, closes.then_some(number), "{mark} {number}");
-        }
-    }
 }
 
 #[test]
@@ -118,36 +103,6 @@ fn every_data_type() {
     assert_eq!(next, 1034);
 }
 
-/// A definition without times leaves a table without periods, though it has rates.
-#[test]
-fn rates_without_periods() {
-    let mut state = State::established();
-    for (times, expected) in [(&[60_000, 3, 1000][..], Some(1000)), (&[], None)] {
-        state.accept(&[define(1, b"t", KeyType::Integer, 4, 8, times)]);
-        let table = state.store.table(0).unwrap();
-        assert!(table.has(DataType::Gpc0Rate) && !table.has(DataType::ConnRate));
-        assert_eq!(table.period(DataType::Gpc0Rate), expected);
-        assert_eq!(table.period(DataType::ConnRate), None);
-        assert_eq!(table.periods().count(), expected.iter().count());
-        assert_eq!(table.expiry().is_some(), expected.is_some());
-    }
-}
-
-/// A table is found by its whole name.
-#[test]
-fn tables_by_name() {
-    let state = with_tables(&[b"table", b"t", b"ta", b"T"]);
-    for (name, place) in [(&b"table"[..], 0), (b"t", 1), (b"ta", 2), (b"T", 3)] {
-        assert_eq!(
-            state.store.named(name).map(|table| table.place()),
-            Some(place)
-        );
-    }
-    for name in [&b""[..], b"tab", b"table2", b"TA", b"t\0"] {
-        assert!(state.store.named(name).is_none(), "{name:?}");
-    }
-}
-
 #[test]
 fn a_full_store() {
     let mut state = State::established();
@@ -172,7 +127,7 @@ fn a_full_store() {
     assert_eq!(known[0].0, expected);
     let told = state.offer(&update(501, &128u32.to_be_bytes(), &[]));
     assert_eq!(told, [(refused(Refusal::Entries), vec![1, 1])]);
-    assert_eq!(state.session.closed_with(), closed(29));
+    assert_eq!(state.session.closed_with(), Some(29));
     assert_eq!(state.store.entries().count(), 128);
 }
 
@@ -182,7 +137,7 @@ fn breaks(mut state: State, bytes: &[u8], number: u8, offset: Option<usize>, rep
     let refusal = Refusal::of(number).expect("a refusal's number");
     let expected = (Answer::Refused { refusal, offset }, reply.to_vec());
     assert_eq!(told.last(), Some(&expected), "{bytes:?}");
-    assert_eq!(state.session.closed_with(), closed(number));
+    assert_eq!(state.session.closed_with(), Some(number));
     assert_eq!(state.session.unfinished(), b"");
 }
 
@@ -250,20 +205,15 @@ fn definition_refusals() {
     breaks(State::established(), &name, 30, Some(2), &[1, 0]);
 }
 
-/// Room that is too short, and more than is needed.
 #[test]
-fn other_rooms() {
-    for (len, number, reply) in [(0, 1, &b""[..]), (11, 1, b""), (15, 257, b"200\n")] {
-        let mut state = State::answerer();
-        let before = state.clone();
-        let mut room = vec![FILL; len];
-        let (session, store) = (state.session.layout_mut(), state.store.layout_mut());
-        let outcome = ffi::read(session, store, HELLO, &mut room);
-        assert_eq!((outcome.number, outcome.reply_len), (number, reply.len()));
-        let rest = vec![FILL; len - reply.len()];
-        assert_eq!(room, [reply, &rest[..]].concat());
-        assert_eq!(state == before, number == 1);
-    }
+fn too_little_room() {
+    let mut state = State::answerer();
+    let before = state.clone();
+    let mut room = [FILL; 11];
+    let step = state.session.read(&mut state.store, HELLO, &mut room);
+    assert_eq!((step.taken, step.answer), (0, refused(Refusal::Room)));
+    assert_eq!(room, [FILL; 11]);
+    assert_eq!(state, before);
 }
 
 #[test]

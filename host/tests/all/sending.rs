@@ -1,6 +1,6 @@
 //! Sending: the bytes of each message, refusals in their order, and what a call leaves. What every sending call leaves, `State::send` checks.
 
-use crate::common::{closed, int, message, State, SENT_MAX};
+use crate::common::{int, message, State, SENT_MAX};
 use peers::layout::{Entry, Sending, Table};
 use peers::{Answer, KeyType, Part, Refusal, SEND_ROOM};
 
@@ -412,7 +412,7 @@ fn between_reading_calls() {
     let mut base = four_entries();
     define(&mut base, 0);
     assert!(base.send(Part::Entry(0), 9).is_ok());
-    for (piece, number) in [
+    for (piece, closed) in [
         (vec![], None),
         (vec![10], None),
         (vec![0, 4], None),
@@ -425,12 +425,12 @@ fn between_reading_calls() {
     ] {
         let mut state = base.clone();
         state.call(&piece);
-        assert_eq!(state.session.closed_with(), number.and_then(closed));
+        assert_eq!(state.session.closed_with(), closed);
         assert_eq!(
             (state.session.defined(), state.session.last_sent()),
             (Some(0), Some(9))
         );
-        let expected = match number {
+        let expected = match closed {
             None => Ok(message(134, b"\0\0\0\x07key1\0")),
             Some(_) => Err(Refusal::Closed),
         };
