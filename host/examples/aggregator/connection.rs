@@ -1,14 +1,11 @@
 //! A connection with its session record: what comes is read, what the rules ask for is sent.
 
-use crate::faults::Kind;
-use crate::figures::Taught;
 use crate::handshake::{is_timeout, HANDSHAKE_TIME};
-use crate::host::{Host, Tables};
+use crate::host::Host;
 use crate::peer::Peer;
-use crate::subject::Subject;
-use crate::teaching;
-use peers::{Answer, Session};
-use std::io::{self, ErrorKind, Read, Write};
+use crate::subject;
+use peers::{Answer, Session, Store, READING_ROOM};
+use std::io::{self, Read, Write};
 use std::net::{Shutdown, TcpStream};
 use std::time::{Duration, Instant};
 
@@ -19,7 +16,6 @@ const SILENCE_TIME: Duration = Duration::from_secs(5);
 
 const REQUEST: [u8; 2] = [0, 0];
 const FINISHED: [u8; 2] = [0, 1];
-const PARTIAL: [u8; 2] = [0, 2];
 const HEARTBEAT: [u8; 2] = [0, 4];
 
 pub struct Connection<'a> {
@@ -56,31 +52,25 @@ impl<'a> Connection<'a> {
         }
     }
 
-    /// Serves it until it ends. `status` answers the peer's hello, if it sent one, and `first` came behind it.
-    pub fn run(mut self, status: &[u8], first: &[u8]) {
-        let begun = self.establish(status).and_then(|()| self.take(first));
+    /// Serves it until it ends. `first` came already.
+    pub fn run(mut self, first: &[u8]) {
+        let begun = self.establish().and_then(|()| self.take(first));
         let ended = begun.and_then(|()| self.serve());
+        let _ = self.stream.shutdown(Shutdown::Both); // it may be closed already
         let refused = self.session.closed_with().is_some();
         let wait = self.peer.ended(self.number, self.since.elapsed(), refused);
-        // after that: a peer that sees the end and calls again takes no open one's place. It may be closed already
-        let _ = self.stream.shutdown(Shutdown::Both);
-        let replaced = self.number.is_some() && wait.is_none();
-        let unread = matches!(&ended, Err(e) if e.kind() == ErrorKind::TimedOut);
         let why = match ended {
             _ if refused => "closed after a refusal or the peer's error message".to_owned(),
-            _ if replaced => "closed for a newer connection".to_owned(),
             Ok(why) => why.to_owned(),
             Err(e) => format!("closed: {e}"),
         };
-        let again = match wait.filter(|_| self.peer.address.is_some()) {
-            Some(wait) => format!("; dialled in {} ms", wait.as_millis()),
-            None => String::new(),
-        };
-        if unread && !replaced && !refused {
-            self.fails(Kind::Unread, None, format!("{why}{again}"));
-        } else {
-            let name = &self.peer.name;
-            self.host.event(format_args!("{name}: {why}{again}"));
+        let name = &self.peer.name;
+        match wait.filter(|_| self.peer.address.is_some()) {
+            Some(wait) => self.host.event(format_args!(
+                "{name}: {why}; dialled in {} ms",
+                wait.as_millis()
+            )),
+            None => self.host.event(format_args!("{name}: {why}")),
         }
     }
 
@@ -93,10 +83,9 @@ impl<'a> Connection<'a> {
             }
             self.send_timely()?;
             match self.stream.read(&mut piece) {
-                Ok(0) => return Ok("closed by the peer"),
+                Ok(0) => return Ok("closed by the peer or for a newer connection"),
                 Ok(len) => {
                     self.heard = Instant::now();
-                    self.peer.figures.heard();
                     self.take(&piece[..len])?;
                 }
                 Err(e) if !is_timeout(&e) => return Err(e),
@@ -107,32 +96,25 @@ impl<'a> Connection<'a> {
         Ok("closed")
     }
 
-    /// Once, when the handshake is done: an older connection with the peer is closed, the peer's hello is answered, and a peer that we know the
-    /// address of is asked for its entries, whoever made the connection. A peer that calls twice has its answers in the order in which its
-    /// connections became the live one.
-    fn establish(&mut self, status: &[u8]) -> io::Result<()> {
+    /// Once, when the handshake is done: an older connection with the peer is closed, and a peer that we know the address of is asked for its
+    /// entries, whoever made the connection.
+    fn establish(&mut self) -> io::Result<()> {
         if self.number.is_some() || !self.session.is_established() {
             return Ok(());
         }
-        let number = self.peer.established(self.stream.try_clone()?);
-        self.number = Some(number);
-        self.send(status)?;
-        let faults = &self.peer.faults;
-        self.host.works(faults, |kind, _| kind.is_of_handshake());
-        if let Some(what) = self.peer.contested(number) {
-            self.fails(Kind::Contested, None, what);
-        }
+        self.number = Some(self.peer.established(self.stream.try_clone()?));
         match self.peer.address {
             Some(_) => self.ask(),
             None => Ok(()),
         }
     }
 
-    /// Sends what is due: a request or a heartbeat.
+    /// Sends what is due: a request, if peers are asked again and again, or a heartbeat.
     fn send_timely(&mut self) -> io::Result<()> {
+        let ask = self.peer.address.as_ref().and(self.host.options.ask);
         if self.number.is_none() {
             Ok(())
-        } else if self.is_request_due() {
+        } else if ask.is_some_and(|time| self.asked.elapsed() >= time) {
             self.ask()
         } else if self.said.elapsed() >= HEARTBEAT_TIME {
             self.send(&HEARTBEAT)
@@ -141,25 +123,9 @@ impl<'a> Connection<'a> {
         }
     }
 
-    /// Whether the peer is to be asked again: after an answer in part, or because all peers are asked again and again.
-    fn is_request_due(&self) -> bool {
-        let teaching = self.peer.teaching();
-        let is_partial = teaching.is_some_and(|teaching| teaching.is_partial());
-        let again = is_partial.then_some(teaching::AGAIN_TIME);
-        let time = [self.host.options.ask, again].into_iter().flatten().min();
-        let is_over = time.is_some_and(|time| self.asked.elapsed() >= time);
-        self.peer.address.is_some() && is_over
-    }
-
     /// Asks the peer for all of its entries.
     fn ask(&mut self) -> io::Result<()> {
-        let tables = self.host.tables().map_err(io::Error::other)?;
-        let purged = tables.purging.total();
-        drop(tables);
-        self.peer
-            .change_teaching(self.number, |teaching| teaching.ask(purged));
         self.asked = Instant::now();
-        self.peer.figures.taught(Taught::Asked);
         self.send(&REQUEST)
     }
 
@@ -171,91 +137,51 @@ impl<'a> Connection<'a> {
             let taken = self.read(rest, &mut reply)?;
             rest = &rest[taken..];
             self.send(&reply)?;
-            self.establish(&[])?;
+            self.establish()?;
         }
         Ok(())
     }
 
     /// One reading call under the lock, and the whole store's messages under the same hold of it where the peer asks. Gives the bytes taken.
     fn read(&mut self, rest: &[u8], reply: &mut Vec<u8>) -> io::Result<usize> {
+        let mut room = [0; READING_ROOM];
         let mut tables = self.host.tables().map_err(io::Error::other)?;
-        if !self.peer.is_live(self.number) {
-            return Err(io::Error::other("a newer connection took over"));
-        }
-        let Tables { store, purging, .. } = &mut *tables;
+        let store = &mut tables.store;
         let (begun, current) = (self.session.unfinished().to_vec(), self.session.current());
-        let before = purging.total();
-        let read = purging.read(&mut self.session, store, rest, reply);
-        let (taken, answer) = (read.taken, read.answer);
-        self.peer.figures.purged(purging.total() - before);
-        self.peer
-            .change_teaching(self.number, |teaching| teaching.note(answer));
+        let step = self.session.read(store, rest, &mut room);
+        let (taken, answer) = (step.taken, step.answer);
+        reply.extend_from_slice(step.reply);
         if answer == Answer::Request {
-            self.teach(&tables, reply)?;
+            teach(&mut self.session, store, reply)?;
         }
-        let subject = if self.names_table(answer) {
-            let table = current.and_then(|place| tables.store.table(place));
-            Subject::of(&[&begun, &rest[..taken]].concat(), table)
+        let about = if self.names_table(answer) {
+            let table = current.and_then(|place| store.table(place));
+            subject::about(&[&begun, &rest[..taken]].concat(), table)
         } else {
-            None
+            String::new()
         };
-        let purged = read.purged;
-        let purged = purged.and_then(|table| about_purged(&tables, table));
-        drop(tables); // nothing is told while it is held
-        self.tell_purged(purged);
-        self.count(answer, subject.as_ref());
-        self.tell(answer, subject, reply.len());
+        drop(tables); // nothing is written while it is held
+        self.tell(answer, &about, reply.len());
         match taken {
             0 => Err(io::Error::other("the session or the store isn't sound")), // the same bytes would be refused again
             _ => Ok(taken),
         }
     }
 
-    /// All of the store, and whether that is finished.
-    fn teach(&mut self, tables: &Tables, out: &mut Vec<u8>) -> io::Result<()> {
-        for message in self.session.teach(&tables.store, peers::ids_from(1)) {
-            out.extend(message.map_err(io::Error::other)?);
-        }
-        let purged = tables.purging.total();
-        let is_whole = teaching::is_whole(&self.host.peers, self.peer, purged);
-        out.extend(if is_whole { FINISHED } else { PARTIAL });
-        Ok(())
-    }
-
-    /// Whether it is asked which table the message is about.
+    /// Whether the line for an answer says which table the message is about.
     fn names_table(&self, answer: Answer) -> bool {
-        let refused = matches!(answer, Answer::Refused { .. });
-        refused || self.host.options.messages || self.peer.faults.any()
+        matches!(answer, Answer::Refused { .. }) || self.host.options.messages
     }
 
-    /// What an answer changes of the peer's figures.
-    fn count(&self, answer: Answer, subject: Option<&Subject>) {
-        let figures = &self.peer.figures;
-        let table = || subject.map(|subject| subject.table.clone());
-        match answer {
-            Answer::Update { .. } => figures.updated(),
-            Answer::Table { .. } => figures.defined(&table().unwrap_or_default()),
-            Answer::Refused { refusal, offset } => figures.refused(refusal, offset, table()),
-            Answer::Finished => figures.taught(Taught::Finished),
-            Answer::Partial => figures.taught(Taught::Partial),
-            _ => {}
-        }
-    }
-
-    /// A line for an answer, and for what works again by it.
-    fn tell(&self, answer: Answer, subject: Option<Subject>, sent: usize) {
+    /// A line for an answer.
+    fn tell(&self, answer: Answer, about: &str, sent: usize) {
         let (host, name) = (self.host, &self.peer.name);
-        let about = Subject::end(subject.as_ref());
-        let asked = self.peer.address.is_some();
-        host.works(&self.peer.faults, |kind, refused| {
-            kind.is_over(answer, refused, subject.as_ref(), asked)
-        });
         match answer {
             Answer::More | Answer::Heartbeat => {}
-            Answer::Refused { refusal, .. } => {
-                self.fails(Kind::Refused(refusal), subject, format!("{answer}{about}"));
+            Answer::Refused { .. } | Answer::Error { .. } => {
+                let what = format!("{answer}{about}");
+                host.repeated(&self.peer.reported, &what, format_args!("{name}: {what}"));
             }
-            Answer::Error { .. } => self.fails(Kind::Error, None, answer.to_string()),
             Answer::Request => host.event(format_args!("{name}: {answer}, {sent} bytes sent")),
             Answer::Status | Answer::Finished | Answer::Partial | Answer::Confirmed => {
                 host.event(format_args!("{name}: {answer}"));
@@ -264,106 +190,20 @@ impl<'a> Connection<'a> {
         }
     }
 
-    /// A line for a table of which entries were purged for a key of this peer.
-    fn tell_purged(&self, purged: Option<(String, u64)>) {
-        let Some((table, count)) = purged else {
-            return;
-        };
-        let what =
-            format!("no entry place is free, entries of table {table} are purged for new keys");
-        self.fails(Kind::Purged, None, format!("{what}, {count} until now"));
-    }
-
-    fn fails(&self, kind: Kind, subject: Option<Subject>, what: String) {
-        self.host.fails(&self.peer.faults, kind, subject, what);
-    }
-
     fn send(&mut self, bytes: &[u8]) -> io::Result<()> {
         if bytes.is_empty() {
             return Ok(());
         }
         self.said = Instant::now();
-        let sent = self.stream.write_all(bytes);
-        sent.map_err(|e| match is_timeout(&e) {
-            true => io::Error::new(ErrorKind::TimedOut, "it read nothing for 5 seconds"),
-            false => e,
-        })
+        self.stream.write_all(bytes)
     }
 }
 
-/// A purged table's name, and how many entries were purged of it.
-fn about_purged(tables: &Tables, table: usize) -> Option<(String, u64)> {
-    let name = tables.store.table(table)?.name().escape_ascii();
-    Some((name.to_string(), tables.purging.count(table)))
-}
-
-#[cfg(test)]
-mod tests {
-    use super::*;
-    use crate::log::Log;
-    use crate::options::{self, Asked};
-    use peers::{DataType, Value, READING_ROOM};
-    use std::net::TcpListener;
-
-    fn host() -> Host {
-        let words = ["east", "127.0.0.1:0", "west"].map(Into::into);
-        match options::read(words.into_iter()) {
-            Ok(Asked::Run(options)) => Host::new(options, Log::start(io::sink()).unwrap()),
-            _ => panic!("it isn't such a command line"),
-        }
+/// All of the store, and that it is finished.
+fn teach(session: &mut Session, store: &Store, out: &mut Vec<u8>) -> io::Result<()> {
+    for message in session.teach(store, peers::ids_from(1)) {
+        out.extend(message.map_err(io::Error::other)?);
     }
-
-    /// A connection whose hello was read, and the peer's end of it.
-    fn called(host: &Host) -> (Connection<'_>, TcpStream) {
-        let listener = TcpListener::bind("127.0.0.1:0").unwrap();
-        let theirs = TcpStream::connect(listener.local_addr().unwrap()).unwrap();
-        let (ours, _) = listener.accept().unwrap();
-        let mut session = Session::answerer(b"east", b"west").unwrap();
-        let hello = b"HAProxyS 2.1\neast\nwest 7 0\n";
-        let mut tables = host.tables().unwrap();
-        session.read(&mut tables.store, hello, &mut [0; READING_ROOM]);
-        drop(tables);
-        (Connection::new(host, &host.peers[0], ours, session), theirs)
-    }
-
-    /// One past its handshake.
-    fn connected(host: &Host) -> (Connection<'_>, TcpStream) {
-        let (mut connection, theirs) = called(host);
-        connection.establish(&[]).unwrap();
-        (connection, theirs)
-    }
-
-    /// A definition, and an update of its one key.
-    fn update(value: u8) -> Vec<u8> {
-        let table = b"\n\x82\x0a\x01\x02t1\x02\x04\x04\xf0\x97\x1c";
-        [table, &b"\n\x80\x09\0\0\0\x01\0\0\0\x2a"[..], &[value]].concat()
-    }
-
-    #[test]
-    fn a_connection_is_live_before_its_hello_is_answered() {
-        let host = host();
-        for _ in 0..100 {
-            let (connection, mut theirs) = called(&host);
-            std::thread::scope(|scope| {
-                scope.spawn(|| connection.run(b"200\n", &[]));
-                theirs.read_exact(&mut [0; 4]).unwrap();
-                let is_live = host.peers[0].teaching().is_some();
-                theirs.shutdown(Shutdown::Both).unwrap();
-                assert!(is_live);
-            });
-        }
-    }
-
-    #[test]
-    fn an_older_connection_changes_nothing() {
-        let host = host();
-        let (mut older, _first) = connected(&host);
-        older.take(&update(1)).unwrap();
-        let (mut newer, _second) = connected(&host);
-        newer.take(&update(2)).unwrap();
-        assert!(older.take(&update(3)).is_err());
-        let tables = host.tables().unwrap();
-        let value = tables.store.entry(0).unwrap().value(DataType::Gpc0);
-        assert_eq!(value, Some(Value::Number(2)));
-    }
+    out.extend(FINISHED);
+    Ok(())
 }

@@ -1,11 +1,9 @@
 //! The start of a connection, in either role, up to its session record.
 
-use crate::admission::Place;
 use crate::connection::Connection;
-use crate::faults::Kind;
 use crate::host::Host;
 use crate::peer::Peer;
-use peers::{Answer, Answerer, Session, OPENING_ROOM, READING_ROOM};
+use peers::{Answer, Refusal, Session, OPENING_ROOM, READING_ROOM};
 use std::io::{self, ErrorKind, Read, Write};
 use std::net::TcpStream;
 use std::time::{Duration, Instant};
@@ -17,54 +15,39 @@ pub const HANDSHAKE_TIME: Duration = Duration::from_secs(5);
 const READ_TIME: Duration = Duration::from_millis(200);
 const WRITE_TIME: Duration = Duration::from_secs(5);
 
-/// A connection whose hello is accepted.
-pub struct Accepted<'a> {
-    pub connection: Connection<'a>,
-    /// What answers the hello.
-    pub status: Vec<u8>,
-    /// What came behind it.
-    pub rest: Vec<u8>,
+/// A hello that was judged.
+struct Judged<'a> {
+    session: Session,
+    peer: &'a Peer,
+    answer: Answer,
+    taken: usize,
+    reply: Vec<u8>,
 }
 
-/// Reads a peer's hello. Gives the connection if it is accepted: it doesn't wait any more then. A hello that is refused is answered.
+/// Reads a peer's hello and answers it. Gives the connection, with the bytes that came behind the hello, if it is accepted.
 pub fn answer<'a>(
     host: &'a Host,
-    place: &Place,
     mut stream: TcpStream,
     from: &str,
-) -> io::Result<Option<Accepted<'a>>> {
+) -> io::Result<Option<(Connection<'a>, Vec<u8>)>> {
     set_times(&stream)?;
     let since = Instant::now();
-    let names = host.peers.iter().map(|peer| &peer.name);
-    let answerer = Answerer::new(host.options.name.as_bytes(), names).map_err(io::Error::other)?;
     let mut hello = Vec::new();
-    let mut room = [0; READING_ROOM];
     let judged = loop {
         read_more(&mut stream, &mut hello, since)?;
-        let judged = answerer.judge(&hello, &mut room);
-        if judged.step.answer != Answer::More {
+        if let Some(judged) = judge(host, &hello)? {
             break judged;
         }
     };
-    let step = judged.step;
-    let Some(peer) = judged.peer.map(|place| &host.peers[place]) else {
-        stream.write_all(step.reply)?;
-        if let Answer::Refused { refusal, .. } = step.answer {
-            let what = format!("{from}: {}", step.answer);
-            host.fails(&host.faults, Kind::Refused(refusal), None, what);
-        }
+    stream.write_all(&judged.reply)?;
+    if let Answer::Refused { .. } = judged.answer {
+        host.unaccepted(&judged.answer.to_string(), from);
         return Ok(None);
-    };
-    if !place.leave() {
-        return Err(io::Error::other("a newer connection took its place"));
     }
-    let name = &peer.name;
-    host.event(format_args!("{name}: {} from {from}", step.answer));
-    Ok(Some(Accepted {
-        connection: Connection::new(host, peer, stream, judged.session),
-        status: step.reply.to_vec(),
-        rest: hello.split_off(step.taken),
-    }))
+    let name = &judged.peer.name;
+    host.event(format_args!("{name}: {} from {from}", judged.answer));
+    let connection = Connection::new(host, judged.peer, stream, judged.session);
+    Ok(Some((connection, hello.split_off(judged.taken))))
 }
 
 /// Adds what comes next to the hello.
@@ -82,6 +65,38 @@ fn read_more(stream: &mut TcpStream, hello: &mut Vec<u8>, since: Instant) -> io:
         }
     }
     Err(io::Error::other("the hello took too long"))
+}
+
+/// Offers the hello to a new record for each peer, until one doesn't say that it is from another. Nothing where more bytes are wanted.
+fn judge<'a>(host: &'a Host, hello: &[u8]) -> io::Result<Option<Judged<'a>>> {
+    let mut judged = None;
+    let mut tables = host.tables().map_err(io::Error::other)?;
+    for peer in &host.peers {
+        let (ours, theirs) = (host.options.name.as_bytes(), peer.name.as_bytes());
+        let mut session = Session::answerer(ours, theirs).map_err(io::Error::other)?;
+        let mut room = [0; READING_ROOM];
+        let step = session.read(&mut tables.store, hello, &mut room);
+        if step.answer == Answer::More {
+            return Ok(None);
+        }
+        judged = Some(Judged {
+            answer: step.answer,
+            taken: step.taken,
+            reply: step.reply.to_vec(),
+            session,
+            peer,
+        });
+        if !matches!(
+            step.answer,
+            Answer::Refused {
+                refusal: Refusal::Sender,
+                ..
+            }
+        ) {
+            break;
+        }
+    }
+    Ok(judged)
 }
 
 /// Sends our hello on a connection that we made. The status is read with what follows it.

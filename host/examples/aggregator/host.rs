@@ -1,22 +1,18 @@
 //! What all threads share: the store, the peers, and the lines on standard error.
 
-use crate::admission::Admission;
-use crate::faults::{Faults, Kind, Line};
-use crate::figures::{Overview, PeerShown};
-use crate::log::Log;
 use crate::options::Options;
 use crate::peer::Peer;
-use crate::purging::Purging;
-use crate::subject::Subject;
 use peers::{Refusal, Store};
 use std::fmt;
+use std::io::{self, Write};
+use std::ops::Deref;
+use std::sync::atomic::{AtomicU64, Ordering};
 use std::sync::{Arc, Mutex, MutexGuard, PoisonError};
-use std::time::{Duration, Instant, SystemTime};
+use std::time::{Duration, Instant};
 
-/// The store, what was purged of it, and up to when time has passed in it.
+/// The store, and up to when time has passed in it.
 pub struct Tables {
     pub store: Box<Store>,
-    pub purging: Purging,
     passed: Instant,
 }
 
@@ -32,33 +28,25 @@ impl Tables {
 pub struct Host {
     pub options: Options,
     pub peers: Vec<Peer>,
-    pub admission: Arc<Admission>,
-    pub log: Log,
     tables: Mutex<Tables>,
-    /// What failed that is no peer's.
-    pub faults: Faults,
-    pub begun: Instant,
-    begun_at: SystemTime,
+    accepted: AtomicU64,
+    /// What was told of connections that are no peer's.
+    unaccepted: Reported,
 }
 
 impl Host {
-    pub fn new(options: Options, log: Log) -> Host {
-        let begun_at = SystemTime::now();
+    pub fn new(options: Options) -> Host {
         let peers = options.peers.iter();
         Host {
             peers: peers
-                .map(|(name, at)| Peer::new(name, at.as_deref(), begun_at))
+                .map(|(name, at)| Peer::new(name, at.as_deref()))
                 .collect(),
-            admission: Admission::new(options.connections),
-            log,
             tables: Mutex::new(Tables {
                 store: Store::boxed(),
-                purging: Purging::new(!options.nopurge),
                 passed: Instant::now(),
             }),
-            faults: Faults::new(String::new()),
-            begun: Instant::now(),
-            begun_at,
+            accepted: AtomicU64::new(0),
+            unaccepted: Reported::default(),
             options,
         }
     }
@@ -74,29 +62,11 @@ impl Host {
         Ok(tables)
     }
 
-    /// A copy of the store, in which all time has passed. It is made quickly, so that who makes text of it holds up no peer.
-    ///
-    /// # Errors
-    ///
-    /// As [`Host::tables`].
-    pub fn copy(&self) -> Result<Box<Store>, Refusal> {
-        Ok(self.tables()?.store.clone())
-    }
-
-    /// What is shown beside the tables, as of now.
-    pub fn overview(&self) -> Overview {
-        let peers = self.peers.iter().map(|peer| PeerShown {
-            name: peer.name.clone(),
-            address: peer.address.clone(),
-            shown: peer.figures.copy(),
-        });
-        Overview {
-            name: self.options.name.clone(),
-            begun: self.begun_at,
-            peers: peers.collect(),
-            now: SystemTime::now(),
-            lost: self.log.lost(),
-        }
+    /// A place for one more accepted connection, if there is one. It is free again when the guard is dropped.
+    pub fn admit(self: &Arc<Host>) -> Option<Admitted> {
+        let before = self.accepted.fetch_add(1, Ordering::SeqCst);
+        let admitted = Admitted(Arc::clone(self));
+        (before < self.options.connections).then_some(admitted)
     }
 
     /// A line for an event, if they are asked for.
@@ -115,81 +85,61 @@ impl Host {
 
     /// A line for a refusal or a fault.
     pub fn fault(&self, line: fmt::Arguments<'_>) {
-        self.log.push(line.to_string());
+        // as one write, so that lines of others don't come between; nobody may be there to read it
+        let _ = io::stderr().write_all(format!("{line}\n").as_bytes());
     }
 
-    /// What fails, of a peer or of the host. Anybody can cause it again and again, so not each line of a kind is a fault.
-    pub fn fails(&self, faults: &Faults, kind: Kind, subject: Option<Subject>, what: String) {
-        self.line(faults.fails(Instant::now(), kind, subject, what));
-    }
-
-    /// What failed, and works now.
-    pub fn works(&self, faults: &Faults, is_over: impl Fn(Kind, Option<&Subject>) -> bool) {
-        for line in faults.works(Instant::now(), is_over) {
-            self.line(line);
-        }
-    }
-
-    /// Passes the time, and tells what it brings.
-    ///
-    /// # Errors
-    ///
-    /// As [`Host::tables`].
-    pub fn tick(&self, now: Instant) -> Result<(), Refusal> {
-        drop(self.tables()?);
-        let of_peers = self.peers.iter().map(|peer| &peer.faults);
-        for faults in of_peers.chain([&self.faults]) {
-            for line in faults.due(now) {
-                self.line(line);
-            }
-        }
-        Ok(())
-    }
-
-    fn line(&self, line: Line) {
-        if line.told {
-            self.fault(format_args!("{}", line.text));
+    /// A line for what is wrong: as a fault the first time in a while, else as an event.
+    pub fn repeated(&self, reported: &Reported, what: &str, line: fmt::Arguments<'_>) {
+        if reported.is_first(what) {
+            self.fault(line);
         } else {
-            self.event(format_args!("{}", line.text));
+            self.event(line);
         }
+    }
+
+    /// A line for a connection that is no peer's. Anybody can cause one, so each kind is a fault once in a while only.
+    pub fn unaccepted(&self, what: &str, from: &str) {
+        self.repeated(&self.unaccepted, what, format_args!("{from}: {what}"));
     }
 }
 
-#[cfg(test)]
-mod tests {
-    use super::*;
-    use std::io::{self, Write};
-    use std::sync::mpsc::{channel, Sender};
+/// The last faults that were told, and when.
+#[derive(Default)]
+pub struct Reported(Mutex<Vec<(String, Instant)>>);
 
-    struct Lines(Sender<String>);
+impl Reported {
+    /// How long the same isn't told again, and how many are kept.
+    const TIME: Duration = Duration::from_secs(600);
+    const MOST: usize = 16;
 
-    impl Write for Lines {
-        fn write(&mut self, bytes: &[u8]) -> io::Result<usize> {
-            let line = String::from_utf8_lossy(bytes).into_owned();
-            self.0.send(line).map_err(io::Error::other)?;
-            Ok(bytes.len())
+    fn is_first(&self, what: &str) -> bool {
+        let mut told = self.0.lock().unwrap_or_else(PoisonError::into_inner);
+        told.retain(|(_, when)| when.elapsed() < Reported::TIME);
+        if told.iter().any(|(old, _)| old == what) {
+            return false;
         }
-
-        fn flush(&mut self) -> io::Result<()> {
-            Ok(())
+        if told.len() == Reported::MOST {
+            told.remove(0);
         }
+        told.push((what.to_owned(), Instant::now()));
+        true
     }
+}
 
-    #[test]
-    fn a_tick_tells_what_is_over() {
-        let (written, lines) = channel();
-        let options = Options {
-            peers: vec![("west".to_owned(), None)],
-            ..Options::default()
-        };
-        let host = Host::new(options, Log::start(Lines(written)).unwrap());
-        let (faults, now) = (&host.peers[0].faults, Instant::now());
-        host.fails(faults, Kind::Contested, None, "contested".to_owned());
-        let next = || lines.recv_timeout(Duration::from_secs(30)).unwrap();
-        assert!(next().ends_with(" west: contested\n"));
-        host.tick(now).unwrap();
-        host.tick(now + Duration::from_secs(61)).unwrap();
-        let over = next();
-        assert!(over.contains(" west: a connection stays again ("), "{over}");
+/// One accepted connection of those that may be open.
+pub struct Admitted(Arc<Host>);
+
+impl Deref for Admitted {
+    type Target = Host;
+
+    fn deref(&self) -> &Host {
+        &self.0
+    }
+}
+
+impl Drop for Admitted {
+    fn drop(&mut self) {
+        self.accepted.fetch_sub(1, Ordering::SeqCst);
     }
 }

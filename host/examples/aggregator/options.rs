@@ -8,8 +8,8 @@ use std::time::Duration;
 pub const HELP: &str = "\
 Peers with load balancers, holds their stick tables, shows them, and teaches them to a peer that asks.
 
-aggregator [OPTION].. NAME ADDRESS PEER..   runs until SIGTERM, SIGINT or SIGHUP, then prints peers and tables
-aggregator --show PATH                      prints those of the one that runs with --status PATH
+aggregator [OPTION].. NAME ADDRESS PEER..   runs until SIGTERM or SIGINT, then prints the tables
+aggregator --show PATH                      prints the tables of the one that runs with --status PATH
 aggregator -h, --help                       prints this
 
   NAME      our name, as the peers have it in their configuration: 1 to 32 printable characters, no space
@@ -18,14 +18,10 @@ aggregator -h, --help                       prints this
             with it, and is asked for all of its entries when one begins. A name alone may call us, and is neither dialled
             nor asked: for a standby, which asks us, and whose entries are older than ours.
 
-  --status PATH      a Unix socket that gives peers and tables to its owner
-  --metrics ADDRESS  where to listen for GET /metrics over HTTP, which gives the same figures to Prometheus. Let only that
-                     reach the address
+  --status PATH      a Unix socket that gives the tables to its owner
   --ask SECONDS      ask again after so many seconds: for a standby, since it gets later changes with the next answer
-  --connections N    the most accepted connections that wait for their hello; for a new one the oldest of them is closed.
-                     Unless said, 16, or twice as many as there are peers
-  --nopurge          refuse a new key where all 128 entry places are held, which closes the connection. Unless said, four
-                     entries of the table with the most are purged for it, those that expire first
+  --connections N    the most connections that are accepted at a time; others are closed at once. Unless said, 16, or
+                     twice as many as there are peers
   -v, --verbose      a line on standard error for each event; without it only for refusals and faults
   --messages         and a line for each message about tables that is read, and each that is skipped
 
@@ -47,13 +43,9 @@ pub struct Options {
     /// Name and address of each peer.
     pub peers: Vec<(String, Option<String>)>,
     pub status: Option<String>,
-    /// Where the metrics are given.
-    pub metrics: Option<String>,
     /// After how long peers are asked again.
     pub ask: Option<Duration>,
-    /// How many accepted connections may wait for their hello.
     pub connections: u64,
-    pub nopurge: bool,
     pub verbose: bool,
     pub messages: bool,
 }
@@ -79,14 +71,8 @@ fn read_options(mut arguments: impl Iterator<Item = String>) -> Result<Asked, St
             "--help" | "-h" => return Ok(Asked::Help),
             "--show" => return Err("--show needs a path, and nothing beside it".to_owned()),
             "--status" => options.status = Some(value()?),
-            "--metrics" => {
-                let address = value()?;
-                test_address(&address)?;
-                options.metrics = Some(address);
-            }
             "--ask" => options.ask = Some(Duration::from_secs(count(&argument, &value()?)?)),
             "--connections" => options.connections = count(&argument, &value()?)?,
-            "--nopurge" => options.nopurge = true,
             "--verbose" | "-v" => options.verbose = true,
             "--messages" => options.messages = true,
             other if other.starts_with('-') => return Err(format!("unknown option {other}")),

@@ -1,116 +1,24 @@
-//! Peers and tables as text. Tables have the form of HAProxy's `show table`.
+//! The tables as text, in the form of HAProxy's `show table`.
 
-use crate::clock::utc;
-use crate::figures::{Overview, PeerShown, Refused, Taught};
-use peers::layout::{ENTRIES, TABLES};
-use peers::{DataType, Entry, KeyType, Store, Table, Value};
+use peers::layout::ENTRIES;
+use peers::{Entry, KeyType, Store, Table, Value};
 use std::fmt::Write;
 use std::net::{Ipv4Addr, Ipv6Addr};
 
-/// The whole page.
-pub fn text(overview: &Overview, store: &Store) -> String {
-    let mut page = summary(overview, store);
-    for peer in &overview.peers {
-        page += &peer_line(peer);
-    }
-    for peer in &overview.peers {
-        if let Some(table) = &peer.shown.unplaced {
-            page += &format!("# no place for table: {table}, of peer: {}\n", peer.name);
-        }
-    }
-    page + &tables(store)
-}
-
-/// Who we are, how much is held, and how old it is.
-fn summary(overview: &Overview, store: &Store) -> String {
-    let (name, begun, now) = (&overview.name, utc(overview.begun), utc(overview.now));
-    let (tables, entries) = (store.tables().count(), store.entries().count());
-    let current = match overview.unfed_since() {
-        None => "yes".to_owned(),
-        Some(since) => format!(
-            "no, no peer that feeds us is connected since {}",
-            utc(since)
-        ),
-    };
-    format!(
-        "# aggregator: {name}, begun: {begun}, now: {now}, lines not written: {}\n\
-         # tables: {tables} of {TABLES}, entries: {entries} of {ENTRIES}, current: {current}\n",
-        overview.lost
-    )
-}
-
-/// A peer's figures.
-fn peer_line(peer: &PeerShown) -> String {
-    let shown = &peer.shown;
-    let state = match shown.established {
-        true => "established",
-        false => "not connected",
-    };
-    let teaching = match shown.taught {
-        Taught::NotAsked => "not asked",
-        Taught::Asked => "asked",
-        Taught::Partial => "finished in part",
-        Taught::Finished => "finished",
-    };
-    format!(
-        "# peer: {}, address: {}, state: {state}, since: {}, heard: {}, updates: {}, refused last: {}, teaching: {teaching}, purged: {}\n",
-        peer.name,
-        peer.address.as_deref().unwrap_or("none"),
-        utc(shown.since),
-        shown.heard.map_or("never".to_owned(), utc),
-        shown.updates,
-        shown.refused.as_ref().map_or("none".to_owned(), refused),
-        shown.purged,
-    )
-}
-
-/// A refusal's number, when it was, and what is known of its place.
-fn refused(refused: &Refused) -> String {
-    let number = refused.refusal.number();
-    let offset = refused.offset.map(|offset| format!(" offset {offset}"));
-    let table = refused
-        .table
-        .as_ref()
-        .map(|table| format!(" table {table}"));
-    let (offset, table) = (offset.unwrap_or_default(), table.unwrap_or_default());
-    format!("{number}{offset}{table} at {}", utc(refused.when))
-}
-
 /// Each table with its entries. The number in front of an entry is its place in the store; all tables share its 128 places.
-fn tables(store: &Store) -> String {
+pub fn text(store: &Store) -> String {
     let mut page = String::new();
     for table in store.tables() {
         let used = store.entries_of(table.place());
         let name = table.name().escape_ascii();
         let kind = kind(table);
         page += &format!("# table: {name}, type: {kind}, size:{ENTRIES}, used:{used}\n");
-        let columns: Vec<_> = table.data_types().map(|t| Column::of(table, t)).collect();
         let entries = store.entries();
         for entry in entries.filter(|entry| entry.table().place() == table.place()) {
-            add_line(&mut page, entry, &columns);
+            page += &line(entry);
         }
     }
-    match page.is_empty() {
-        true => "# no table\n".to_owned(),
-        false => page,
-    }
-}
-
-/// A data type of a table: what stands in front of its values, and a rate's period.
-struct Column {
-    front: String,
-    period: Option<u32>,
-}
-
-impl Column {
-    fn of(table: Table<'_>, data_type: DataType) -> Column {
-        let (name, period) = (data_type.name(), table.period(data_type));
-        let front = match period {
-            Some(period) => format!(" {name}({period})="),
-            None => format!(" {name}="),
-        };
-        Column { front, period }
-    }
+    page
 }
 
 /// A key type's name in HAProxy's configuration.
@@ -126,17 +34,18 @@ fn kind(table: Table<'_>) -> &'static str {
 }
 
 /// An entry's place, key, remaining milliseconds and values.
-fn add_line(page: &mut String, entry: Entry<'_>, columns: &[Column]) {
-    // writing to a string doesn't fail
-    let _ = write!(page, "{}: key={} exp=", entry.place(), key(entry));
-    let _ = match entry.remaining() {
-        Some(time) => write!(page, "{}", time.as_millis()),
-        None => page.write_str("none"),
-    };
-    for (column, (_, value)) in columns.iter().zip(entry.values()) {
-        let _ = write!(page, "{}{}", column.front, number(value, column.period));
+fn line(entry: Entry<'_>) -> String {
+    let mut line = format!("{}: key={} exp=", entry.place(), key(entry));
+    line += &entry
+        .remaining()
+        .map_or("none".to_owned(), |time| time.as_millis().to_string());
+    for (data_type, value) in entry.values() {
+        let name = data_type.name();
+        let period = entry.table().period(data_type);
+        let period_text = period.map_or(String::new(), |period| format!("({period})"));
+        line += &format!(" {name}{period_text}={}", number(value, period));
     }
-    page.push('\n');
+    line + "\n"
 }
 
 /// A key by its kind.

@@ -1,10 +1,9 @@
-//! SIGTERM, SIGINT and SIGHUP, by the C library's `signal`.
+//! SIGTERM and SIGINT, by the C library's `signal`.
 
 use std::sync::atomic::{AtomicBool, Ordering};
 
 static ENDED: AtomicBool = AtomicBool::new(false);
 
-const SIGHUP: i32 = 1;
 const SIGINT: i32 = 2;
 const SIGTERM: i32 = 15;
 const SIG_DFL: usize = 0;
@@ -17,7 +16,7 @@ extern "C" fn end(_number: i32) {
     ENDED.store(true, Ordering::SeqCst);
 }
 
-/// From now on the three signals are noted, and end nothing by themselves.
+/// From now on the two signals are noted, and end nothing by themselves.
 pub fn catch() {
     handle(end as extern "C" fn(i32) as usize);
 }
@@ -30,7 +29,6 @@ pub fn release() {
 fn handle(handler: usize) {
     // SAFETY: the handler is the default one, or `end`, which only sets a flag: that is allowed at any moment.
     unsafe {
-        signal(SIGHUP, handler);
         signal(SIGINT, handler);
         signal(SIGTERM, handler);
     }

@@ -1,6 +1,5 @@
-//! The status page: a Unix socket that gives peers and tables to its owner.
+//! The status page: a Unix socket that gives the tables to its owner.
 
-use crate::faults::Kind;
 use crate::host::Host;
 use crate::page;
 use std::fs;
@@ -11,7 +10,6 @@ use std::sync::Arc;
 use std::thread;
 use std::time::Duration;
 
-const ACCEPT: Kind = Kind::Accept("a reader of the page");
 /// How long a reader may keep the page waiting, and a page its reader.
 const WRITE_TIME: Duration = Duration::from_secs(2);
 const READ_TIME: Duration = Duration::from_secs(5);
@@ -51,13 +49,9 @@ fn bind(path: &str) -> io::Result<UnixListener> {
 fn serve(host: Arc<Host>, listener: UnixListener) -> io::Result<()> {
     let accept = move || loop {
         match listener.accept() {
-            Ok((reader, _)) => {
-                host.works(&host.faults, |kind, _| kind == ACCEPT);
-                give(&host, reader);
-            }
+            Ok((reader, _)) => give(&host, reader),
             Err(e) => {
-                let what = format!("a reader of the page wasn't accepted: {e}");
-                host.fails(&host.faults, ACCEPT, None, what);
+                host.fault(format_args!("a reader of the page wasn't accepted: {e}"));
                 thread::sleep(PAUSE);
             }
         }
@@ -74,10 +68,10 @@ fn remove_socket(path: &str) -> io::Result<()> {
     Ok(())
 }
 
-/// Copies the store under the lock, and makes and writes the page after.
+/// Makes the page under the lock, and writes it after.
 fn give(host: &Host, mut reader: UnixStream) {
-    let page = match host.copy() {
-        Ok(store) => page::text(&host.overview(), &store),
+    let page = match host.tables() {
+        Ok(tables) => page::text(&tables.store),
         Err(refusal) => format!("{refusal}\n"),
     };
     let given = reader

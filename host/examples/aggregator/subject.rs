@@ -6,36 +6,17 @@ use peers::Table;
 const DEFINITION: u8 = 130;
 /// The update messages. They are about the current table.
 const UPDATES: [u8; 4] = [128, 129, 133, 134];
-/// So much of a name is shown. No table that is held has a longer one.
-const SHOWN: usize = 64;
 
-/// What a message is about: a table, or an entry of it.
-#[derive(Clone, Debug, PartialEq, Eq)]
-pub struct Subject {
-    pub definition: bool,
-    /// The table's name, as text.
-    pub table: String,
-}
-
-impl Subject {
-    /// Of a message, where it is known.
-    pub fn of(message: &[u8], current: Option<Table<'_>>) -> Option<Subject> {
-        let (definition, name) = match message {
-            [10, DEFINITION, rest @ ..] => (true, defined(rest)?),
-            [10, kind, ..] if UPDATES.contains(kind) => (false, current?.name()),
-            _ => return None,
-        };
-        let shown = &name[..name.len().min(SHOWN)];
-        let table = shown.escape_ascii().to_string();
-        Some(Subject { definition, table })
-    }
-
-    /// The table's name, where it is known, as the end of a line.
-    pub fn end(subject: Option<&Subject>) -> String {
-        subject.map_or(String::new(), |subject| {
-            format!(", table {}", subject.table)
-        })
-    }
+/// The table's name, where it is known, as the end of a line.
+pub fn about(message: &[u8], current: Option<Table<'_>>) -> String {
+    let name = match message {
+        [10, DEFINITION, rest @ ..] => defined(rest),
+        [10, kind, ..] if UPDATES.contains(kind) => current.map(|table| table.name()),
+        _ => None,
+    };
+    name.map_or(String::new(), |name| {
+        format!(", table {}", name.escape_ascii())
+    })
 }
 
 /// The name in a definition: behind the body's length, the table's ID and the name's length.
@@ -60,18 +41,4 @@ fn integer(bytes: &[u8]) -> Option<(u64, &[u8])> {
         rest = behind;
     }
     Some((value, rest))
-}
-
-#[cfg(test)]
-mod tests {
-    use super::*;
-
-    #[test]
-    fn a_long_name_is_cut() {
-        let message = |name: &[u8]| [&[10, DEFINITION, 200, 1, name.len() as u8], name].concat();
-        let named = |name: &[u8]| Subject::of(&message(name), None).map(|subject| subject.table);
-        assert_eq!(named(b"a \n"), Some("a \\n".to_owned()));
-        assert_eq!(named(&[b'a'; SHOWN]), Some("a".repeat(SHOWN)));
-        assert_eq!(named(&[b'a'; 2 * SHOWN]), Some("a".repeat(SHOWN)));
-    }
 }
