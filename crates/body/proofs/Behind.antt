@@ -15,10 +15,11 @@ use Rattle.store.specs.declared.Table.{Table}
 use Rattle.store.specs.Limits.{name_max, key_kind, is_string, key_length_ok, data_types_ok, present, width_of, slot_types, rate_types}
 use Rattle.body.specs.declared.Failure.TheVariants as failure
 use Rattle.body.specs.declared.update.Form.{Form}
-use Rattle.body.specs.Fields.{Read, got, failed, fault, short, Reader, and_then, for_each, tested, integer, between, integer_of, bytes, Span, number_read, number4, server_read, server_id}
+use Rattle.body.specs.Fields.{Read, got, failed, fault, short, Reader, and_then, for_each, tested, integer, between, integer_of, bytes, Span, field_read, number_read, number4, server_id}
 use Rattle.body.specs.Bodies.{name_field, named_fields, is_key_type, shape_fields, pair_field, period_field, period_fields, Times, no_times, times_there, times_fields, Definition, defined, rest_fields, definition_fields, switch_fields, Acknowledged, acknowledgement_fields, string_field, key_field, server_field, slot_field, value_fields, data_fields, Time, Update, entry_fields, number_or, time_mark, timed_fields, update_fields}
 use Rattle.body.proofs.Within.{shape-end}
 use Rattle.body.proofs.Spans.{span-behind}
+use Rattle.body.proofs.Holds.{same_value, then-got}
 
 -- It is short, or more bytes behind change nothing.
 module _ {A : Type 0} where
@@ -42,7 +43,6 @@ module _ {A : Type 0} where
 module _ {A B : Type 0} (f : Reader A) (g : A → Reader B) where
   then-steady : (s t : List ℕ) (x y : Read A) → Shortened x ⊎ (y ≡ x) → ((a : A) → Steady (g a))
       → Shortened (and_then x (λ a n. g a s n)) ⊎ (and_then y (λ a n. g a (s ++ t) n) ≡ and_then x (λ a n. g a s n))
-  unfolding and_then
   then-steady s t (got a n) y d k = split d (λ q. let e : got a n ≡ short q.0 = q.1 in absurd (let z : ◌≡◌ {A = ℕ} 0 1 = cc in omega arith)) (λ e. rw e (k a s t n))
   then-steady s t (failed f) y d k = split d (λ q. let e : failed f ≡ short {A = A} q.0 = q.1 in inl (q.0, (let z : f ≡ fault failure.Short q.0 = cc in rw z))) (λ e. inr (rw e))
 
@@ -76,7 +76,7 @@ steady-bytes n s t at =
     inr (rw (le-leb (at + n) (length s) l, le-leb (at + n) (length (s ++ t)) k)))
 
 steady-name : (n : ℕ) → Steady (name_field n)
-unfolding name_field bytes and_then
+unfolding name_field bytes
 steady-name n s t at =
     split (lt-or-le (length s) (at + n))
     (λ l. inl (at, rw (lt-leb (at + n) (length s) l)))
@@ -90,7 +90,7 @@ unfolding number4 number_read
 steady-number s t at = split (number_behind s t at) (λ e. inl (at, rw e)) (λ e. inr (rw e))
 
 steady-server : Steady server_id
-unfolding server_id server_read
+unfolding server_id field_read
 steady-server s t at = split (server-behind s t at) (λ e. inl (at, rw e)) (λ e. inr (rw e))
 
 -- ---- a definition's fields
@@ -189,19 +189,6 @@ acknowledgement-behind body more a next e =
     body more 0 a next e
 
 -- ---- a definition that has its expiry
--- a first field and what follows it, where both were read
-module _ {A B : Type 0} where
-  record Through (x : Read A) (f : A → ℕ → Read B) (b : B) (next : ℕ) : Type 0 where
-    value : A
-    position : ℕ
-    first : x ≡ got value position
-    later : f value position ≡ got b next
-
-  stepped : (x : Read A) (f : A → ℕ → Read B) (b : B) (next : ℕ) → and_then x f ≡ got b next → Through x f b next
-  unfolding and_then
-  stepped (got a n) f b next e = record { value = a; position = n; first = refl; later = e }
-  stepped (failed g) f b next e = let z : ◌≡◌ {A = ℕ} 0 1 = cc in absurd (omega arith)
-
 times-behind : (types : ℕ) (s t : List ℕ) (at : ℕ) (x : Times) (next : ℕ) → at ≤ length s → x.timed ≡ 1
     → times_fields types s at ≡ got x next → times_fields types (s ++ t) at ≡ got x next
 unfolding times_fields
@@ -209,7 +196,7 @@ times-behind types s t at x next l timed e =
     split (eq-or-ne at (length s))
     (λ q.
     let f : got no_times at ≡ got x next = rw (eq-eqb at (length s) q) at e in
-    let g : no_times ≡ x = cc in
+    let g : no_times ≡ x = same_value no_times x at next f in
     absurd (omega (arith, ap (λ (y : Times). y.timed) g)))
     (λ q.
     let k : at ≡ length (s ++ t) → ⊥ = λ r. omega (arith, length-append s t) in
@@ -218,15 +205,15 @@ times-behind types s t at x next l timed e =
 
 pub definition-behind : (body more : List ℕ) (d : Definition) (next : ℕ) → d.times.timed ≡ 1
     → definition_fields body ≡ got d next → definition_fields (body ++ more) ≡ got d next
-unfolding definition_fields rest_fields and_then
+unfolding definition_fields rest_fields
 definition-behind body more d next timed e =
-    let n = stepped (named_fields body 0) _ d next e in
-    let h = stepped (shape_fields body n.position) _ d next n.later in
-    let t = stepped (times_fields h.value.data_types body h.position) _ d next h.later in
-    let same : defined n.value h.value t.value ≡ d = cc t.later in
-    let l : h.position ≤ length body = shape-end body n.position h.value h.position h.first in
-    let e₁ = behind named_fields steady-named body more 0 n.value n.position n.first in
-    let e₂ = behind shape_fields steady-shape body more n.position h.value h.position h.first in
-    let one : t.value.timed ≡ 1 = ap (λ (y : Definition). y.times.timed) same ∙ timed in
-    let e₃ = times-behind h.value.data_types body more h.position t.value t.position l one t.first in
-    rw (e₁, e₂, e₃) t.later
+    let n = then-got (named_fields body 0) _ d next e in
+    let h = then-got (shape_fields body n.1) _ d next n.3 in
+    let t = then-got (times_fields h.0.data_types body h.1) _ d next h.3 in
+    let same : defined n.0 h.0 t.0 ≡ d = same_value (defined n.0 h.0 t.0) d t.1 next t.3 in
+    let l : h.1 ≤ length body = shape-end body n.1 h.0 h.1 h.2 in
+    let e₁ = behind named_fields steady-named body more 0 n.0 n.1 n.2 in
+    let e₂ = behind shape_fields steady-shape body more n.1 h.0 h.1 h.2 in
+    let one : t.0.timed ≡ 1 = ap (λ (y : Definition). y.times.timed) same ∙ timed in
+    let e₃ = times-behind h.0.data_types body more h.1 t.0 t.1 l one t.2 in
+    rw (e₁, e₂, e₃) t.3

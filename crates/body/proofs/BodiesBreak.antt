@@ -1,4 +1,5 @@
 -- Where a body broke, of every message that has fields.
+use Rattle.std.specs.Prelude.{Ok}
 use Prim.Native.Nat.{ℕ, ◌+◌, ◌≤◌, ◌<◌}
 use native.Mathlib.Omega.{arith}
 use mathlib.Core.Path.{◌≡◌, refl, sym, ap, subst, ◌∙◌}
@@ -8,7 +9,6 @@ use mathlib.Core.Bool.{Bool, true, false, cond}
 use lib.ListN.{length, take, length-append, length-take}
 use borrow.Author.Tests.{le-leb, lt-leb, eq-eqb, ne_eqb}
 use Rattle.lists.proofs.Cases.{lt-or-le, eq-or-ne, split, by-test}
-use Rattle.wire.specs.declared.Int.TheVariants as int
 use Rattle.wire.specs.Integer.{read_int}
 use Rattle.wire.proofs.Advance.{advance}
 use Rattle.wire.proofs.Numbers.{number_short, number-value}
@@ -23,6 +23,7 @@ use Rattle.body.specs.Breaks.{Reached, NotBefore, Sized, none_sized, definition_
 use Rattle.body.proofs.Taken.{integer-value}
 use Rattle.body.proofs.Breaking.{BrokeAt, BreaksAt, Regular, Ordinary, why-too, then-breaks, next-regular, next-breaks, got-regular, cond-regular}
 use Rattle.body.proofs.BreakingFields.{like-value, as_long, width-regular, bytes-regular, number-regular, named-regular, shape-regular, times-regular, data-regular, string-regular, integer-starts, width-starts, bytes-starts, number-starts, name-starts}
+use Rattle.body.proofs.Holds.{same_value, same_next, then-got}
 
 -- ---- a definition: where its body ends behind the data types, nothing is missing
 module _ (sized : Sized) (named : Named) (shape : Shape) where
@@ -37,7 +38,7 @@ module _ (sized : Sized) (named : Named) (shape : Shape) where
       next-regular sized (times_there shape.data_types) _ at s l (times-regular sized shape.data_types) λ t times n k e. got-regular sized _ t n k
 
   ended : (s : List ℕ) (at : ℕ) → at ≡ length s → timed s at ≡ got (defined named shape no_times) at
-  unfolding times_fields and_then
+  unfolding times_fields
   ended s at e = rw (eq-eqb at (length s) e)
 
   going_on : (s : List ℕ) (at : ℕ) → (at ≡ length s → ⊥) → timed s at ≡ there s at
@@ -97,23 +98,17 @@ module _ {A B : Type 0} where
   -- the first of two fields fails, or the second
   then-failed : (x : Read A) (f : A → ℕ → Read B) (y : Fault) → and_then x f ≡ failed y
       → (x ≡ failed y) ⊎ ((a : A) × ((n : ℕ) × ((x ≡ got a n) × (f a n ≡ failed y))))
-  unfolding and_then
   then-failed (got a n) f y e = inr (a, (n, (refl, e)))
   then-failed (failed z) f y e = inl (let q : z ≡ y = cc in ap failed q)
-
-  then-got : (x : Read A) (f : A → ℕ → Read B) (b : B) (m : ℕ) → and_then x f ≡ got b m → (a : A) × ((n : ℕ) × ((x ≡ got a n) × (f a n ≡ got b m)))
-  unfolding and_then
-  then-got (got a n) f b m e = (a, (n, (refl, e)))
-  then-got (failed z) f b m e = absurd (let w : ◌≡◌ {A = ℕ} 0 1 = cc in omega (arith, w))
 
 not-failed : {A : Type 0} (a : A) (n : ℕ) (x : Fault) → ◌≡◌ {A = Read A} (got a n) (failed x) → ⊥
 not-failed a n x e = let w : ◌≡◌ {A = ℕ} 0 1 = cc in omega (arith, w)
 
 -- an integer is read once
-value-once : (s : List ℕ) (at v w n m : ℕ) → read_int s at ≡ int.Value v n → read_int s at ≡ int.Value w m → (v ≡ w) × (n ≡ m)
-value-once s at v w n m e q = let p : int.Value v n ≡ int.Value w m = sym e ∙ q in ((let z : v ≡ w = cc in z), (let z : n ≡ m = cc in z))
+value-once : (s : List ℕ) (at v w n m : ℕ) → read_int s at ≡ Ok (v, n) → read_int s at ≡ Ok (w, m) → (v ≡ w) × (n ≡ m)
+value-once s at v w n m e q = let p = sym e ∙ q in (same_value v w n m p, same_next v w n m p)
 
-width-value : (k : ℕ) (s : List ℕ) (at v next : ℕ) → integer_of k s at ≡ got v next → read_int s at ≡ int.Value v next
+width-value : (k : ℕ) (s : List ℕ) (at v next : ℕ) → integer_of k s at ≡ got v next → read_int s at ≡ Ok (v, next)
 unfolding integer_of
 width-value k s at v next e = integer-value _ s at v next e
 
@@ -123,30 +118,29 @@ unfolding bytes
 bytes_next n s at span next e =
     split (lt-or-le (length s) (at + n))
     (λ l. absurd (let q : short at ≡ got span next = rw (lt-leb (at + n) (length s) l) at e in let w : ◌≡◌ {A = ℕ} 0 1 = cc in omega (arith, w)))
-    (λ l. let q : got (record { start = at; len = n }) (at + n) ≡ got span next = rw (le-leb (at + n) (length s) l) at e in cc)
+    (λ l. let q : got (record { start = at; len = n }) (at + n) ≡ got span next = rw (le-leb (at + n) (length s) l) at e in sym (same_next _ span (at + n) next q))
 
 name-next : (n : ℕ) (s : List ℕ) (at : ℕ) (span : Span) (next : ℕ) → name_field n s at ≡ got span next → next ≡ at + n
 unfolding name_field
 name-next n s at span next e =
     let a = then-got (bytes n s at) _ span next e in
     by-test (plain_name (span_in s a.0))
-    (λ t. let q : got a.0 a.1.0 ≡ got span next = rw t at a.1.1.1 in let z : a.1.0 ≡ next = cc in sym z ∙ bytes_next n s at a.0 a.1.0 a.1.1.0)
-    (λ t. absurd (let q : unplain at ≡ got span next = rw t at a.1.1.1 in let w : ◌≡◌ {A = ℕ} 0 1 = cc in omega (arith, w)))
+    (λ t. let q : got a.0 a.1 ≡ got span next = rw t at a.3 in sym (same_next a.0 span a.1 next q) ∙ bytes_next n s at a.0 a.1 a.2)
+    (λ t. absurd (let q : unplain at ≡ got span next = rw t at a.3 in let w : ◌≡◌ {A = ℕ} 0 1 = cc in omega (arith, w)))
 
 -- ---- a definition's name is read before any field behind it
-module _ (body : List ℕ) (id k n at : ℕ) (first : read_int body 0 ≡ int.Value id k) (second : read_int body k ≡ int.Value n at) where
+module _ (body : List ℕ) (id k n at : ℕ) (first : read_int body 0 ≡ Ok (id, k)) (second : read_int body k ≡ Ok (n, at)) where
   named_end : (m : Named) (next : ℕ) → named_fields body 0 ≡ got m next → next ≡ at + n
   unfolding named_fields
   named_end m next e =
       let a = then-got (integer_of 32 body 0) _ m next e in
-      let p = (value-once body 0 a.0 id a.1.0 k (width-value 32 body 0 a.0 a.1.0 a.1.1.0) first).1 in
-      let b = then-got (integer (between 1 name_max) body a.1.0) _ m next a.1.1.1 in
-      let v = integer-value (between 1 name_max) body a.1.0 b.0 b.1.0 b.1.1.0 in
-      let q = value-once body k b.0 n b.1.0 at (subst (λ (j : ℕ). read_int body j ≡ int.Value b.0 b.1.0) p v) second in
-      let c = then-got (name_field b.0 body b.1.0) _ m next b.1.1.1 in
-      let o = name-next b.0 body b.1.0 c.0 c.1.0 c.1.1.0 in
-      let g : got _ c.1.0 ≡ got m next = c.1.1.1 in
-      let z : c.1.0 ≡ next = cc in
+      let p = (value-once body 0 a.0 id a.1 k (width-value 32 body 0 a.0 a.1 a.2) first).1 in
+      let b = then-got (integer (between 1 name_max) body a.1) _ m next a.3 in
+      let v = integer-value (between 1 name_max) body a.1 b.0 b.1 b.2 in
+      let q = value-once body k b.0 n b.1 at (subst (λ (j : ℕ). read_int body j ≡ Ok (b.0, b.1)) p v) second in
+      let c = then-got (name_field b.0 body b.1) _ m next b.3 in
+      let o = name-next b.0 body b.1 c.0 c.1 c.2 in
+      let z : c.1 ≡ next = same_next _ m c.1 next c.3 in
       omega (arith, o, z, q.0, q.1)
 
   named-apart : (x : Fault) → named_fields body 0 ≡ failed x → at < x.start → ⊥
@@ -160,7 +154,7 @@ module _ (body : List ℕ) (id k n at : ℕ) (first : read_int body 0 ≡ int.Va
       (λ f. omega (arith, integer-starts (between 1 name_max) body a.1.0 x f, p, (advance body k n at second).0))
       (λ b.
       let v = integer-value (between 1 name_max) body a.1.0 b.0 b.1.0 b.1.1.0 in
-      let q = value-once body k b.0 n b.1.0 at (subst (λ (j : ℕ). read_int body j ≡ int.Value b.0 b.1.0) p v) second in
+      let q = value-once body k b.0 n b.1.0 at (subst (λ (j : ℕ). read_int body j ≡ Ok (b.0, b.1.0)) p v) second in
       split (then-failed (name_field b.0 body b.1.0) _ x b.1.1.1)
       (λ f. omega (arith, name-starts b.0 body b.1.0 x f, q.1))
       (λ c. not-failed _ _ x c.1.1.1)))
@@ -246,16 +240,16 @@ module _ (t : Table) (s : List ℕ) (at start n : ℕ) where
       (λ h.
       let g : string_field t.key_len s at ≡ got key next = rw h.0 at f in
       let a = then-got (integer (between 0 t.key_len) s at) _ key next g in
-      let v = integer-value (between 0 t.key_len) s at a.0 a.1.0 a.1.1.0 in
-      let q = value-once s at a.0 n a.1.0 start v h.1 in
-      omega (arith, bytes_next a.0 s a.1.0 key next a.1.1.1, q.0, q.1))
+      let v = integer-value (between 0 t.key_len) s at a.0 a.1 a.2 in
+      let q = value-once s at a.0 n a.1 start v h.1 in
+      omega (arith, bytes_next a.0 s a.1 key next a.3, q.0, q.1))
       (λ h.
       let g : bytes t.key_len s at ≡ got key next = rw h.0 at f in
       omega (arith, bytes_next t.key_len s at key next g, h.1.0, h.1.1))
 
 -- ---- key and data from `at` on
 module _ (sized : Sized) (t : Table) (at : ℕ)
-    (string : is_string (key_kind t.key_type) ≡ true → (u : List ℕ) (start n : ℕ) → read_int u at ≡ int.Value n start → sized u start n)
+    (string : is_string (key_kind t.key_type) ≡ true → (u : List ℕ) (start n : ℕ) → read_int u at ≡ Ok (n, start) → sized u start n)
     (other : is_string (key_kind t.key_type) ≡ false → (u : List ℕ) → sized u at t.key_len) where
   key-regular : (u : List ℕ) → at ≤ length u → Regular (key_field t.key_type t.key_len) u at sized
   unfolding key_field
@@ -292,12 +286,12 @@ unfolding number4 number_read
 number-end s at v next e =
     split (lt-or-le (length s) (at + 4))
     (λ l. absurd (let q : short at ≡ got v next = rw (number_short s at l) at e in let w : ◌≡◌ {A = ℕ} 0 1 = cc in omega (arith, w)))
-    (λ l. let q = rw (number-value s at l) at e in cc)
+    (λ l. sym (same_next _ v (at + 4) next (rw (number-value s at l) at e)))
 
 number-or-end : (there : Bool) (known : ℕ) (s : List ℕ) (at v next : ℕ) → number_or there known s at ≡ got v next → next ≡ at + cond there 4 0
 unfolding number_or
 number-or-end true known s at v next e = number-end s at v next e
-number-or-end false known s at v next e = let q : at ≡ next = cc in omega (arith, q)
+number-or-end false known s at v next e = omega (arith, same_next known v at next e)
 
 number-or-starts : (there : Bool) (known : ℕ) (s : List ℕ) (at : ℕ) (x : Fault) → number_or there known s at ≡ failed x → x.start ≡ at
 unfolding number_or

@@ -12,6 +12,7 @@ use Rattle.body.specs.declared.Failure.TheVariants as failure
 use Rattle.body.specs.declared.Fault.{Fault}
 use Rattle.body.specs.Fields.{Read, got, failed, fault, short, Reader, and_then, for_each}
 use Rattle.body.specs.Breaks.{Reached, NotBefore, Sized, CutShort, Decided, ByFailure}
+use Rattle.body.proofs.Holds.{same_value, same_next}
 
 -- two lists that agree in m bytes agree in fewer
 pub agree-fewer : (s t : List ℕ) (n m : ℕ) → n ≤ m → take m t ≡ take m s → take n t ≡ take n s
@@ -65,11 +66,9 @@ module _ {A B : Type 0} (sized : Sized) (f : Reader A) (g : A → Reader B) (at 
   both s n = and_then (f s n) λ a k. g a s k
 
   both-got : (s : List ℕ) (a : A) (n : ℕ) → f s at ≡ got a n → both s at ≡ g a s n
-  unfolding and_then
   both-got s a n e = rw e
 
   both-failed : (s : List ℕ) (x : Fault) → f s at ≡ failed x → both s at ≡ failed x
-  unfolding and_then
   both-failed s x e = rw e
 
   same-fault : (x y : Fault) → ◌≡◌ {A = Read B} (failed x) (failed y) → x ≡ y
@@ -190,8 +189,8 @@ module _ {A : Type 0} (sized : Sized) where
   pub got-regular : (a : A) → Ordinary sized λ s at. got a at
   got-regular a s at l = record {
     values = λ c n e.
-        let p : a ≡ c = cc in
-        let q : at ≡ n = cc in
+        let p : a ≡ c = same_value a c at n e in
+        let q : at ≡ n = same_next a c at n e in
         record { on = omega arith; end = omega arith; same = λ t k. rw (p, q) };
     strict = λ x e. absurd (let w : ◌≡◌ {A = ℕ} 0 1 = cc in omega (arith, w));
     breaks = λ x e. absurd (let w : ◌≡◌ {A = ℕ} 0 1 = cc in omega (arith, w));

@@ -1,4 +1,5 @@
 -- Where a body broke: of each field at its position, and of whole bodies.
+use Rattle.std.specs.Prelude.{Err, None, Ok, Option, Result, Some}
 use Prim.Native.Nat.{ℕ, ◌+◌, ◌≤◌, ◌<◌}
 use native.Mathlib.Omega.{arith}
 use mathlib.Core.Path.{◌≡◌, refl, sym, ap, subst, ◌∙◌}
@@ -11,12 +12,10 @@ use lib.IntN.{ℤ, pos}
 use lib.Dec.{eqb}
 use borrow.Author.Tests.{le-leb, lt-leb}
 use Rattle.lists.proofs.Cases.{lt-or-le, split, by-test}
-use Rattle.wire.specs.declared.Int.{Int}
-use Rattle.wire.specs.declared.Int.TheVariants as int
+use Rattle.wire.specs.declared.IntError.{IntError}
+use Rattle.wire.specs.declared.IntError.TheVariants as int
 use Rattle.wire.specs.Integer.{read_int}
 use Rattle.wire.specs.Number.{number_of}
-use Rattle.wire.specs.declared.values.Signed.{Signed}
-use Rattle.wire.specs.declared.values.Signed.TheVariants as signed
 use Rattle.wire.specs.Server.{server_before, server_id_of, server_of, read_server_id}
 use Rattle.wire.proofs.Read.{first-end}
 use Rattle.wire.proofs.Numbers.{number_short, number-value}
@@ -25,46 +24,47 @@ use Rattle.wire.proofs.Advance.{advance, short-looked, overflow-inside}
 use Rattle.wire.proofs.Decided.{value-decided, overflow-decided}
 use Rattle.body.specs.declared.Failure.TheVariants as failure
 use Rattle.body.specs.declared.Fault.{Fault}
-use Rattle.body.specs.Fields.{Read, got, failed, fault, short, outside, unplain, Reader, and_then, tested, integer, between, integer_of, Span, span_in, bytes, number_read, number4, server_read, server_id}
+use Rattle.body.specs.Fields.{Read, got, failed, fault, short, outside, unplain, Reader, tested, integer, between, integer_of, Span, span_in, bytes, field_read, number_read, number4, server_id}
 use Rattle.body.specs.Bodies.{name_field, named_fields, is_key_type, shape_fields, pair_field, period_field, period_fields, times_there, server_field, slot_field, value_fields, data_fields, string_field}
 use Rattle.body.specs.Breaks.{definition_sized, NotBefore, Sized, EndsInside, cut_integer, cut_sized, Ends, whole_integer, overflowing, whole_name, ByFailure}
 use Rattle.body.proofs.Taken.{integer-value, integer-passed, between-low}
 use Rattle.body.proofs.Breaking.{agree-fewer, Whole, BrokeAt, BreaksAt, Regular, Ordinary, reached-short, then-regular, next-regular, got-regular, cond-regular, each-regular}
+use Rattle.body.proofs.Holds.{same_next}
 
 -- ---- the bytes of an integer and then others
-pub like-value : (s t : List ℕ) (at v next : ℕ) → read_int s at ≡ int.Value v next → take next t ≡ take next s → read_int t at ≡ int.Value v next
+pub like-value : (s t : List ℕ) (at v next : ℕ) → read_int s at ≡ Ok (v, next) → take next t ≡ take next s → read_int t at ≡ Ok (v, next)
 like-value s t at v next e k =
     let both : take next s ++ drop next t ≡ t = ap (λ (p : List ℕ). p ++ drop next t) (sym k) ∙ take-append-drop next t in
-    subst (λ (l : List ℕ). read_int l at ≡ int.Value v next) both (value-decided s (drop next t) at v next next (omega arith) e)
+    subst (λ (l : List ℕ). read_int l at ≡ Ok (v, next)) both (value-decided s (drop next t) at v next next (omega arith) e)
 
-like-overflow : (s t : List ℕ) (at n : ℕ) → read_int s at ≡ int.Overflow n → take (at + n) t ≡ take (at + n) s → read_int t at ≡ int.Overflow n
+like-overflow : (s t : List ℕ) (at n : ℕ) → read_int s at ≡ Err (int.Overflow n) → take (at + n) t ≡ take (at + n) s → read_int t at ≡ Err (int.Overflow n)
 like-overflow s t at n e k =
     let both : take (at + n) s ++ drop (at + n) t ≡ t = ap (λ (p : List ℕ). p ++ drop (at + n) t) (sym k) ∙ take-append-drop (at + n) t in
-    subst (λ (l : List ℕ). read_int l at ≡ int.Overflow n) both (overflow-decided s (drop (at + n) t) at n (at + n) (omega arith) e)
+    subst (λ (l : List ℕ). read_int l at ≡ Err (int.Overflow n)) both (overflow-decided s (drop (at + n) t) at n (at + n) (omega arith) e)
 
 -- ---- a field that an encoded integer decides: F gives a value up to where the integer ends, or it is out of range
-module _ {A : Type 0} (sized : Sized) (F : ℕ → Int → Read A)
-    (of-short : (start k : ℕ) → F start (int.Short k) ≡ short start)
-    (of-overflow : (start k : ℕ) → F start (int.Overflow k) ≡ outside start)
-    (of-value : (start v next : ℕ) → ((a : A) × (F start (int.Value v next) ≡ got a next)) ⊎ (F start (int.Value v next) ≡ outside start)) where
+module _ {A : Type 0} (sized : Sized) (F : ℕ → Result (ℕ × ℕ) IntError → Read A)
+    (of-short : (start k : ℕ) → F start (Err (int.Short k)) ≡ short start)
+    (of-overflow : (start k : ℕ) → F start (Err (int.Overflow k)) ≡ outside start)
+    (of-value : (start v next : ℕ) → ((a : A) × (F start (Ok (v, next)) ≡ got a next)) ⊎ (F start (Ok (v, next)) ≡ outside start)) where
   abbrev field : Reader A
   field s at = F at (read_int s at)
 
   -- an overflow has a byte at least
-  overflow-some : (s : List ℕ) (at n : ℕ) → read_int s at ≡ int.Overflow n → at < at + n
+  overflow-some : (s : List ℕ) (at n : ℕ) → read_int s at ≡ Err (int.Overflow n) → at < at + n
   overflow-some s at n e =
       split (lt-or-le at (at + n)) (λ l. l)
       (λ l.
       let k : length (take at s ++ []) ≤ at = simp (length-append, length-take) (omega arith) in
-      let q : int.Short 0 ≡ int.Overflow n = sym (first-end (take at s ++ []) at k) ∙ overflow-decided s [] at n at (omega arith) e in
+      let q : Err (int.Short 0) ≡ Err (int.Overflow n) = sym (first-end (take at s ++ []) at k) ∙ overflow-decided s [] at n at (omega arith) e in
       absurd (let w : ◌≡◌ {A = ℕ} 0 1 = cc in omega (arith, w)))
 
-  never-earlier : (at : ℕ) (i : Int) → NotBefore at (F at i)
+  never-earlier : (at : ℕ) (i : (Result (ℕ × ℕ) IntError)) → NotBefore at (F at i)
   unfolding NotBefore
-  never-earlier at (int.Value v next) =
+  never-earlier at (Ok (v, next)) =
       split (of-value at v next) (λ w. rw w.1 tt) (λ w. rw w (omega arith))
-  never-earlier at (int.Short k) = rw (of-short at k) (omega arith)
-  never-earlier at (int.Overflow k) = rw (of-overflow at k) (omega arith)
+  never-earlier at (Err (int.Short k)) = rw (of-short at k) (omega arith)
+  never-earlier at (Err (int.Overflow k)) = rw (of-overflow at k) (omega arith)
 
   strict-field : (s : List ℕ) (at : ℕ) → at ≤ length s → field (take at s) at ≡ short at
   strict-field s at l =
@@ -83,7 +83,7 @@ module _ {A : Type 0} (sized : Sized) (F : ℕ → Int → Read A)
       why = record { end = end; some = some; inside = i; field = e; alike = alike };
     }
 
-    short-broke : (k : ℕ) → read_int s at ≡ int.Short k → BrokeAt field s at sized (fault failure.Short at)
+    short-broke : (k : ℕ) → read_int s at ≡ Err (int.Short k) → BrokeAt field s at sized (fault failure.Short at)
     unfolding ByFailure
     short-broke k e = record {
       from = omega arith;
@@ -99,13 +99,13 @@ module _ {A : Type 0} (sized : Sized) (F : ℕ → Int → Read A)
     no_value a n x e = let w : ◌≡◌ {A = ℕ} 0 1 = cc in omega (arith, w)
 
     -- a failing field fails at its start
-    fails : (i : Int) → read_int s at ≡ i → (x : Fault) → F at i ≡ failed x → BrokeAt field s at sized x
-    fails (int.Short k) e x q = subst (BrokeAt field s at sized) (fault-of _ x (sym (of-short at k) ∙ q)) (short-broke k e)
-    fails (int.Overflow k) e x q =
+    fails : (i : (Result (ℕ × ℕ) IntError)) → read_int s at ≡ i → (x : Fault) → F at i ≡ failed x → BrokeAt field s at sized x
+    fails (Err (int.Short k)) e x q = subst (BrokeAt field s at sized) (fault-of _ x (sym (of-short at k) ∙ q)) (short-broke k e)
+    fails (Err (int.Overflow k)) e x q =
         subst (BrokeAt field s at sized) (fault-of _ x (sym (of-overflow at k) ∙ q))
         (out-broke (at + k) (overflow-some s at k e) (overflow-inside s at k e).0 (overflowing k e refl)
         (λ other r. ap (F at) (like-overflow s other at k e r) ∙ of-overflow at k))
-    fails (int.Value v next) e x q =
+    fails (Ok (v, next)) e x q =
         let a = advance s at v next e in
         split (of-value at v next)
         (λ w. absurd (no_value w.0 next x (sym q ∙ w.1)))
@@ -113,23 +113,23 @@ module _ {A : Type 0} (sized : Sized) (F : ℕ → Int → Read A)
         subst (BrokeAt field s at sized) (fault-of _ x (sym w ∙ q))
         (out-broke next a.0 a.1 (whole_integer v e) (λ other r. ap (F at) (like-value s other at v next e r) ∙ w)))
 
-    starts : (i : Int) (x : Fault) → F at i ≡ failed x → x.start ≡ at
-    starts (int.Short k) x q = sym (ap (λ (y : Fault). y.start) (fault-of _ x (sym (of-short at k) ∙ q)))
-    starts (int.Overflow k) x q = sym (ap (λ (y : Fault). y.start) (fault-of _ x (sym (of-overflow at k) ∙ q)))
-    starts (int.Value v next) x q =
+    starts : (i : (Result (ℕ × ℕ) IntError)) (x : Fault) → F at i ≡ failed x → x.start ≡ at
+    starts (Err (int.Short k)) x q = sym (ap (λ (y : Fault). y.start) (fault-of _ x (sym (of-short at k) ∙ q)))
+    starts (Err (int.Overflow k)) x q = sym (ap (λ (y : Fault). y.start) (fault-of _ x (sym (of-overflow at k) ∙ q)))
+    starts (Ok (v, next)) x q =
         split (of-value at v next)
         (λ w. absurd (no_value w.0 next x (sym q ∙ w.1)))
         (λ w. sym (ap (λ (y : Fault). y.start) (fault-of _ x (sym w ∙ q))))
 
-    whole : (i : Int) → read_int s at ≡ i → (a : A) (n : ℕ) → F at i ≡ got a n → Whole field s at a n
-    whole (int.Short k) e a n q = absurd (no_value a n _ (sym (of-short at k) ∙ q))
-    whole (int.Overflow k) e a n q = absurd (no_value a n _ (sym (of-overflow at k) ∙ q))
-    whole (int.Value v next) e a n q =
+    whole : (i : (Result (ℕ × ℕ) IntError)) → read_int s at ≡ i → (a : A) (n : ℕ) → F at i ≡ got a n → Whole field s at a n
+    whole (Err (int.Short k)) e a n q = absurd (no_value a n _ (sym (of-short at k) ∙ q))
+    whole (Err (int.Overflow k)) e a n q = absurd (no_value a n _ (sym (of-overflow at k) ∙ q))
+    whole (Ok (v, next)) e a n q =
         let p = advance s at v next e in
         split (of-value at v next)
         (λ w.
         let same : got w.0 next ≡ got a n = sym w.1 ∙ q in
-        let m : next ≡ n = cc in
+        let m : next ≡ n = same_next w.0 a next n same in
         record {
           on = omega (arith, p.0, m);
           end = omega (arith, p.1, m);
@@ -156,15 +156,15 @@ module _ (sized : Sized) where
   unfolding integer_of
   width-regular k = integer-regular _
 
-  server-value : (start next : ℕ) (z : Signed) → ((a : ℤ) × (server_read start (server_before next z) ≡ got a next)) ⊎ (server_read start (server_before next z) ≡ outside start)
-  unfolding server_read server_before
-  server-value start next (signed.Id id) = inl (id, refl)
-  server-value start next signed.OutOfRange = inr refl
+  server-value : (start next : ℕ) (z : (Option ℤ)) → ((a : ℤ) × (field_read start (server_before next z) ≡ got a next)) ⊎ (field_read start (server_before next z) ≡ outside start)
+  unfolding field_read server_before
+  server-value start next (Some id) = inl (id, refl)
+  server-value start next None = inr refl
 
   pub server-regular : Ordinary sized server_id
   unfolding server_id read_server_id server_of
   server-regular =
-      int-regular sized (λ start i. server_read start (server_of i)) (λ start k. unfold server_read in refl) (λ start k. unfold server_read in refl)
+      int-regular sized (λ start i. field_read start (server_of i)) (λ start k. unfold field_read in refl) (λ start k. unfold field_read in refl)
       (λ start v next. server-value start next (server_id_of v))
 
 -- ---- a field of n bytes from `at` on: short where they aren't there, else decided by them
@@ -192,7 +192,7 @@ module _ {A : Type 0} (sized : Sized) (f : Reader A) (n : ℕ) (s : List ℕ) (a
       split (there k)
       (λ w.
       let q : got w.0 (at + n) ≡ got a m = sym w.1 ∙ e in
-      let z : at + n ≡ m = cc in
+      let z : at + n ≡ m = same_next w.0 a (at + n) m q in
       record {
         on = omega (arith, z);
         end = omega (arith, z, k);
@@ -285,11 +285,11 @@ module _ (sized : Sized) (n : ℕ) (s : List ℕ) (at : ℕ) (l : at ≤ length 
   -- a name, whose length stands before it
   module _ (some : 0 < n) (name-ends : Ends sized s at (at + n) failure.NotPlain) where
     name-there : (t : List ℕ) → at + n ≤ length t → name_field n t at ≡ cond (plain_name (take n (drop at t))) (got part (at + n)) (unplain at)
-    unfolding name_field and_then span_in
+    unfolding name_field span_in
     name-there t k = rw (part-there t k)
 
     name-missing : (t : List ℕ) → length t < at + n → name_field n t at ≡ short at
-    unfolding name_field and_then
+    unfolding name_field
     name-missing t k = rw (part-missing t k)
 
     name-earlier : (t : List ℕ) → NotBefore at (name_field n t at)
@@ -382,7 +382,7 @@ module _ (sized : Sized) where
       got-regular sized _ u m i
 
   -- a string, behind its length
-  pub string-regular : (key_length at : ℕ) → ((t : List ℕ) (start n : ℕ) → read_int t at ≡ int.Value n start → sized t start n)
+  pub string-regular : (key_length at : ℕ) → ((t : List ℕ) (start n : ℕ) → read_int t at ≡ Ok (n, start) → sized t start n)
       → (s : List ℕ) → at ≤ length s → Regular (string_field key_length) s at sized
   unfolding string_field
   string-regular key_length at is-sized s l =
@@ -391,7 +391,7 @@ module _ (sized : Sized) where
 
 -- ---- a definition's ID and name
 module _ (id n : ℕ) (t : List ℕ) (e : integer_of 32 t 0 ≡ got id n) where
-  id-there : read_int t 0 ≡ int.Value id n
+  id-there : read_int t 0 ≡ Ok (id, n)
   unfolding integer_of
   id-there = integer-value _ t 0 id n e
 
@@ -424,14 +424,14 @@ fault-start x y e = let z : x ≡ y = cc in ap (λ (w : Fault). w.start) (sym z)
 got-not : {A : Type 0} (a : A) (n : ℕ) (x : Fault) → ◌≡◌ {A = Read A} (got a n) (failed x) → ⊥
 got-not a n x e = let w : ◌≡◌ {A = ℕ} 0 1 = cc in omega (arith, w)
 
-tested-starts : (ok : ℕ → Bool) (at : ℕ) (i : Int) (x : Fault) → tested ok at i ≡ failed x → x.start ≡ at
+tested-starts : (ok : ℕ → Bool) (at : ℕ) (i : (Result (ℕ × ℕ) IntError)) (x : Fault) → tested ok at i ≡ failed x → x.start ≡ at
 unfolding tested
-tested-starts ok at (int.Value v next) x e =
+tested-starts ok at (Ok (v, next)) x e =
     by-test (ok v)
     (λ t. absurd (got-not v next x (rw t at e)))
     (λ t. fault-start {A = ℕ} (fault failure.OutOfRange at) x (rw t at e))
-tested-starts ok at (int.Short k) x e = fault-start {A = ℕ} (fault failure.Short at) x e
-tested-starts ok at (int.Overflow k) x e = fault-start {A = ℕ} (fault failure.OutOfRange at) x e
+tested-starts ok at (Err (int.Short k)) x e = fault-start {A = ℕ} (fault failure.Short at) x e
+tested-starts ok at (Err (int.Overflow k)) x e = fault-start {A = ℕ} (fault failure.OutOfRange at) x e
 
 pub integer-starts : (ok : ℕ → Bool) (s : List ℕ) (at : ℕ) (x : Fault) → integer ok s at ≡ failed x → x.start ≡ at
 unfolding integer
@@ -456,7 +456,7 @@ number-starts s at x e =
     (λ k. absurd (got-not {A = ℕ} _ _ x (rw (number-value s at k) at e)))
 
 pub name-starts : (n : ℕ) (s : List ℕ) (at : ℕ) (x : Fault) → name_field n s at ≡ failed x → x.start ≡ at
-unfolding name_field and_then bytes
+unfolding name_field bytes
 name-starts n s at x e =
     split (lt-or-le (length s) (at + n))
     (λ k. fault-start {A = Span} (fault failure.Short at) x (rw (lt-leb (at + n) (length s) k) at e))

@@ -16,7 +16,7 @@ use Rattle.store.specs.Shape.{TableShape}
 use Rattle.store.specs.Store.{name_of}
 use Rattle.store.proofs.Rules.{rate-count, present-past}
 use Rattle.store.proofs.Facts.{TableFacts, table-facts, name-size}
-use Rattle.body.specs.Fields.{got, and_then, between, span_in}
+use Rattle.body.specs.Fields.{got, between, span_in}
 use Rattle.body.specs.Bodies.{named, name_field, named_fields, is_key_type, shape_fields, pair_field, period_field, no_times, times_there, times_fields, rest_fields, definition_fields}
 use Rattle.body.specs.Encodings.{each_bytes, name_bytes, shape_bytes, period_bytes, times_bytes, definition_bytes}
 use Rattle.body.specs.ReadBack.{times_back, definition_back, DefinitionsReadBack}
@@ -39,7 +39,7 @@ periods-small t h = along-from (λ r v. v < 2 ^ 32) rate_types t.periods (h.peri
 
 module _ (s : List ℕ) where
   pair-placed : (r v at next : ℕ) → r < 32 → v < 2 ^ 32 → Placed s (encode_int r ++ encode_int v) at next → pair_field r s at ≡ got v next
-  unfolding pair_field and_then
+  unfolding pair_field
   pair-placed r v at next l k p =
       rw (
         integer-placed (λ n. eqb n r) r (omega arith) (eq-eqb r r refl) (placed_first (encode_int r) (encode_int v) p),
@@ -58,7 +58,7 @@ module _ (s : List ℕ) where
   module _ (t : Table) (f : TableFacts t) (h : TableShape t) where
     named-placed : (id at next : ℕ) → id < 2 ^ 32 → Placed s (name_bytes id t) at next
         → named_fields s at ≡ got (named id (at + length (encode_int id) + length (encode_int (length (name_of t)))) (length (name_of t))) next
-    unfolding named_fields name_field and_then
+    unfolding named_fields name_field
     named-placed id at next l p =
         let name = name_of t in
         let n : length name ≡ t.name_len = name-size t f h in
@@ -77,7 +77,7 @@ module _ (s : List ℕ) where
 
     shape-placed : (at next : ℕ) → Placed s (shape_bytes t) at next
         → shape_fields s at ≡ got (record { key_type = t.key_type; key_length = t.key_len; data_types = t.data_types }) next
-    unfolding shape_fields and_then is_key_type data_types_ok
+    unfolding shape_fields is_key_type data_types_ok
     shape-placed at next p =
         let kind = t.key_type in
         let len = t.key_len in
@@ -90,7 +90,7 @@ module _ (s : List ℕ) where
         )
 
     times-placed : (at next : ℕ) → next ≡ length s → Placed s (times_bytes t) at next → times_fields t.data_types s at ≡ got (times_back t) next
-    unfolding times_fields times_there times_bytes times_back and_then
+    unfolding times_fields times_there times_bytes times_back
     times-placed at next e p =
         let types = t.data_types in
         let xs = encode_int t.expiry in
@@ -123,7 +123,7 @@ module _ (id : ℕ) (t : Table) (l : id < 2 ^ 32) (h : TableShape t) (f : TableF
   rest = placed-rest (name_bytes id t) (shape_bytes t ++ times_bytes t) parts
 
   back : definition_fields body ≡ got (definition_back id t) (length body)
-  unfolding definition_fields rest_fields and_then
+  unfolding definition_fields rest_fields
   back =
       let z : 0 + length (encode_int id) ≡ length (encode_int id) = omega arith in
       rw (

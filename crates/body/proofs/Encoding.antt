@@ -1,4 +1,5 @@
 -- What was read as a field is that field's encoding: its bytes stand where it was read.
+use Rattle.std.specs.Prelude.{Err, None, Ok, Option, Result, Some, ℤ}
 use Prim.Native.Nat.{ℕ, ◌+◌, ◌≤◌}
 use mathlib.Core.Path.{◌≡◌, refl, sym, ap, ◌∙◌}
 use mathlib.Core.List.{List, [], ◌∷◌, ◌++◌, append_assoc}
@@ -7,12 +8,10 @@ use lib.ListN.{length, take, drop, take-append-drop}
 use lib.Seq.{drop-drop}
 use borrow.Author.Tests.{le-leb, lt-leb}
 use Rattle.lists.proofs.Cases.{lt-or-le, split}
-use Rattle.wire.specs.declared.Int.{Int}
-use Rattle.wire.specs.declared.Int.TheVariants as int
-use Rattle.wire.specs.declared.fixed.FourBytes.{FourBytes}
-use Rattle.wire.specs.declared.fixed.FourBytes.TheVariants as number
-use Rattle.wire.specs.declared.values.ServerId.{ServerId}
-use Rattle.wire.specs.declared.values.ServerId.TheVariants as server
+use Rattle.wire.specs.declared.IntError.{IntError}
+use Rattle.wire.specs.declared.values.FieldError.{FieldError}
+use Rattle.wire.specs.declared.IntError.TheVariants as int
+use Rattle.wire.specs.declared.values.FieldError.TheVariants as server
 use Rattle.wire.specs.Integer.{encode_int, read_int}
 use Rattle.wire.specs.Number.{encode_number, read_number}
 use Rattle.wire.specs.Server.{server_word, read_server_id}
@@ -20,7 +19,7 @@ use Rattle.wire.specs.Value.{Bytes}
 use Rattle.wire.proofs.RoundTrip.{one-encoding}
 use Rattle.wire.proofs.Numbers.{number-own, number-length}
 use Rattle.wire.proofs.values.Server.{server-own}
-use Rattle.body.specs.Fields.{got, outside, Reader, for_each, tested, integer, integer_of, Span, span_in, bytes, number_read, number4, server_read, server_id}
+use Rattle.body.specs.Fields.{got, outside, Reader, for_each, tested, integer, integer_of, Span, span_in, bytes, field_read, number_read, number4, server_id}
 use Rattle.body.specs.Encodings.{each_bytes}
 use Rattle.body.proofs.Holds.{Holds, holds-cond, holds-got, holds-each, holds_then}
 use Rattle.body.proofs.Spans.{span-length}
@@ -57,15 +56,15 @@ pub record Passed (ok : ℕ → Bool) (s : List ℕ) (at v next : ℕ) : Type 0 
   pub here : Stands s (encode_int v) at next
 
 module _ (s : List ℕ) (b : Bytes s) where
-  integer-read : (ok : ℕ → Bool) (at : ℕ) (i : Int) → read_int s at ≡ i → Holds (Passed ok s at) (tested ok at i)
+  integer-read : (ok : ℕ → Bool) (at : ℕ) (i : (Result (ℕ × ℕ) IntError)) → read_int s at ≡ i → Holds (Passed ok s at) (tested ok at i)
   unfolding tested Holds
-  integer-read ok at (int.Value v next) q =
+  integer-read ok at (Ok (v, next)) q =
       let o = one-encoding s at v next b q in
       holds-cond (Passed ok s at) (ok v) (got v next) (outside at)
       (λ h. holds-got (Passed ok s at) v next (record { passed = h; here = stands-part s (encode_int v) at next o.0 o.1 }))
       (λ h. tt)
-  integer-read ok at (int.Short k) q = tt
-  integer-read ok at (int.Overflow k) q = tt
+  integer-read ok at (Err (int.Short k)) q = tt
+  integer-read ok at (Err (int.Overflow k)) q = tt
 
   pub integer-stands : (ok : ℕ → Bool) (at : ℕ) → Holds (Passed ok s at) (integer ok s at)
   unfolding integer
@@ -78,25 +77,25 @@ module _ (s : List ℕ) (b : Bytes s) where
   unfolding integer_of
   width-encoded k at = integer-encoded _ at
 
-  number-read_encoded : (at : ℕ) (i : FourBytes) → read_number s at ≡ i → Holds (Encoded encode_number s at) (number_read at i)
+  number-read_encoded : (at : ℕ) (i : (Option (ℕ × ℕ))) → read_number s at ≡ i → Holds (Encoded encode_number s at) (number_read at i)
   unfolding number_read Holds
-  number-read_encoded at (number.Value v next) q =
+  number-read_encoded at (Some (v, next)) q =
       let o = number-own s at v next b q in
       stands-part s (encode_number v) at next (o.1 ∙ ap (λ (n : ℕ). at + n) (sym (number-length v)))
       (ap (λ (n : ℕ). take n (drop at s)) (number-length v) ∙ o.3)
-  number-read_encoded at number.Short q = tt
+  number-read_encoded at None q = tt
 
   pub number-encoded : (at : ℕ) → Holds (Encoded encode_number s at) (number4 s at)
   unfolding number4
   number-encoded at = number-read_encoded at (read_number s at) refl
 
-  server-read : (at : ℕ) (i : ServerId) → read_server_id s at ≡ i → Holds (Encoded (λ z. encode_int (server_word z)) s at) (server_read at i)
-  unfolding server_read Holds
-  server-read at (server.Id z next) q =
+  server-read : (at : ℕ) (i : (Result (ℤ × ℕ) FieldError)) → read_server_id s at ≡ i → Holds (Encoded (λ z. encode_int (server_word z)) s at) (field_read at i)
+  unfolding field_read Holds
+  server-read at (Ok (z, next)) q =
       let o = one-encoding s at (server_word z) next b (server-own s at z next q).1 in
       stands-part s (encode_int (server_word z)) at next o.0 o.1
-  server-read at server.Short q = tt
-  server-read at server.OutOfRange q = tt
+  server-read at (Err server.Short) q = tt
+  server-read at (Err server.OutOfRange) q = tt
 
   pub server-encoded : (at : ℕ) → Holds (Encoded (λ z. encode_int (server_word z)) s at) (server_id s at)
   unfolding server_id

@@ -1,159 +1,83 @@
--- Each way through a field reader, in the form of what it has to show.
-use Prim.Native.Nat.{ℕ, ◌+◌, ◌-◌, ◌^◌, ◌≤◌, ◌<◌}
-use native.Mathlib.Omega.{arith}
-use mathlib.Core.Path.{◌≡◌, refl, sym, ◌∙◌}
+-- Readings of an encoded integer: under two tests that agree, one between two others, one of k bits.
+use Prim.Native.Nat.{ℕ, ◌^◌, ◌≤◌, ◌<◌}
+use Rattle.std.specs.Prelude.{Err, Ok, Result}
+use mathlib.Core.Path.{◌≡◌, refl, sym}
 use mathlib.Core.List.{List}
-use mathlib.Core.Bool.{Bool, true, false}
+use mathlib.Core.Bool.{Bool, true}
 use lib.Dec.{ltb, lit≤}
-use lib.ListN.{length}
-use borrow.Author.Rules.{rules}
-use borrow.Author.Tests.{lt-ltb, le-ltb, lt-leb, le-leb}
+use borrow.Author.Tests.{lt-ltb, le-ltb, le-leb}
 use Rattle.lists.proofs.Cases.{lt-or-le, split}
-use Rattle.wire.specs.declared.Int.{Int}
-use Rattle.wire.specs.declared.Int.TheVariants as int
-use Rattle.wire.specs.declared.values.Field.{Field}
-use Rattle.wire.specs.declared.values.Field.TheVariants as field
+use Rattle.wire.specs.declared.IntError.{IntError}
+use Rattle.wire.specs.declared.values.FieldError.{FieldError}
+use Rattle.wire.specs.declared.IntError.TheVariants as int
+use Rattle.wire.specs.declared.values.FieldError.TheVariants as field
 use Rattle.wire.specs.Integer.{read_int}
 use Rattle.wire.specs.Value.{read_width, WidthRule}
+use Rattle.wire.proofs.Advance.{value-small}
 use Rattle.wire.proofs.values.Limited.{width-rule}
 use Rattle.body.specs.declared.Fault.{Fault}
-use Rattle.body.specs.declared.Failure.TheVariants as failure
-use Rattle.body.specs.declared.IntRead.{IntRead}
-use Rattle.body.specs.declared.IntRead.TheVariants as int-read
-use Rattle.body.specs.declared.Word.{Word}
-use Rattle.body.specs.declared.Word.TheVariants as word
-use Rattle.body.specs.declared.PartRead.TheVariants as part
-use Rattle.body.specs.Fields.{Read, got, failed, fault, short, outside, tested, integer, between, integer_of, bytes}
-use Rattle.body.specs.Results.{field_read, int_read, word_read, part_read}
-
--- ---- what a test in the code says, where b is what the called function gives
-pub so-true : (b t : Bool) → b ≡ t → b ≡ true → t ≡ true
-so-true b t p e = sym p ∙ e
-
-pub so_false : (b t : Bool) → b ≡ t → b ≡ false → t ≡ false
-so_false b t p e = sym p ∙ e
-
--- ---- an integer with a test, where r is what `read_int` gives
-module _ (ok : ℕ → Bool) (s : List ℕ) (at : ℕ) (r : Int) (p : r ≡ read_int s at) where
-  pub passes : (v next : ℕ) → r ≡ int.Value v next → ok v ≡ true → int_read (int-read.Value v next) ≡ integer ok s at
-  unfolding integer tested int_read
-  passes v next e t = rw (← p, e, t)
-
-  pub fails : (v next : ℕ) → r ≡ int.Value v next → ok v ≡ false → int_read (int-read.Failed (fault failure.OutOfRange at)) ≡ integer ok s at
-  unfolding integer tested int_read
-  fails v next e t = rw (← p, e, t)
-
-  pub cut : (k : ℕ) → r ≡ int.Short k → int_read (int-read.Failed (fault failure.Short at)) ≡ integer ok s at
-  unfolding integer tested int_read
-  cut k e = rw (← p, e)
-
-  pub overflows : (k : ℕ) → r ≡ int.Overflow k → int_read (int-read.Failed (fault failure.OutOfRange at)) ≡ integer ok s at
-  unfolding integer tested int_read
-  overflows k e = rw (← p, e)
-
-pub under : (low high v : ℕ) → v < low → between low high v ≡ false
-unfolding between
-under low high v l = rw (lt-leb low v l)
-
-pub over : (low high v : ℕ) → low ≤ v → high < v → between low high v ≡ false
-unfolding between
-over low high v l h = rw (le-leb low v l, lt-leb v high h)
-
-pub inside : (low high v : ℕ) → low ≤ v → v ≤ high → between low high v ≡ true
-unfolding between
-inside low high v l h = rw (le-leb low v l, le-leb v high h)
-
-pub ruleset test-laws = (rules, so-true, so_false, passes, fails, cut, overflows, under, over, inside)
+use Rattle.body.specs.Fields.{got, failed, and_then, field_read, accepted, tested, integer, between, integer_of}
+use Rattle.body.proofs.Holds.{same_value}
 
 -- two tests that agree
-same-tested : (p q : ℕ → Bool) → ((n : ℕ) → p n ≡ q n) → (start : ℕ) (i : Int) → tested p start i ≡ tested q start i
+same-tested : (p q : ℕ → Bool) → ((n : ℕ) → p n ≡ q n) → (start : ℕ) (i : (Result (ℕ × ℕ) IntError)) → tested p start i ≡ tested q start i
 unfolding tested
-same-tested p q h start (int.Value v next) = rw (h v)
-same-tested p q h start (int.Short k) = refl
-same-tested p q h start (int.Overflow k) = refl
+same-tested p q h start (Ok (v, next)) = rw (h v)
+same-tested p q h start (Err (int.Short k)) = refl
+same-tested p q h start (Err (int.Overflow k)) = refl
 
 pub same-integer : (p q : ℕ → Bool) → ((n : ℕ) → p n ≡ q n) → (s : List ℕ) (at : ℕ) → integer p s at ≡ integer q s at
 unfolding integer
 same-integer p q h s at = same-tested p q h at (read_int s at)
+
+pub inside : (low high v : ℕ) → low ≤ v → v ≤ high → between low high v ≡ true
+unfolding between
+inside low high v l h = rw (le-leb low v l, le-leb v high h)
 
 -- ---- an integer of k bits: what wire's reader of that width gives, by the one rule over the width
 module _ (k : ℕ) (h : k ≤ 64) (s : List ℕ) (at : ℕ) where
   rule : WidthRule k
   rule = width-rule k h
 
-  width_read : (i : Int) → read_int s at ≡ i → field_read at (read_width k s at) ≡ tested (λ v. ltb v (2 ^ k)) at i
+  width_read : (i : (Result (ℕ × ℕ) IntError)) → read_int s at ≡ i → field_read at (read_width k s at) ≡ tested (λ v. ltb v (2 ^ k)) at i
   unfolding tested field_read
-  width_read (int.Value v next) e =
+  width_read (Ok (v, next)) e =
       split (lt-or-le v (2 ^ k))
       (λ l. rw (rule.within s at v next e l, lt-ltb v (2 ^ k) l))
       (λ l. rw (rule.over s at v next e l, le-ltb v (2 ^ k) l))
-  width_read (int.Short n) e = rw (rule.short s at n e)
-  width_read (int.Overflow n) e = rw (rule.overflow s at n e)
+  width_read (Err (int.Short n)) e = rw (rule.short s at n e)
+  width_read (Err (int.Overflow n)) e = rw (rule.overflow s at n e)
 
-  pub of_width : (r : Field) → r ≡ read_width k s at → field_read at r ≡ integer_of k s at
+  pub of_width : field_read at (read_width k s at) ≡ integer_of k s at
   unfolding integer_of integer
-  of_width r p = rw p (width_read (read_int s at) refl)
+  of_width = width_read (read_int s at) refl
 
   -- a value of k bits is below 2^k
-  pub width_small : (r : Field) → r ≡ read_width k s at → (v next : ℕ) → r ≡ field.Value v next → v < 2 ^ k
-  width_small r p v next e = rule.small s at v next (sym p ∙ e)
+  width_small : (f : Result (ℕ × ℕ) FieldError) → f ≡ read_width k s at → (v next : ℕ) → got v next ≡ field_read at f → v < 2 ^ k
+  unfolding field_read
+  width_small (Ok (w, end)) e v next p = let l : w < 2 ^ k = rule.small s at w end (sym e) in rw (same_value v w next end p) l
+  width_small (Err field.Short) e v next p = absurd (cc)
+  width_small (Err field.OutOfRange) e v next p = absurd (cc)
 
--- ---- what an enum says was read
-pub field-got : (at : ℕ) (x : Read ℕ) (r : Field) → field_read at r ≡ x → (v next : ℕ) → r ≡ field.Value v next → x ≡ got v next
-unfolding field_read
-field-got at x r p v next e = sym p ∙ rw e
+  pub word_fits : (v next : ℕ) → got v next ≡ field_read at (read_width k s at) → v < 2 ^ k
+  word_fits v next p = width_small (read_width k s at) refl v next p
 
-pub field-short : (at : ℕ) (x : Read ℕ) (r : Field) → field_read at r ≡ x → r ≡ field.Short → x ≡ short at
-unfolding field_read
-field-short at x r p e = sym p ∙ rw e
+-- ---- an integer with a test: what wire's reader of 64 bits gives, if it passes
+module _ (ok : ℕ → Bool) (s : List ℕ) (at : ℕ) where
+  value_read : (i : Result (ℕ × ℕ) IntError) → read_int s at ≡ i → and_then (field_read at (read_width 64 s at)) (λ v next. accepted (ok v) v at next) ≡ tested ok at i
+  unfolding tested field_read accepted
+  value_read (Ok (v, next)) e = rw ((width-rule 64 (lit≤ tt)).within s at v next e (value-small s at v next e))
+  value_read (Err (int.Short n)) e = rw ((width-rule 64 (lit≤ tt)).short s at n e)
+  value_read (Err (int.Overflow n)) e = rw ((width-rule 64 (lit≤ tt)).overflow s at n e)
 
-pub field_out : (at : ℕ) (x : Read ℕ) (r : Field) → field_read at r ≡ x → r ≡ field.OutOfRange → x ≡ outside at
-unfolding field_read
-field_out at x r p e = sym p ∙ rw e
+  of_value : and_then (field_read at (read_width 64 s at)) (λ v next. accepted (ok v) v at next) ≡ integer ok s at
+  unfolding integer
+  of_value = value_read (read_int s at) refl
 
-pub int_got : (x : Read ℕ) (r : IntRead) → int_read r ≡ x → (v next : ℕ) → r ≡ int-read.Value v next → x ≡ got v next
-unfolding int_read
-int_got x r p v next e = sym p ∙ rw e
+  pub value_taken : (v next : ℕ) → got v next ≡ field_read at (read_width 64 s at) → accepted (ok v) v at next ≡ integer ok s at
+  value_taken v next e = rw (← e) at of_value
 
-pub word_got : (x : Read ℕ) (r : Word) → word_read r ≡ x → (v next : ℕ) → r ≡ word.Value v next → x ≡ got v next
-unfolding word_read
-word_got x r p v next e = sym p ∙ rw e
+  pub value_missing : (f : Fault) → failed f ≡ field_read at (read_width 64 s at) → failed f ≡ integer ok s at
+  value_missing f e = rw (← e) at of_value
 
-pub word-failed : (x : Read ℕ) (r : Word) → word_read r ≡ x → (f : Fault) → r ≡ word.Failed f → x ≡ failed f
-unfolding word_read
-word-failed x r p f e = sym p ∙ rw e
-
--- ---- `read_word`
-module _ (s : List ℕ) (at : ℕ) (r : Field) (p : r ≡ read_width 32 s at) where
-  pub word_value : (v next : ℕ) → r ≡ field.Value v next → word_read (word.Value v next) ≡ integer_of 32 s at
-  unfolding word_read
-  word_value v next e = sym (field-got at (integer_of 32 s at) r (of_width 32 (lit≤ tt) s at r p) v next e)
-
-  pub word-short : r ≡ field.Short → word_read (word.Failed (fault failure.Short at)) ≡ integer_of 32 s at
-  unfolding word_read
-  word-short e = sym (field-short at (integer_of 32 s at) r (of_width 32 (lit≤ tt) s at r p) e)
-
-  pub word_out : r ≡ field.OutOfRange → word_read (word.Failed (fault failure.OutOfRange at)) ≡ integer_of 32 s at
-  unfolding word_read
-  word_out e = sym (field_out at (integer_of 32 s at) r (of_width 32 (lit≤ tt) s at r p) e)
-
-  pub word_fits : (v next : ℕ) → r ≡ field.Value v next → v < 2 ^ 32
-  word_fits v next e = width_small 32 (lit≤ tt) s at r p v next e
-
-pub ruleset word_laws = (rules, word_value, word-short, word_out, word_fits)
-
--- ---- `read_part`
-module _ (n : ℕ) (s : List ℕ) (at : ℕ) where
-  pub past : length s < at → part_read (part.Failed (fault failure.Short at)) ≡ bytes n s at
-  unfolding bytes part_read
-  past h = let l : length s < at + n = omega arith in rw (lt-leb (at + n) (length s) l)
-
-  pub few : length s - at < n → part_read (part.Failed (fault failure.Short at)) ≡ bytes n s at
-  unfolding bytes part_read
-  few h = let l : length s < at + n = omega arith in rw (lt-leb (at + n) (length s) l)
-
-  pub enough : at ≤ length s → n ≤ length s - at → part_read (part.Bytes at n (at + n)) ≡ bytes n s at
-  unfolding bytes part_read
-  enough h k = let l : at + n ≤ length s = omega arith in rw (le-leb (at + n) (length s) l)
-
-pub ruleset part-laws = (rules, past, few, enough)
+pub ruleset value_laws = (value_taken, value_missing)

@@ -6,13 +6,9 @@ use mathlib.Core.Path.{◌≡◌, refl, sym, ◌∙◌}
 use mathlib.Core.List.{List, [], ◌∷◌, ◌++◌, append_assoc, append-nil}
 use lib.ListN.{length, get_or, take, drop, set, replicate, length-set, length-replicate, drop_of_length-le}
 use lib.Seq.{drop-cons, take-suc-set, take_all}
-use borrow.Author.Rules.{rules}
 use Rattle.store.proofs.Rules.{slot-count, rate-count}
 use Rattle.body.specs.declared.Fault.{Fault}
-use Rattle.body.specs.declared.Reading.TheVariants as reading
 use Rattle.body.specs.Fields.{Read, got, failed, Reader, and_then, for_each}
-use Rattle.body.specs.Results.{read_as}
-use Rattle.body.proofs.FieldLaws.{field-got, field-short, field_out, word_got, word-failed}
 
 -- the values xs, and then what was read
 unfoldable pub following : List ℕ → Read (List ℕ) → Read (List ℕ)
@@ -25,7 +21,7 @@ following-none (got ys next) = refl
 following-none (failed f) = refl
 
 following-one : (xs : List ℕ) (v : ℕ) (x : Read (List ℕ)) → following xs (and_then x λ ys next. got (v ∷ ys) next) ≡ following (xs ++ (v ∷ [])) x
-unfolding following and_then
+unfolding following
 following-one xs v (got ys next) = rw append_assoc
 following-one xs v (failed f) = refl
 
@@ -47,8 +43,8 @@ start field ts n s at h = record {
 module _ {field : ℕ → Reader ℕ} {ts : List ℕ} {n : ℕ} {s : List ℕ} {at : ℕ} {vs : List ℕ} {position i : ℕ}
     (k : Filling field ts n s at vs position i) where
   -- all are read
-  pub done : n ≤ i → read_as (reading.Whole position) vs ≡ for_each field ts s at
-  unfolding read_as following for_each
+  pub done : n ≤ i → got vs position ≡ for_each field ts s at
+  unfolding following for_each
   done h =
       let l : length ts ≤ i = omega (arith, k.size) in
       let e : drop i ts ≡ [] = drop_of_length-le ts l in
@@ -64,20 +60,18 @@ module _ {field : ℕ → Reader ℕ} {ts : List ℕ} {n : ℕ} {s : List ℕ} {
         let l : i < length ts = omega (arith, k.size) in
         k.rest ∙ rw (drop-cons ts i 0 l, ← q)
 
-    pub stop : (f : Fault) → field t s position ≡ failed f → read_as (reading.Failed f) vs ≡ for_each field ts s at
-    unfolding read_as following and_then
-    stop f e = sym (next_one ∙ rw e)
+    pub stop : (f : Fault) → failed f ≡ field t s position → failed f ≡ for_each field ts s at
+    unfolding following
+    stop f e = sym (next_one ∙ rw (← e))
 
-    pub turn : (v next : ℕ) → field t s position ≡ got v next → Filling field ts n s at (set vs i v) next (i + 1)
-    unfolding and_then
+    pub turn : (v next : ℕ) → got v next ≡ field t s position → Filling field ts n s at (set vs i v) next (i + 1)
     turn v next e =
         let l : i < length vs = omega (arith, k.full) in
         record {
           size = k.size;
           full = length-set vs i v ∙ k.full;
           up = omega arith;
-          rest = next_one ∙ rw (e, add-one, take-suc-set vs i v l) (following-one (take i vs) v (for_each field (drop (suc i) ts) s next));
+          rest = next_one ∙ rw (← e, add-one, take-suc-set vs i v l) (following-one (take i vs) v (for_each field (drop (suc i) ts) s next));
         }
 
-pub ruleset filling-laws =
-    (rules, start, done, stop, turn, slot-count, rate-count, field-got, field-short, field_out, word_got, word-failed)
+pub ruleset filling_laws = (start, done, stop, turn, slot-count, rate-count)

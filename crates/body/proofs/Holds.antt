@@ -1,6 +1,8 @@
 -- What holds of a value that was read and of the position after it: a type by cases on what reading gave.
+use Rattle.std.specs.Prelude.{Result, Ok}
 use Prim.Native.Nat.{ℕ}
-use mathlib.Core.Path.{◌≡◌, refl, subst}
+use native.Mathlib.Omega.{arith}
+use mathlib.Core.Path.{◌≡◌, refl, ap, subst}
 use mathlib.Core.Bool.{Bool, true, false, cond}
 use Rattle.body.specs.declared.Fault.{Fault}
 use Rattle.body.specs.Fields.{Read, got, failed, and_then}
@@ -41,6 +43,23 @@ module _ {A : Type 0} (P Q : A → ℕ → Type 0) where
 -- of fields one after another
 module _ {A B : Type 0} (P : A → ℕ → Type 0) (Q : B → ℕ → Type 0) where
   pub holds_then : (x : Read A) (f : A → ℕ → Read B) → Holds P x → ((a : A) (n : ℕ) → P a n → Holds Q (f a n)) → Holds Q (and_then x f)
-  unfolding Holds and_then
+  unfolding Holds
   holds_then (got a n) f h k = k a n h
   holds_then (failed g) f h k = tt
+
+-- two readings that agree
+module _ {A E : Type 0} (a b : A) (m n : ℕ) (e : ◌≡◌ {A = Result (A × ℕ) E} (Ok (a, m)) (Ok (b, n))) where
+  same_pair : ◌≡◌ {A = A × ℕ} (a, m) (b, n)
+  same_pair = cc
+
+  pub same_value : a ≡ b
+  same_value = ap (λ (p : A × ℕ). p.0) same_pair
+
+  pub same_next : m ≡ n
+  same_next = ap (λ (p : A × ℕ). p.1) same_pair
+
+-- a field that was read, and what came after it
+pub then-got : {A B : Type 0} (x : Read A) (f : A → ℕ → Read B) (b : B) (n : ℕ) → and_then x f ≡ got b n
+    → (a : A) × (k : ℕ) × (x ≡ got a k) × (f a k ≡ got b n)
+then-got (got a k) f b n e = (a, k, refl, e)
+then-got (failed g) f b n e = absurd (let z : ◌≡◌ {A = ℕ} 0 1 = cc in omega arith)

@@ -2,10 +2,8 @@ pub mod Holds
 pub mod FieldLaws
 pub mod Filling
 pub mod Taken
-pub mod OtherLaws
 pub mod Within
 pub mod Behind
-pub mod Given
 pub mod Spans
 pub mod Encoding
 pub mod UpdateEncoding

@@ -1,5 +1,5 @@
 -- Bytes stand for one update or definition only: where the encodings of two, each with bytes behind it, are equal, so are their fields.
-use Prim.Native.Nat.{ℕ, ◌^◌, ◌<◌, min, ◌≤◌}
+use Prim.Native.Nat.{ℕ, ◌+◌, ◌^◌, ◌<◌, min, ◌≤◌}
 use native.Mathlib.Omega.{arith}
 use mathlib.Core.Path.{◌≡◌, refl, sym, ap, ◌∙◌}
 use mathlib.Core.List.{List, [], ◌∷◌, ◌++◌, append_assoc}
@@ -30,6 +30,7 @@ use Rattle.store.proofs.Rules.{slot-count, rate-count}
 use Rattle.body.specs.declared.update.Form.{Form}
 use Rattle.body.specs.Encodings.{message_bytes, each_bytes, key_bytes, server_bytes, value_bytes, data_bytes, entry_bytes, number_if, update_bytes, period_bytes, times_bytes, definition_bytes}
 use Rattle.body.proofs.Taken.{Along, along-from}
+use Rattle.body.proofs.Holds.{same_value}
 
 -- ---- bytes before others
 
@@ -46,13 +47,14 @@ part-once k l p q n e =
 integer-once : (v w : ℕ) (p q : List ℕ) → v < 2 ^ 64 → w < 2 ^ 64 → encode_int v ++ p ≡ encode_int w ++ q → (v ≡ w) × (p ≡ q)
 integer-once v w p q l k e =
     let r = sym (round_trip [] p v l) ∙ (ap (λ (x : List ℕ). read_int x 0) e ∙ round_trip [] q w k) in
-    let same : v ≡ w = cc in
+    let same : v ≡ w = same_value v w _ _ r in
     (same, rest-once (encode_int v) p q (e ∙ ap (λ (n : ℕ). encode_int n ++ q) (sym same)))
 
 number-once : (v w : ℕ) (p q : List ℕ) → v < 2 ^ 32 → w < 2 ^ 32 → encode_number v ++ p ≡ encode_number w ++ q → (v ≡ w) × (p ≡ q)
 number-once v w p q l k e =
     let r = sym (number-trip [] p v l) ∙ (ap (λ (x : List ℕ). read_number x 0) e ∙ number-trip [] q w k) in
-    let same : v ≡ w = cc in
+    let pair : ◌≡◌ {A = ℕ × ℕ} (v, length {A = ℕ} [] + 4) (w, length {A = ℕ} [] + 4) = cc in
+    let same : v ≡ w = ap (λ (x : ℕ × ℕ). x.0) pair in
     (same, rest-once (encode_number v) p q (e ∙ ap (λ (n : ℕ). encode_number n ++ q) (sym same)))
 
 number-if-once : (there : Bool) (v w : ℕ) (p q : List ℕ) → v < 2 ^ 32 → w < 2 ^ 32 → number_if there v ++ p ≡ number_if there w ++ q

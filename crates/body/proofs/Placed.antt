@@ -1,4 +1,5 @@
 -- The bytes of a field at a position of a longer body read as that field: of integers over the test, of bytes, and of a field for each type.
+use Rattle.std.specs.Prelude.{Ok, Some}
 use Prim.Native.Nat.{ℕ, ◌+◌, ◌^◌, ◌≤◌, ◌<◌}
 use native.Mathlib.Omega.{arith}
 use mathlib.Core.Path.{◌≡◌, refl, sym, ap, ◌∙◌}
@@ -9,9 +10,6 @@ use lib.IntN.{ℤ}
 use lib.Signed.{mag}
 use lib.Seq.{drop-drop, drop-length, drop-append_seam, take-append_seam, length-take-le}
 use borrow.Author.Tests.{le-leb, lt-ltb}
-use Rattle.wire.specs.declared.Int.TheVariants as int
-use Rattle.wire.specs.declared.fixed.FourBytes.TheVariants as number
-use Rattle.wire.specs.declared.values.ServerId.TheVariants as server
 use Rattle.wire.specs.Integer.{encode_int, read_int}
 use Rattle.wire.specs.Number.{encode_number, read_number}
 use Rattle.wire.specs.Server.{server_word, read_server_id}
@@ -19,7 +17,7 @@ use Rattle.wire.proofs.RoundTrip.{round_trip}
 use Rattle.wire.proofs.Numbers.{number-trip, number-length}
 use Rattle.wire.proofs.values.Server.{server-trip}
 use Rattle.store.specs.Limits.{present}
-use Rattle.body.specs.Fields.{got, Reader, and_then, for_each, tested, integer, integer_of, span_in, bytes, number_read, number4, server_read, server_id}
+use Rattle.body.specs.Fields.{got, Reader, for_each, tested, integer, integer_of, span_in, bytes, field_read, number_read, number4, server_id}
 use Rattle.body.specs.Encodings.{each_bytes}
 use Rattle.body.specs.ReadBack.{present_only}
 use Rattle.body.proofs.Taken.{Along}
@@ -75,7 +73,7 @@ module _ {A : Type 0} (f : List ℕ → ℕ → A) (g : ℕ → A) (bs : List �
 module _ {s : List ℕ} {at next : ℕ} where
   pub integer-placed : (ok : ℕ → Bool) (v : ℕ) → v < 2 ^ 64 → ok v ≡ true → Placed s (encode_int v) at next → integer ok s at ≡ got v next
   unfolding integer tested
-  integer-placed ok v l h p = rw (placed-trip read_int (int.Value v) (encode_int v) (λ q t. round_trip q t v l) p, h)
+  integer-placed ok v l h p = rw (placed-trip read_int (λ (n : ℕ). Ok (v, n)) (encode_int v) (λ q t. round_trip q t v l) p, h)
 
   pub width-placed : (k v : ℕ) → v < 2 ^ 64 → v < 2 ^ k → Placed s (encode_int v) at next → integer_of k s at ≡ got v next
   unfolding integer_of
@@ -84,13 +82,13 @@ module _ {s : List ℕ} {at next : ℕ} where
   pub number-placed : (v : ℕ) → v < 2 ^ 32 → Placed s (encode_number v) at next → number4 s at ≡ got v next
   unfolding number4 number_read
   number-placed v l p =
-      rw (placed-trip read_number (number.Value v) (encode_number v)
-      (λ q t. number-trip q t v l ∙ ap (λ (n : ℕ). number.Value v (length q + n)) (sym (number-length v))) p)
+      rw (placed-trip read_number (λ (n : ℕ). Some (v, n)) (encode_number v)
+      (λ q t. number-trip q t v l ∙ ap (λ (n : ℕ). Some (v, (length q + n))) (sym (number-length v))) p)
 
   pub server-placed : (z : ℤ) → mag z < 2 ^ 31 → Placed s (encode_int (server_word z)) at next → server_id s at ≡ got z next
-  unfolding server_id server_read
+  unfolding server_id field_read
   server-placed z l p =
-      rw (placed-trip read_server_id (server.Id z) (encode_int (server_word z)) (λ q t. server-trip q t z (record { sfits = l })) p)
+      rw (placed-trip read_server_id (λ (n : ℕ). Ok (z, n)) (encode_int (server_word z)) (λ q t. server-trip q t z (record { sfits = l })) p)
 
   pub bytes-placed : (bs : List ℕ) → Placed s bs at next → bytes (length bs) s at ≡ got (record { start = at; len = length bs }) next
   unfolding bytes
@@ -107,7 +105,7 @@ module _ (field : ℕ → Reader ℕ) (encode : ℕ → ℕ → List ℕ) (types
     (one : (t v at next : ℕ) → Q t v → Placed s (encode t v) at next → field t s at ≡ got (cond (present types t) v 0) next) where
   pub each_placed : (ts vs : List ℕ) → Along Q ts vs → (at next : ℕ) → Placed s (each_bytes encode ts vs) at next
       → for_each field ts s at ≡ got (present_only types ts vs) next
-  unfolding for_each each_bytes present_only Along and_then
+  unfolding for_each each_bytes present_only Along
   each_placed [] [] a at next p = ap (got []) (sym (placed-none p))
   each_placed [] (v ∷ vs) a at next p = absurd a
   each_placed (t ∷ ts) [] a at next p = absurd a

@@ -1,4 +1,5 @@
 -- What holds of a value that was read, and that it ends within the body: of fields one after another and of each field.
+use Rattle.std.specs.Prelude.{Err, Ok, Result, ℤ}
 use Prim.Native.Nat.{ℕ, zero, suc, ◌+◌, ◌^◌, ◌≤◌, ◌<◌}
 use native.Mathlib.Omega.{arith}
 use mathlib.Core.Path.{◌≡◌, refl, ap, ◌∙◌}
@@ -9,10 +10,10 @@ use lib.Signed.{mag}
 use lib.Dec.{ltb, leb}
 use borrow.Author.Tests.{le-leb, lt-leb, ltb-true, leb-true}
 use Rattle.lists.proofs.Cases.{lt-or-le, and_first, and_second, split}
-use Rattle.wire.specs.declared.Int.{Int}
-use Rattle.wire.specs.declared.Int.TheVariants as int
-use Rattle.wire.specs.declared.values.ServerId.{ServerId}
-use Rattle.wire.specs.declared.values.ServerId.TheVariants as server
+use Rattle.wire.specs.declared.IntError.{IntError}
+use Rattle.wire.specs.declared.values.FieldError.{FieldError}
+use Rattle.wire.specs.declared.IntError.TheVariants as int
+use Rattle.wire.specs.declared.values.FieldError.TheVariants as server
 use Rattle.wire.specs.Integer.{read_int}
 use Rattle.wire.specs.Server.{read_server_id}
 use Rattle.wire.specs.Value.{Bytes}
@@ -23,7 +24,7 @@ use Rattle.store.specs.Shape.{Cells}
 use Rattle.store.specs.Limits.{plain_name}
 use Rattle.body.specs.declared.Failure.TheVariants as failure
 use Rattle.body.proofs.Holds.{Holds, held, holds-got, holds-failed, holds-cond, holds-each, holds_then}
-use Rattle.body.specs.Fields.{Read, got, fault, outside, Reader, and_then, for_each, tested, integer, between, integer_of, Span, span_in, bytes, number_read, number4, server_read, server_id}
+use Rattle.body.specs.Fields.{Read, got, fault, outside, Reader, and_then, for_each, tested, integer, between, integer_of, Span, span_in, bytes, field_read, number_read, number4, server_id}
 use Rattle.body.specs.Bodies.{name_field}
 
 -- ---- a value with P, read from `at` up to `next` within the body s
@@ -104,7 +105,7 @@ module _ (Q : ℕ → ℕ → Type 0) where
 unfoldable pub Tested : (ℕ → Bool) → ℕ → Type 0
 Tested ok v = (ok v ≡ true) × (v < 2 ^ 64)
 
-tested-cond : (ok : ℕ → Bool) (s : List ℕ) (at v next : ℕ) (b : Bool) → ok v ≡ b → read_int s at ≡ int.Value v next
+tested-cond : (ok : ℕ → Bool) (s : List ℕ) (at v next : ℕ) (b : Bool) → ok v ≡ b → read_int s at ≡ Ok (v, next)
     → Holds (Taken (Tested ok) s at) (cond b (got v next) (outside at))
 unfolding Holds Tested
 tested-cond ok s at v next true e q =
@@ -112,11 +113,11 @@ tested-cond ok s at v next true e q =
     record { fact = (e, value-small s at v next q); on = omega arith; end = omega arith }
 tested-cond ok s at v next false e q = tt
 
-tested-int : (ok : ℕ → Bool) (s : List ℕ) (at : ℕ) (i : Int) → read_int s at ≡ i → Holds (Taken (Tested ok) s at) (tested ok at i)
+tested-int : (ok : ℕ → Bool) (s : List ℕ) (at : ℕ) (i : (Result (ℕ × ℕ) IntError)) → read_int s at ≡ i → Holds (Taken (Tested ok) s at) (tested ok at i)
 unfolding Holds tested
-tested-int ok s at (int.Value v next) q = tested-cond ok s at v next (ok v) refl q
-tested-int ok s at (int.Short k) q = tt
-tested-int ok s at (int.Overflow k) q = tt
+tested-int ok s at (Ok (v, next)) q = tested-cond ok s at v next (ok v) refl q
+tested-int ok s at (Err (int.Short k)) q = tt
+tested-int ok s at (Err (int.Overflow k)) q = tt
 
 pub integer-holds : (ok : ℕ → Bool) (s : List ℕ) (at : ℕ) → Holds (Taken (Tested ok) s at) (integer ok s at)
 unfolding integer
@@ -170,30 +171,30 @@ number-holds s at =
     rw (number-value s at l)
     (record { fact = λ b. (number-own s at _ _ b (number-value s at l)).0; on = omega arith; end = l }))
 
-server-id : (s : List ℕ) (at : ℕ) (r : ServerId) → read_server_id s at ≡ r → Holds (Taken (λ z. mag z < 2 ^ 31) s at) (server_read at r)
-unfolding Holds server_read
-server-id s at (server.Id z next) q =
+server-id : (s : List ℕ) (at : ℕ) (r : (Result (ℤ × ℕ) FieldError)) → read_server_id s at ≡ r → Holds (Taken (λ z. mag z < 2 ^ 31) s at) (field_read at r)
+unfolding Holds field_read
+server-id s at (Ok (z, next)) q =
     let a = server-advance s at z next q in
     record { fact = (server-own s at z next q).0.sfits; on = omega arith; end = omega arith }
-server-id s at server.Short q = tt
-server-id s at server.OutOfRange q = tt
+server-id s at (Err server.Short) q = tt
+server-id s at (Err server.OutOfRange) q = tt
 
 pub server-holds : (s : List ℕ) (at : ℕ) → Holds (Taken (λ z. mag z < 2 ^ 31) s at) (server_id s at)
 unfolding server_id
 server-holds s at = server-id s at (read_server_id s at) refl
 
 -- an integer that was read stands there
-value-stands : (ok : ℕ → Bool) (s : List ℕ) (at : ℕ) (i : Int) → read_int s at ≡ i → Holds (λ v next. read_int s at ≡ int.Value v next) (tested ok at i)
+value-stands : (ok : ℕ → Bool) (s : List ℕ) (at : ℕ) (i : (Result (ℕ × ℕ) IntError)) → read_int s at ≡ i → Holds (λ v next. read_int s at ≡ Ok (v, next)) (tested ok at i)
 unfolding tested
-value-stands ok s at (int.Value v next) q =
-    let P : ℕ → ℕ → Type 0 = λ w end. read_int s at ≡ int.Value w end in
+value-stands ok s at (Ok (v, next)) q =
+    let P : ℕ → ℕ → Type 0 = λ w end. read_int s at ≡ Ok (w, end) in
     holds-cond P (ok v) _ _ (λ t. holds-got P v next q) (λ t. holds-failed P _)
-value-stands ok s at (int.Short k) q = holds-failed (λ w end. read_int s at ≡ int.Value w end) _
-value-stands ok s at (int.Overflow k) q = holds-failed (λ w end. read_int s at ≡ int.Value w end) _
+value-stands ok s at (Err (int.Short k)) q = holds-failed (λ w end. read_int s at ≡ Ok (w, end)) _
+value-stands ok s at (Err (int.Overflow k)) q = holds-failed (λ w end. read_int s at ≡ Ok (w, end)) _
 
-pub integer-value : (ok : ℕ → Bool) (s : List ℕ) (at v next : ℕ) → integer ok s at ≡ got v next → read_int s at ≡ int.Value v next
+pub integer-value : (ok : ℕ → Bool) (s : List ℕ) (at v next : ℕ) → integer ok s at ≡ got v next → read_int s at ≡ Ok (v, next)
 unfolding integer
-integer-value ok s at v next e = held (λ w end. read_int s at ≡ int.Value w end) _ (value-stands ok s at (read_int s at) refl) v next e
+integer-value ok s at v next e = held (λ w end. read_int s at ≡ Ok (w, end)) _ (value-stands ok s at (read_int s at) refl) v next e
 
 -- an integer that was read passes its test
 pub integer-passed : (ok : ℕ → Bool) (s : List ℕ) (at v next : ℕ) → integer ok s at ≡ got v next → ok v ≡ true

@@ -20,7 +20,7 @@ use Rattle.store.specs.Store.{key_of, no_table}
 use Rattle.store.proofs.Rules.{slot-count}
 use Rattle.store.proofs.Facts.{TableFacts, EntryFacts, key-most}
 use Rattle.body.specs.declared.update.Form.{Form}
-use Rattle.body.specs.Fields.{got, and_then, between, span_in}
+use Rattle.body.specs.Fields.{got, between, span_in}
 use Rattle.body.specs.Bodies.{string_field, key_field, server_field, slot_field, data_fields, entry_fields, number_or, timed_fields, update_fields}
 use Rattle.body.specs.Encodings.{each_bytes, key_bytes, server_bytes, value_bytes, data_bytes, entry_bytes, number_if, update_bytes, entry_start}
 use Rattle.body.specs.ReadBack.{present_only, update_back, Sendable, UpdatesReadBack}
@@ -106,7 +106,7 @@ module _ (s : List ℕ) where
       bytes : span_in s (record { start = start at; len = length key }) ≡ key
 
     key-placed : (at next : ℕ) → Placed s (key_bytes t.key_type key) at next → KeyAt at next
-    unfolding key_field key_bytes string_field and_then
+    unfolding key_field key_bytes string_field
     key-placed at next p =
         by-test (is_string (key_kind t.key_type))
         (λ h.
@@ -138,7 +138,7 @@ module _ (s : List ℕ) where
 
     data-placed : (at next : ℕ) → Placed s (data_bytes types e.server_id e.values) at next
         → data_fields types s at ≡ got (record { server = cond (present types 0) e.server_id (pos 0); values = present_only types slot_types e.values }) next
-    unfolding data_fields data_bytes and_then
+    unfolding data_fields data_bytes
     data-placed at next p =
         let xs = server_bytes types e.server_id in
         let ys = each_bytes (value_bytes types) slot_types e.values in
@@ -185,7 +185,7 @@ module _ (form : Form) (t : Table) (following id : ℕ) (e : Entry) (l : id < 2 
   given = by-test form.explicit (λ h. rw h) (λ h. rw h (sym (same h)))
 
   back : update_fields form t following body ≡ got (update_back form t id e) (length body)
-  unfolding update_fields timed_fields entry_fields and_then
+  unfolding update_fields timed_fields entry_fields
   back =
       rw (
         number-or-placed body form.explicit following id 0 _ (λ h. l) (placed_first id_bytes (time_bytes ++ entry_bytes t e) parts),

@@ -6,14 +6,18 @@ use Rattle.store.specs.declared.Table.{Table}
 use Rattle.store.specs.Limits.{name_max, plain_name, key_kind, is_known, is_string, key_length_ok, data_types_ok, present, width_of, slot_types, rate_types, rate_count}
 use Rattle.body.specs.declared.update.Form.{Form}
 use Rattle.body.specs.Fields.{Read, got, unplain, Reader, and_then, for_each, Span, span_in, integer, between, integer_of, bytes, number4, server_id}
+pub use Rattle.body.specs.declared.definition.Named.{Named}
+pub use Rattle.body.specs.declared.shape.Shape.{Shape}
+pub use Rattle.body.specs.declared.times.Times.{Times}
+pub use Rattle.body.specs.declared.definition.Definition.{Definition}
+pub use Rattle.body.specs.declared.Acknowledged.{Acknowledged}
+pub use Rattle.body.specs.declared.update_data.Data.{Data}
+pub use Rattle.body.specs.declared.update.Time.{Time}
+pub use Rattle.body.specs.declared.update.Update.{Update}
 
 -- ---- definition
 
--- "encoded sender's table ID, name length (1 to 32), name, .."; "IDs, expiry and periods are at most 2^32 - 1"
-pub record Named : Type 0 where
-  pub id : ℕ
-  pub name : Span
-
+-- a definition's ID and its name
 abbrev pub named : ℕ → ℕ → ℕ → Named
 named id start len = record { id = id; name = record { start = start; len = len } }
 
@@ -21,6 +25,7 @@ named id start len = record { id = id; name = record { start = start; len = len 
 unfoldable pub name_field : ℕ → Reader Span
 name_field n body at = and_then (bytes n body at) λ name at₁. cond (plain_name (span_in body name)) (got name at₁) (unplain at)
 
+-- "encoded sender's table ID, name length (1 to 32), name, .."; "IDs, expiry and periods are at most 2^32 - 1"
 unfoldable pub named_fields : Reader Named
 named_fields body at =
     and_then (integer_of 32 body at) λ id at₁.
@@ -28,16 +33,11 @@ named_fields body at =
     and_then (name_field len body at₂) λ name at₃.
     got (record { id = id; name = name }) at₃
 
--- ".. key type, key length, data types, .."
-pub record Shape : Type 0 where
-  pub key_type : ℕ
-  pub key_length : ℕ
-  pub data_types : ℕ
-
 -- request 1: "0, 1, 3 and all above 7 are 24, in the key type's place"
 unfoldable pub is_key_type : ℕ → Bool
 is_key_type n = is_known (key_kind n)
 
+-- ".. key type, key length, data types, .."
 unfoldable pub shape_fields : Reader Shape
 shape_fields body at =
     and_then (integer is_key_type body at) λ key_type at₁.
@@ -57,11 +57,6 @@ abbrev pub period_fields : ℕ → Reader (List ℕ)
 period_fields types = for_each (period_field types) rate_types
 
 -- ".. expiry and a pair (data type number, period) for each rate type present, ascending"
-pub record Times : Type 0 where
-  pub timed : ℕ
-  pub expiry : ℕ
-  pub periods : List ℕ
-
 unfoldable pub times_there : ℕ → Reader Times
 times_there types body at =
     and_then (integer_of 32 body at) λ expiry at₁.
@@ -74,14 +69,6 @@ no_times = record { timed = 0; expiry = 0; periods = replicate rate_count 0 }
 
 unfoldable pub times_fields : ℕ → Reader Times
 times_fields types body at = cond (eqb at (length body)) (got no_times at) (times_there types body at)
-
-pub record Definition : Type 0 where
-  pub id : ℕ
-  pub name : Span
-  pub key_type : ℕ
-  pub key_length : ℕ
-  pub data_types : ℕ
-  pub times : Times
 
 abbrev pub defined : Named → Shape → Times → Definition
 defined named shape times = record {
@@ -109,10 +96,6 @@ definition_fields body = and_then (named_fields body 0) λ named at₁. rest_fie
 -- "Switch: encoded ID"
 unfoldable pub switch_fields : List ℕ → Read ℕ
 switch_fields body = integer_of 32 body 0
-
-pub record Acknowledged : Type 0 where
-  pub id : ℕ
-  pub update : ℕ
 
 -- "Acknowledgement: encoded ID, 4-byte update ID."
 unfoldable pub acknowledgement_fields : List ℕ → Read Acknowledged
@@ -144,28 +127,13 @@ slot_field types t body at = cond (present types t) (integer_of (width_of t) bod
 abbrev pub value_fields : ℕ → Reader (List ℕ)
 value_fields types = for_each (slot_field types) slot_types
 
-pub record Data : Type 0 where
-  pub server : ℤ
-  pub values : List ℕ
-
 unfoldable pub data_fields : ℕ → Reader Data
 data_fields types body at =
     and_then (server_field types body at) λ server at₁.
     and_then (value_fields types body at₁) λ values at₂.
     got (record { server = server; values = values }) at₂
 
--- request 2: the remaining time of an entry in milliseconds, marked by 1, or none, marked by 0
-pub record Time : Type 0 where
-  pub timed : ℕ
-  pub remaining : ℕ
-
-pub record Update : Type 0 where
-  pub id : ℕ
-  pub time : Time
-  pub key : Span
-  pub server : ℤ
-  pub values : List ℕ
-
+-- an update of an entry; request 2: its remaining time in milliseconds, marked by 1, or none, marked by 0
 abbrev pub keyed : ℕ → Time → Span → Data → Update
 keyed id time key d = record { id = id; time = time; key = key; server = d.server; values = d.values }
 

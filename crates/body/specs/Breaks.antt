@@ -1,6 +1,6 @@
 -- Where a body broke, by request 10: what "the offset in the body, from 0, at which the failing field starts" says of the body.
-use Rattle.std.specs.Prelude.{ℕ, ◌+◌, ◌≤◌, ◌<◌, ◌≡◌, List, ◌++◌, true, false, ◌⊎◌, length, take}
-use Rattle.wire.specs.declared.Int.TheVariants as int
+use Rattle.std.specs.Prelude.{ℕ, ◌+◌, ◌≤◌, ◌<◌, ◌≡◌, List, ◌++◌, true, false, ◌⊎◌, length, take, Err, Ok}
+use Rattle.wire.specs.declared.IntError.TheVariants as int
 use Rattle.wire.specs.Integer.{read_int}
 use Rattle.store.specs.declared.Table.{Table}
 use Rattle.store.specs.Limits.{key_kind, is_string}
@@ -33,16 +33,16 @@ none_sized body start n = ⊥
 
 -- a definition's name, behind ID and length
 abbrev pub definition_sized : Sized
-definition_sized body start n = (id : ℕ) × ((at : ℕ) × ((read_int body 0 ≡ int.Value id at) × (read_int body at ≡ int.Value n start)))
+definition_sized body start n = (id : ℕ) × ((at : ℕ) × ((read_int body 0 ≡ Ok (id, at)) × (read_int body at ≡ Ok (n, start))))
 
 -- an acknowledgement's 4-byte update ID, behind its ID
 abbrev pub acknowledgement_sized : Sized
-acknowledgement_sized body start n = ((id : ℕ) × (read_int body 0 ≡ int.Value id start)) × (n ≡ 4)
+acknowledgement_sized body start n = ((id : ℕ) × (read_int body 0 ≡ Ok (id, start))) × (n ≡ 4)
 
 -- a key: a string, behind its length that stands at a position; another, with its table's key length, at that position
 abbrev pub key_sized : Table → ℕ → Sized
 key_sized t at body start n =
-    ((is_string (key_kind t.key_type) ≡ true) × (read_int body at ≡ int.Value n start))
+    ((is_string (key_kind t.key_type) ≡ true) × (read_int body at ≡ Ok (n, start)))
     ⊎ ((is_string (key_kind t.key_type) ≡ false) × ((start ≡ at) × (n ≡ t.key_len)))
 
 -- an update's 4-byte update ID, its 4-byte remaining time behind that, and its key behind both, where its form has them
@@ -56,15 +56,15 @@ update_sized form t body start n =
 -- 23: the body ends inside the field that starts at `start`
 pub data EndsInside (sized : Sized) (body : List ℕ) (start : ℕ) : Type 0 where
   -- an encoded integer: its offset plus the bytes looked at is the body's length
-  cut_integer : (looked : ℕ) → read_int body start ≡ int.Short looked → start + looked ≡ length body → EndsInside sized body start
+  cut_integer : (looked : ℕ) → read_int body start ≡ Err (int.Short looked) → start + looked ≡ length body → EndsInside sized body start
   -- another field: its offset plus its length is more than the body's length
   cut_sized : (n : ℕ) → sized body start n → length body < start + n → EndsInside sized body start
 
 -- 24, 30: the field that starts at `start` is whole, and `end` is the position after it
 pub data Ends (sized : Sized) (body : List ℕ) (start end : ℕ) : Failure → Type 0 where
-  whole_integer : (v : ℕ) → read_int body start ≡ int.Value v end → Ends sized body start end failure.OutOfRange
+  whole_integer : (v : ℕ) → read_int body start ≡ Ok (v, end) → Ends sized body start end failure.OutOfRange
   -- an integer that overflows, with the bytes looked at
-  overflowing : (looked : ℕ) → read_int body start ≡ int.Overflow looked → start + looked ≡ end → Ends sized body start end failure.OutOfRange
+  overflowing : (looked : ℕ) → read_int body start ≡ Err (int.Overflow looked) → start + looked ≡ end → Ends sized body start end failure.OutOfRange
   -- a name
   whole_name : (n : ℕ) → sized body start n → start + n ≡ end → Ends sized body start end failure.NotPlain
 

@@ -9,7 +9,7 @@ use Rattle.store.specs.declared.Table.{Table}
 use Rattle.store.specs.declared.Entry.{Entry}
 use Rattle.store.specs.Limits.{is_plain, plain_name, key_kind, key_length_ok, data_types_ok, present, is_rate, is_wide, width_of, integers_of, slots_for, slot_types, rate_types}
 use Rattle.store.specs.Store.{name_of, key_of}
-use Rattle.body.specs.Fields.{got, short, outside, unplain, and_then, for_each, tested, integer, between, integer_of, span_in, bytes, number_read, number4, server_read, server_id}
+use Rattle.body.specs.Fields.{got, short, outside, unplain, for_each, tested, integer, between, integer_of, span_in, bytes, field_read, number_read, number4, server_id}
 use Rattle.body.specs.Bodies.{name_field, named_fields, is_key_type, shape_fields, pair_field, period_field, Times, no_times, times_there, times_fields, Definition, rest_fields, definition_fields, switch_fields, acknowledgement_fields, string_field, key_field, server_field, slot_field, data_fields, Update, entry_fields, number_or, time_mark, timed_fields, update_fields, form_of}
 use Rattle.body.specs.declared.update.Form.{Form}
 use Rattle.body.specs.Encodings.{message_bytes, body_start, each_bytes, key_bytes, server_bytes, value_bytes, data_bytes, entry_bytes, number_if, update_bytes, server_start, slot_start, period_bytes, times_bytes, definition_bytes}
@@ -82,7 +82,7 @@ record DefinitionExamples : Type 0 where
   more-types : definition_fields (named (0x02 ∷ 0x04 ∷ 0xF0 ∷ 0xF1 ∷ 0xFE ∷ 0x00 ∷ [])) ≡ outside 6
 
 definition-examples : DefinitionExamples
-unfolding definition_fields rest_fields named_fields name_field plain_name is_plain every among span_in shape_fields is_key_type times_fields times_there period_field pair_field and_then for_each tested integer between integer_of bytes read_int read_first with_later later_bytes before weighted fitting key_kind key_length_ok data_types_ok present rate_types
+unfolding definition_fields rest_fields named_fields name_field plain_name is_plain every among span_in shape_fields is_key_type times_fields times_there period_field pair_field for_each tested integer between integer_of bytes read_int read_first with_later later_bytes before weighted fitting key_kind key_length_ok data_types_ok present rate_types
 definition-examples = record {
   whole = refl;
   behind = refl;
@@ -128,7 +128,7 @@ record OtherExamples : Type 0 where
   acknowledgement-cut : acknowledgement_fields (0x01 ∷ 0xFF ∷ 0xFF ∷ 0xFF ∷ []) ≡ short 1
 
 other-examples : OtherExamples
-unfolding switch_fields acknowledgement_fields and_then tested integer integer_of number4 number_read read_int read_first with_later later_bytes before weighted fitting read_number number_of
+unfolding switch_fields acknowledgement_fields tested integer integer_of number4 number_read read_int read_first with_later later_bytes before weighted fitting read_number number_of
 other-examples = record { switch = refl; switch-over = refl; switch-cut = refl; acknowledgement = refl; acknowledgement-cut = refl }
 
 -- ---- update
@@ -250,7 +250,7 @@ record UpdateExamples : Type 0 where
   cut-string : update_fields form129 (table 6 2 0) 0 (0x02 ∷ 0x61 ∷ []) ≡ short 1
 
 update-examples : UpdateExamples
-unfolding update_fields number_or time_mark timed_fields entry_fields key_field string_field data_fields server_field slot_field and_then for_each tested integer between integer_of bytes number4 number_read server_id server_read read_int read_first with_later later_bytes before weighted fitting read_number number_of read_server_id server_of server_before server_id_of key_kind present is_rate is_wide among width_of integers_of slots_for slot_types rate_types
+unfolding update_fields number_or time_mark timed_fields entry_fields key_field string_field data_fields server_field slot_field for_each tested integer between integer_of bytes number4 number_read server_id field_read read_int read_first with_later later_bytes before weighted fitting read_number number_of read_server_id server_of server_before server_id_of key_kind present is_rate is_wide among width_of integers_of slots_for slot_types rate_types
 update-examples = record {
   whole = refl;
   behind = refl;

@@ -1,6 +1,6 @@
 pub mod Fields
+pub mod Reading
 pub mod Bodies
-pub mod Results
 pub mod Encodings
 pub mod ReadBack
 pub mod Breaks

@@ -1,152 +1,84 @@
 // The fields of a definition, read from its body.
 ghost use Rattle.std.specs.Prelude.{◌≡◌};
-ghost use Rattle.body.specs.Bodies.{named, name_field, named_fields, rest_fields, definition_fields};
-ghost use Rattle.body.specs.Results.{part_read, named_read, definition_struct, no_definition, definition_body};
+ghost use Rattle.body.specs.Reading.{Reads};
+ghost use Rattle.body.specs.Bodies.{name_field, named_fields, rest_fields, definition_fields};
 
-use crate::shape::{ShapeRead, read_shape};
-use crate::times::read_times;
-use crate::{Failure, Fault, IntRead, PartRead, Reading, Word, read_between, read_part, read_word};
+use crate::reader::BodyReader;
+use crate::shape::read_shape;
+use crate::times::{Times, read_times};
+use crate::{Failure, Fault, Span};
+use store::NAME_MAX;
 use store::names::plain_name;
-use store::{NAME_MAX, RATES};
 
 // A definition's ID and name.
 #[derive(Clone, Copy)]
-pub enum NamedRead {
-    Fields {
-        id: u32,
-        name_at: usize,
-        name_len: usize,
-        next: usize,
-    },
-    Failed(Fault),
-}
-
-// The fields of a definition. Its name stands in the body from `name_at` on. `timed` is 1 where the body has expiry and periods.
-#[derive(Clone, Copy)]
-pub struct DefinitionBody {
-    pub reading: Reading,
+pub struct Named {
     pub id: u32,
-    pub name_at: usize,
-    pub name_len: usize,
-    pub key_type: u32,
-    pub key_len: u32,
-    pub data_types: u32,
-    pub timed: u32,
-    pub expiry: u32,
-    pub periods: [u32; RATES],
-}
-
-// The `n` bytes at `at`, which are a name if they are plain.
-fn read_name(n: usize, body: &[u8], at: usize) -> PartRead
-    ensures { part_read result ≡ name_field n body.now at }
-{
-    match read_part(n, body, at) {
-        PartRead::Bytes { start, len, next } => {
-            if plain_name(&body[start..next]) {
-                return PartRead::Bytes { start, len, next };
-            }
-            PartRead::Failed(Fault {
-                failure: Failure::NotPlain,
-                start: at,
-            })
-        }
-        PartRead::Failed(f) => PartRead::Failed(f),
-    }
-}
-
-// The ID, the name's length and the name at `at`.
-fn read_named(body: &[u8], at: usize) -> NamedRead
-    ensures { named_read result ≡ named_fields body.now at }
-{
-    match read_word(body, at) {
-        Word::Value { value: id, next } => match read_between(1, NAME_MAX as u64, body, next) {
-            IntRead::Value {
-                value: len,
-                next: at2,
-            } => match read_name(len as usize, body, at2) {
-                PartRead::Bytes {
-                    start,
-                    len: n,
-                    next: end,
-                } => NamedRead::Fields {
-                    id,
-                    name_at: start,
-                    name_len: n,
-                    next: end,
-                },
-                PartRead::Failed(f) => NamedRead::Failed(f),
-            },
-            IntRead::Failed(f) => NamedRead::Failed(f),
-        },
-        Word::Failed(f) => NamedRead::Failed(f),
-    }
-}
-
-// What follows the name of a definition, from `at` on.
-fn read_rest(id: u32, name_at: usize, name_len: usize, body: &[u8], at: usize) -> DefinitionBody
-    ensures { result ≡ definition_body (rest_fields (named id name_at name_len) body.now at) }
-{
-    match read_shape(body, at) {
-        ShapeRead::Fields {
-            key_type,
-            key_len,
-            data_types,
-            next,
-        } => {
-            let read = read_times(data_types, body, next);
-            let how = read.reading;
-            let timed = read.timed;
-            let expiry = read.expiry;
-            let periods = read.periods;
-            match how {
-                Reading::Whole(end) => DefinitionBody {
-                    reading: Reading::Whole(end),
-                    id,
-                    name_at,
-                    name_len,
-                    key_type,
-                    key_len,
-                    data_types,
-                    timed,
-                    expiry,
-                    periods,
-                },
-                Reading::Failed(f) => no_definition(Reading::Failed(f)),
-            }
-        }
-        ShapeRead::Failed(f) => no_definition(Reading::Failed(f)),
-    }
+    pub name: Span,
 }
 
 // The fields of a definition.
-pub fn read_definition(body: &[u8]) -> DefinitionBody
-    ensures { result ≡ definition_body (definition_fields body.now) }
-{
-    match read_named(body, 0) {
-        NamedRead::Fields {
-            id,
-            name_at,
-            name_len,
-            next,
-        } => read_rest(id, name_at, name_len, body, next),
-        NamedRead::Failed(f) => no_definition(Reading::Failed(f)),
-    }
+#[derive(Clone, Copy)]
+pub struct Definition {
+    pub id: u32,
+    pub name: Span,
+    pub key_type: u32,
+    pub key_length: u32,
+    pub data_types: u32,
+    pub times: Times,
 }
 
-// A definition that could not be read.
-fn no_definition(reading: Reading) -> DefinitionBody
-    ensures { result ≡ definition_struct reading no_definition }
+// `n` bytes, which are a name if they are plain.
+#[tactic(auto, using(crate::proofs::definition::DefinitionLaws::part_laws), unfolding(crate::specs::Bodies::name_field))]
+fn read_name(r: &mut BodyReader<'_>, n: usize) -> Result<Span, Fault>
+    ensures { Reads (name_field n) r.old r.new result }
 {
-    DefinitionBody {
-        reading,
-        id: 0,
-        name_at: 0,
-        name_len: 0,
-        key_type: 0,
-        key_len: 0,
-        data_types: 0,
-        timed: 0,
-        expiry: 0,
-        periods: [0u32; RATES],
+    let start = r.at;
+    let name = r.part(n)?;
+    if plain_name(&r.body[name.start..r.at]) {
+        return Ok(name);
     }
+    Err(Fault {
+        failure: Failure::NotPlain,
+        start,
+    })
+}
+
+// The ID, the name's length and the name.
+#[tactic(auto, unfolding(crate::specs::Bodies::named_fields))]
+fn read_named(r: &mut BodyReader<'_>) -> Result<Named, Fault>
+    ensures { Reads named_fields r.old r.new result }
+{
+    let id = r.word()?;
+    let len = r.between(1, NAME_MAX as u64)?;
+    let name = read_name(r, len as usize)?;
+    Ok(Named { id, name })
+}
+
+// What follows the name of a definition.
+#[tactic(auto, unfolding(crate::specs::Bodies::rest_fields))]
+fn read_rest(r: &mut BodyReader<'_>, named: Named) -> Result<Definition, Fault>
+    ensures { Reads (rest_fields named) r.old r.new result }
+{
+    let shape = read_shape(r)?;
+    let times = read_times(r, shape.data_types)?;
+    Ok(Definition {
+        id: named.id,
+        name: named.name,
+        key_type: shape.key_type,
+        key_length: shape.key_length,
+        data_types: shape.data_types,
+        times,
+    })
+}
+
+// The fields of a definition.
+#[tactic(auto, unfolding(crate::specs::Bodies::definition_fields))]
+pub fn read_definition(body: &[u8]) -> Result<(Definition, usize), Fault>
+    ensures { result ≡ definition_fields body.now }
+{
+    let mut r = BodyReader { body, at: 0 };
+    let named = read_named(&mut r)?;
+    let definition = read_rest(&mut r, named)?;
+    Ok((definition, r.at))
 }

@@ -1,113 +1,69 @@
 // Expiry and periods of a definition, read from its body.
-ghost use Rattle.std.specs.Prelude.{◌≡◌};
-ghost use Rattle.body.specs.Bodies.{pair_field, period_field, period_fields, no_times, times_fields};
-ghost use Rattle.body.specs.Results.{word_read, periods_read, times_struct, times_result};
+ghost use Rattle.body.specs.Reading.{Reads};
+ghost use Rattle.body.specs.Bodies.{pair_field, period_field, period_fields, times_fields};
 
-use crate::{IntRead, Reading, Word, read_between, read_word};
+use crate::Fault;
+use crate::reader::BodyReader;
 use store::RATES;
 
-// A period for each rate type.
+// Expiry and periods. `timed` is 1 where the body has them, as in a `Table`, which C holds and `DefinitionBack` compares it with.
 #[derive(Clone, Copy)]
-pub struct PeriodsRead {
-    pub reading: Reading,
-    pub periods: [u32; RATES],
-}
-
-// Expiry and periods. `timed` is 1 where the body has them.
-#[derive(Clone, Copy)]
-pub struct TimesRead {
-    pub reading: Reading,
+pub struct Times {
     pub timed: u32,
     pub expiry: u32,
     pub periods: [u32; RATES],
 }
 
-// The pair of rate type `t` at `at`: its number and its period.
-fn read_pair(t: usize, body: &[u8], at: usize) -> Word
-    ensures { word_read result ≡ pair_field t body.now at }
+// The pair of rate type `t`: its number and its period.
+#[tactic(auto, using(crate::proofs::times::TimesLaws::exact_read), unfolding(crate::specs::Bodies::pair_field))]
+fn read_pair(r: &mut BodyReader<'_>, t: usize) -> Result<u32, Fault>
+    ensures { Reads (pair_field t) r.old r.new result }
 {
-    let number = t as u64;
-    match read_between(number, number, body, at) {
-        IntRead::Value { value: _, next } => read_word(body, next),
-        IntRead::Failed(f) => Word::Failed(f),
-    }
+    r.between(t as u64, t as u64)?;
+    r.word()
 }
 
-// The period of rate type `t` at `at`, if that type is present.
-fn read_period(types: u32, t: usize, body: &[u8], at: usize) -> Word
-    ensures { word_read result ≡ period_field types t body.now at }
+// The period of rate type `t`, if that type is present.
+#[tactic(auto, unfolding(crate::specs::Bodies::period_field))]
+fn read_period(r: &mut BodyReader<'_>, types: u32, t: usize) -> Result<u32, Fault>
+    ensures { Reads (period_field types t) r.old r.new result }
 {
     if store::types::present(types, t) {
-        return read_pair(t, body, at);
+        return read_pair(r, t);
     }
-    Word::Value { value: 0, next: at }
+    Ok(0)
 }
 
-// The pairs at `at`, of the rate types present.
-fn read_periods(types: u32, body: &[u8], at: usize) -> PeriodsRead
-    ensures { periods_read result ≡ period_fields types body.now at }
+// The pairs of the rate types present. `read_values` has the same loop over another type of number; one function for both would take
+// the field's reader as a closure, and be no plainer.
+#[tactic(auto, using(crate::proofs::Filling::filling_laws))]
+fn read_periods(r: &mut BodyReader<'_>, types: u32) -> Result<[u32; RATES], Fault>
+    ensures { Reads (period_fields types) r.old r.new result }
 {
     let mut periods = [0u32; RATES];
-    let mut position = at;
-    let mut i: usize = 0;
-    while i < RATES {
-        match read_period(types, store::types::rate_type(i), body, position) {
-            Word::Value { value, next } => {
-                periods[i] = value;
-                position = next;
-                i += 1;
-            }
-            Word::Failed(f) => {
-                return PeriodsRead {
-                    reading: Reading::Failed(f),
-                    periods,
-                };
-            }
-        }
+    for (i, place) in periods.iter_mut().enumerate() {
+        *place = read_period(r, types, store::types::rate_type(i))?;
     }
-    PeriodsRead {
-        reading: Reading::Whole(position),
+    Ok(periods)
+}
+
+// Expiry and periods, unless the body ends there.
+#[tactic(auto, unfolding(crate::specs::Bodies::times_fields, crate::specs::Bodies::times_there))]
+pub(crate) fn read_times(r: &mut BodyReader<'_>, types: u32) -> Result<Times, Fault>
+    ensures { Reads (times_fields types) r.old r.new result }
+{
+    if r.at == r.body.len() {
+        return Ok(Times {
+            timed: 0,
+            expiry: 0,
+            periods: [0u32; RATES],
+        });
+    }
+    let expiry = r.word()?;
+    let periods = read_periods(r, types)?;
+    Ok(Times {
+        timed: 1,
+        expiry,
         periods,
-    }
-}
-
-// Expiry and periods at `at`, unless the body ends there.
-pub fn read_times(types: u32, body: &[u8], at: usize) -> TimesRead
-    ensures { result ≡ times_result (times_fields types body.now at) }
-{
-    if at == body.len() {
-        return no_times(Reading::Whole(at));
-    }
-    match read_word(body, at) {
-        Word::Value {
-            value: expiry,
-            next,
-        } => {
-            let read = read_periods(types, body, next);
-            let how = read.reading;
-            let periods = read.periods;
-            match how {
-                Reading::Whole(end) => TimesRead {
-                    reading: Reading::Whole(end),
-                    timed: 1,
-                    expiry,
-                    periods,
-                },
-                Reading::Failed(f) => no_times(Reading::Failed(f)),
-            }
-        }
-        Word::Failed(f) => no_times(Reading::Failed(f)),
-    }
-}
-
-// No expiry and no periods.
-fn no_times(reading: Reading) -> TimesRead
-    ensures { result ≡ times_struct reading no_times }
-{
-    TimesRead {
-        reading,
-        timed: 0,
-        expiry: 0,
-        periods: [0u32; RATES],
-    }
+    })
 }

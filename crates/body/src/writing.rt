@@ -1,167 +1,155 @@
-// Definitions and updates written. Each function puts its bytes into the room from `at` on, as far as the room reaches, and returns the
-// position behind them.
+// Definitions and updates written. Each function puts its bytes behind what the writer has, as far as its room reaches.
 ghost use Rattle.std.specs.Prelude.{◌++◌, length};
 ghost use Rattle.store.specs.Limits.{slot_types, rate_types};
 ghost use Rattle.store.specs.Store.{key_of};
 ghost use Rattle.wire.specs.Integer.{encode_int};
 ghost use Rattle.wire.specs.Room.{Wrote};
+ghost use Rattle.wire.specs.Writing.{Writes};
 ghost use Rattle.body.specs.Encodings.{each_bytes, key_bytes, server_bytes, value_bytes, entry_bytes, number_if, update_bytes, name_bytes, shape_bytes, period_bytes, times_bytes, definition_bytes};
 
 use crate::update::Form;
-use lists::shorter;
-use store::types::present;
+use store::types::{is_string, key_kind, present, rate_type, slot_type};
 use store::{Entry, KEY_MAX, NAME_MAX, RATES, Table, VALUES};
-use wire::buffer::{put, put_int, put_number};
+use wire::values::server_id_word;
+use wire::writer::Writer;
 
 // The number of bytes, and the bytes.
-fn put_counted(room: &mut [u8], at: usize, bytes: &[u8]) -> usize
-    ensures { Wrote room.old at (encode_int (length bytes.now) ++ bytes.now) room.new result }
+fn put_counted(w: &mut Writer<'_>, bytes: &[u8])
+    ensures { Writes (encode_int (length bytes.now) ++ bytes.now) w.old w.new }
 {
-    let next = put_int(room, at, bytes.len() as u64);
-    put(room, next, bytes)
+    w.int(bytes.len() as u64);
+    w.put(bytes);
 }
 
 // ---- definition
 
 // The table's ID, and its name behind its length.
-fn put_named(room: &mut [u8], at: usize, id: u32, table: Table) -> usize
-    ensures { Wrote room.old at (name_bytes id table) room.new result }
+fn put_named(w: &mut Writer<'_>, id: u32, table: Table)
+    ensures { Writes (name_bytes id table) w.old w.new }
 {
-    let next = put_int(room, at, id as u64);
+    w.int(id as u64);
     let name = table.name;
-    let n = shorter(table.name_len, NAME_MAX);
-    put_counted(room, next, &name[..n])
+    let n = table.name_len.min(NAME_MAX);
+    put_counted(w, &name[..n]);
 }
 
 // Key type, key length and data types.
-fn put_shape(room: &mut [u8], at: usize, table: Table) -> usize
-    ensures { Wrote room.old at (shape_bytes table) room.new result }
+fn put_shape(w: &mut Writer<'_>, table: Table)
+    ensures { Writes (shape_bytes table) w.old w.new }
 {
-    let len_at = put_int(room, at, table.key_type as u64);
-    let types_at = put_int(room, len_at, table.key_len as u64);
-    put_int(room, types_at, table.data_types as u64)
+    w.int(table.key_type as u64);
+    w.int(table.key_len as u64);
+    w.int(table.data_types as u64);
 }
 
 // The number of rate type `t` and its period, if it is present.
-fn put_pair(room: &mut [u8], at: usize, types: u32, t: usize, period: u32) -> usize
-    ensures { Wrote room.old at (period_bytes types t period) room.new result }
+fn put_pair(w: &mut Writer<'_>, types: u32, t: usize, period: u32)
+    ensures { Writes (period_bytes types t period) w.old w.new }
 {
     if present(types, t) {
-        let next = put_int(room, at, t as u64);
-        return put_int(room, next, period as u64);
+        w.int(t as u64);
+        w.int(period as u64);
     }
-    at
 }
 
-// The pairs of the rate types present, ascending.
-fn put_pairs(room: &mut [u8], at: usize, types: u32, periods: [u32; RATES]) -> usize
-    ensures { Wrote room.old at (each_bytes (period_bytes types) rate_types periods) room.new result }
+// The pairs of the rate types present, ascending. `put_values` has the same loop over another type of number; one function for both would take
+// what puts a value as a closure, and be no plainer.
+#[tactic(auto, using(crate::proofs::writing::WritingLaws::each_laws))]
+fn put_pairs(w: &mut Writer<'_>, types: u32, periods: [u32; RATES])
+    ensures { Writes (each_bytes (period_bytes types) rate_types periods) w.old w.new }
 {
-    let mut next = at;
-    let mut i: usize = 0;
-    while i < RATES {
-        next = put_pair(room, next, types, store::types::rate_type(i), periods[i]);
-        i += 1;
+    for (i, period) in periods.iter().enumerate() {
+        put_pair(w, types, rate_type(i), *period);
     }
-    next
 }
 
 // Expiry and pairs, if the table has them.
-fn put_times(room: &mut [u8], at: usize, table: Table) -> usize
-    ensures { Wrote room.old at (times_bytes table) room.new result }
+fn put_times(w: &mut Writer<'_>, table: Table)
+    ensures { Writes (times_bytes table) w.old w.new }
 {
-    if table.timed != 1 {
-        return at;
+    if table.timed == 1 {
+        w.int(table.expiry as u64);
+        let periods = table.periods;
+        put_pairs(w, table.data_types, periods);
     }
-    let next = put_int(room, at, table.expiry as u64);
-    let periods = table.periods;
-    put_pairs(room, next, table.data_types, periods)
 }
 
-// The body of a table's definition, with this ID.
+// The body of a table's definition, with this ID, put into the room from `at` on; the position behind it.
 pub fn put_definition(room: &mut [u8], at: usize, id: u32, table: Table) -> usize
     ensures { Wrote room.old at (definition_bytes id table) room.new result }
 {
-    let shape_at = put_named(room, at, id, table);
-    let times_at = put_shape(room, shape_at, table);
-    put_times(room, times_at, table)
+    let mut w = Writer { room, at };
+    put_named(&mut w, id, table);
+    put_shape(&mut w, table);
+    put_times(&mut w, table);
+    w.at
 }
 
 // ---- update
 
-// The four bytes of a number, if the update has it.
-fn put_number_if(room: &mut [u8], at: usize, there: bool, n: u32) -> usize
-    ensures { Wrote room.old at (number_if there n) room.new result }
+// The four bytes of a number, if the update has it. The form's flag says so, as in `number_if`.
+fn put_number_if(w: &mut Writer<'_>, there: bool, n: u32)
+    ensures { Writes (number_if there n) w.old w.new }
 {
     if there {
-        return put_number(room, at, n);
+        w.number(n);
     }
-    at
 }
 
 // The entry's key, in a table of this key type.
-fn put_key(room: &mut [u8], at: usize, key_type: u32, entry: Entry) -> usize
-    ensures { Wrote room.old at (key_bytes key_type (key_of entry)) room.new result }
+fn put_key(w: &mut Writer<'_>, key_type: u32, entry: Entry)
+    ensures { Writes (key_bytes key_type (key_of entry)) w.old w.new }
 {
     let key = entry.key;
-    let n = shorter(entry.key_len, KEY_MAX);
-    if store::types::is_string(store::types::key_kind(key_type)) {
-        return put_counted(room, at, &key[..n]);
+    let n = entry.key_len.min(KEY_MAX);
+    if is_string(key_kind(key_type)) {
+        put_counted(w, &key[..n]);
+    } else {
+        w.put(&key[..n]);
     }
-    put(room, at, &key[..n])
 }
 
 // The server ID, if it is among the data types.
-fn put_server(room: &mut [u8], at: usize, types: u32, id: i32) -> usize
-    ensures { Wrote room.old at (server_bytes types id) room.new result }
+fn put_server(w: &mut Writer<'_>, types: u32, id: i32)
+    ensures { Writes (server_bytes types id) w.old w.new }
 {
     if present(types, 0) {
-        return put_int(room, at, wire::values::server_id_word(id));
+        w.int(server_id_word(id));
     }
-    at
 }
 
 // An integer of data type `t`, if that type is present.
-fn put_value(room: &mut [u8], at: usize, types: u32, t: usize, value: u64) -> usize
-    ensures { Wrote room.old at (value_bytes types t value) room.new result }
+fn put_value(w: &mut Writer<'_>, types: u32, t: usize, value: u64)
+    ensures { Writes (value_bytes types t value) w.old w.new }
 {
     if present(types, t) {
-        return put_int(room, at, value);
+        w.int(value);
     }
-    at
 }
 
 // The integers of the slots whose data types are present, in bit order.
-fn put_values(room: &mut [u8], at: usize, types: u32, values: [u64; VALUES]) -> usize
-    ensures { Wrote room.old at (each_bytes (value_bytes types) slot_types values) room.new result }
+#[tactic(auto, using(crate::proofs::writing::WritingLaws::each_laws))]
+fn put_values(w: &mut Writer<'_>, types: u32, values: [u64; VALUES])
+    ensures { Writes (each_bytes (value_bytes types) slot_types values) w.old w.new }
 {
-    let mut next = at;
-    let mut slot: usize = 0;
-    while slot < VALUES {
-        next = put_value(
-            room,
-            next,
-            types,
-            store::types::slot_type(slot),
-            values[slot],
-        );
-        slot += 1;
+    for (slot, value) in values.iter().enumerate() {
+        put_value(w, types, slot_type(slot), *value);
     }
-    next
 }
 
 // Key and data of an entry of this table.
-fn put_entry(room: &mut [u8], at: usize, table: Table, entry: Entry) -> usize
-    ensures { Wrote room.old at (entry_bytes table entry) room.new result }
+fn put_entry(w: &mut Writer<'_>, table: Table, entry: Entry)
+    ensures { Writes (entry_bytes table entry) w.old w.new }
 {
     let types = table.data_types;
-    let server_at = put_key(room, at, table.key_type, entry);
-    let values_at = put_server(room, server_at, types, entry.server_id);
+    put_key(w, table.key_type, entry);
+    put_server(w, types, entry.server_id);
     let values = entry.values;
-    put_values(room, values_at, types, values)
+    put_values(w, types, values);
 }
 
-// The body of an update of this form: the update ID and the remaining time, where the form has them, key and data.
+// The body of an update of this form: the update ID and the remaining time, where the form has them, key and data; put into the room from `at`
+// on. The position behind it.
 pub fn put_update(
     room: &mut [u8],
     at: usize,
@@ -172,7 +160,9 @@ pub fn put_update(
 ) -> usize
     ensures { Wrote room.old at (update_bytes form table id entry) room.new result }
 {
-    let time_at = put_number_if(room, at, form.explicit, id);
-    let entry_at = put_number_if(room, time_at, form.timed, entry.remaining);
-    put_entry(room, entry_at, table, entry)
+    let mut w = Writer { room, at };
+    put_number_if(&mut w, form.explicit, id);
+    put_number_if(&mut w, form.timed, entry.remaining);
+    put_entry(&mut w, table, entry);
+    w.at
 }

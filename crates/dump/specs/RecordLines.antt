@@ -1,5 +1,5 @@
 -- The lines in which `replay` shows a session record.
-use Rattle.std.specs.Prelude.{ℕ, ◌+◌, ◌-◌, List, [], ◌∷◌, ◌++◌, cond, eqb}
+use Rattle.std.specs.Prelude.{ℕ, ◌+◌, ◌-◌, List, [], ◌∷◌, ◌++◌, cond, eqb, Option, Some, None}
 use Rattle.handshake.specs.Bytes.{ascii, decimal}
 use Rattle.session.specs.declared.Binding.{Binding}
 use Rattle.session.specs.declared.Connection.{Connection}
@@ -7,6 +7,15 @@ use Rattle.session.specs.declared.Sending.{Sending}
 use Rattle.session.specs.declared.Session.{Session}
 use Rattle.session.specs.Session.{is_closed, is_bound, is_updated, unfinished, established}
 use Rattle.text.specs.Text.{hex_or_none, line}
+
+-- a number, `-` for none
+unfoldable pub number_or_none : Option ℕ → List ℕ
+number_or_none (Some n) = decimal n
+number_or_none None = ascii "-"
+
+-- the place that is one less than a number, none for 0
+unfoldable pub place_before : ℕ → Option ℕ
+place_before n = cond (eqb n 0) None (Some (n - 1))
 
 -- `session handshake`, `session open` or `session closed N`
 unfoldable pub phase_line : Connection → List ℕ

@@ -2,43 +2,37 @@
 ghost use Rattle.std.specs.Prelude.{cond, [], ◌∷◌, eqb};
 ghost use Rattle.handshake.specs.Bytes.{decimal};
 ghost use Rattle.text.specs.Text.{line};
-ghost use Rattle.text.specs.Room.{Wrote};
+ghost use Rattle.wire.specs.Writing.{Writes};
 ghost use Rattle.dump.specs.RecordLines.{binding_lines, bindings_lines};
 
 use session::Binding;
 use store::TABLES;
-use text::put;
 use text::spaced::put_decimal_word;
+use wire::writer::Writer;
 
 // A line of a word, a place and an ID, where the flag says that there is one.
-fn flagged_line(room: &mut [u8], at: usize, flag: u32, word: &[u8], place: usize, id: u32) -> usize
-    ensures { Wrote room.old at (cond (eqb flag 1) (line word.now (decimal place ∷ decimal id ∷ [])) []) room.new result }
+fn flagged_line(w: &mut Writer<'_>, flag: u32, word: &[u8], place: usize, id: u32)
+    ensures { Writes (cond (eqb flag 1) (line word.now (decimal place ∷ decimal id ∷ [])) []) w.old w.new }
 {
-    if flag != 1 {
-        return at;
+    if flag == 1 {
+        w.put(word);
+        put_decimal_word(w, place as u64);
+        put_decimal_word(w, id as u64);
+        w.put(b"\n");
     }
-    let a = put(room, at, word);
-    let b = put_decimal_word(room, a, place as u64);
-    let c = put_decimal_word(room, b, id as u64);
-    put(room, c, b"\n")
 }
 
-fn binding_lines(room: &mut [u8], at: usize, place: usize, b: Binding) -> usize
-    ensures { Wrote room.old at (binding_lines place b) room.new result }
+fn binding_lines(w: &mut Writer<'_>, place: usize, b: Binding)
+    ensures { Writes (binding_lines place b) w.old w.new }
 {
-    let next = flagged_line(room, at, b.bound, b"bound", place, b.id);
-    flagged_line(room, next, b.updated, b"previous", place, b.previous)
+    flagged_line(w, b.bound, b"bound", place, b.id);
+    flagged_line(w, b.updated, b"previous", place, b.previous);
 }
 
-pub fn bindings_lines(room: &mut [u8], at: usize, bindings: [Binding; TABLES]) -> usize
-    ensures { Wrote room.old at (bindings_lines 0 bindings) room.new result }
+pub fn bindings_lines(w: &mut Writer<'_>, bindings: [Binding; TABLES])
+    ensures { Writes (bindings_lines 0 bindings) w.old w.new }
 {
-    let mut next = at;
-    let mut place = 0;
-    while place < TABLES {
-        let b = bindings[place];
-        next = binding_lines(room, next, place, b);
-        place += 1;
+    for (place, b) in bindings.iter().enumerate() {
+        binding_lines(w, place, *b);
     }
-    next
 }

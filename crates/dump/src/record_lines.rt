@@ -2,54 +2,48 @@
 ghost use Rattle.std.specs.Prelude.{[], ◌∷◌};
 ghost use Rattle.session.specs.Session.{unfinished};
 ghost use Rattle.text.specs.Text.{hex_or_none, spaced};
-ghost use Rattle.text.specs.Room.{Wrote};
+ghost use Rattle.wire.specs.Writing.{Writes};
 ghost use Rattle.dump.specs.RecordLines.{unfinished_line, current_line, record_lines};
 
 use crate::bound::bindings_lines;
 use crate::phase::phase_line;
-use crate::sending::sending_lines;
+use crate::sending::{number_line, place_before, sending_lines};
 use session::{Connection, Session, unfinished_len};
-use text::put;
-use text::spaced::{put_decimal_word, put_hex_or_none};
+use text::spaced::put_hex_or_none;
+use wire::writer::Writer;
 
-fn put_unfinished(room: &mut [u8], at: usize, session: Session) -> usize
-    ensures { Wrote room.old at (spaced (hex_or_none (unfinished session) ∷ [])) room.new result }
+fn put_unfinished(w: &mut Writer<'_>, session: Session)
+    ensures { Writes (spaced (hex_or_none (unfinished session) ∷ [])) w.old w.new }
 {
     let n = unfinished_len(session);
     let buffer = session.buffer;
-    put_hex_or_none(room, at, &buffer[..n])
+    put_hex_or_none(w, &buffer[..n]);
 }
 
-fn unfinished_line(room: &mut [u8], at: usize, session: Session) -> usize
-    ensures { Wrote room.old at (unfinished_line session) room.new result }
+fn unfinished_line(w: &mut Writer<'_>, session: Session)
+    ensures { Writes (unfinished_line session) w.old w.new }
 {
-    let a = put(room, at, b"unfinished");
-    let b = put_unfinished(room, a, session);
-    put(room, b, b"\n")
+    w.put(b"unfinished");
+    put_unfinished(w, session);
+    w.put(b"\n");
 }
 
-fn current_line(room: &mut [u8], at: usize, c: Connection) -> usize
-    ensures { Wrote room.old at (current_line c) room.new result }
+fn current_line(w: &mut Writer<'_>, c: Connection)
+    ensures { Writes (current_line c) w.old w.new }
 {
-    let plus_one = c.current;
-    if plus_one == 0 {
-        return put(room, at, b"current -\n");
-    }
-    let a = put(room, at, b"current");
-    let b = put_decimal_word(room, a, (plus_one - 1) as u64);
-    put(room, b, b"\n")
+    number_line(w, b"current", place_before(c.current as usize));
 }
 
 // The lines of a session record.
-pub fn put_record(room: &mut [u8], at: usize, session: Session) -> usize
-    ensures { Wrote room.old at (record_lines session) room.new result }
+pub fn put_record(w: &mut Writer<'_>, session: Session)
+    ensures { Writes (record_lines session) w.old w.new }
 {
     let connection = session.connection;
-    let a = phase_line(room, at, connection);
-    let b = unfinished_line(room, a, session);
-    let c = current_line(room, b, connection);
+    phase_line(w, connection);
+    unfinished_line(w, session);
+    current_line(w, connection);
     let sending = session.sending;
-    let d = sending_lines(room, c, sending);
+    sending_lines(w, sending);
     let bindings = connection.bindings;
-    bindings_lines(room, d, bindings)
+    bindings_lines(w, bindings);
 }

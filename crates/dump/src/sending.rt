@@ -1,46 +1,65 @@
 // The lines of the sending state: the table defined last, and the update ID sent last.
-ghost use Rattle.std.specs.Prelude.{cond, [], ◌∷◌};
-ghost use Rattle.handshake.specs.Bytes.{ascii, decimal};
-ghost use Rattle.text.specs.Text.{line};
-ghost use Rattle.text.specs.Room.{Wrote};
-ghost use Rattle.dump.specs.RecordLines.{defined_line, sent_line, sending_lines};
+ghost use Rattle.std.specs.Prelude.{◌≡◌, [], ◌∷◌};
+ghost use Rattle.text.specs.Text.{line, spaced};
+ghost use Rattle.wire.specs.Writing.{Writes};
+ghost use Rattle.dump.specs.RecordLines.{number_or_none, place_before, defined_line, sent_line, sending_lines};
 
 use session::Sending;
-use text::put;
-use text::spaced::put_decimal_word;
+use text::spaced::{put_decimal_word, put_word};
+use wire::writer::Writer;
+
+// A number with a space before it, `-` where there is none.
+#[tactic(auto, unfolding(crate::specs::RecordLines::number_or_none))]
+fn put_number_or_none(w: &mut Writer<'_>, n: Option<u64>)
+    ensures { Writes (spaced (number_or_none n ∷ [])) w.old w.new }
+{
+    match n {
+        Some(n) => put_decimal_word(w, n),
+        None => put_word(w, b"-"),
+    }
+}
 
 // A line of a word and a number, `-` where there is none.
-fn number_line(room: &mut [u8], at: usize, word: &[u8], there: bool, n: u64) -> usize
-    ensures { Wrote room.old at (line word.now (cond there (decimal n) (ascii "-") ∷ [])) room.new result }
+pub(crate) fn number_line(w: &mut Writer<'_>, word: &[u8], n: Option<u64>)
+    ensures { Writes (line word.now (number_or_none n ∷ [])) w.old w.new }
 {
-    let a = put(room, at, word);
-    if there {
-        let b = put_decimal_word(room, a, n);
-        return put(room, b, b"\n");
-    }
-    put(room, a, b" -\n")
+    w.put(word);
+    put_number_or_none(w, n);
+    w.put(b"\n");
 }
 
-fn defined_line(room: &mut [u8], at: usize, x: Sending) -> usize
-    ensures { Wrote room.old at (defined_line x) room.new result }
+// The place that is one less, if there is one.
+#[tactic(auto, unfolding(crate::specs::RecordLines::place_before))]
+pub(crate) fn place_before(plus_one: usize) -> Option<u64>
+    ensures { result ≡ place_before plus_one }
 {
-    let plus_one = x.defined;
     if plus_one == 0 {
-        return number_line(room, at, b"defined", false, 0);
+        None
+    } else {
+        Some((plus_one - 1) as u64)
     }
-    number_line(room, at, b"defined", true, (plus_one - 1) as u64)
 }
 
-fn sent_line(room: &mut [u8], at: usize, x: Sending) -> usize
-    ensures { Wrote room.old at (sent_line x) room.new result }
+fn defined_line(w: &mut Writer<'_>, x: Sending)
+    ensures { Writes (defined_line x) w.old w.new }
 {
-    number_line(room, at, b"sent", x.sent == 1, x.last as u64)
+    number_line(w, b"defined", place_before(x.defined));
+}
+
+fn sent_line(w: &mut Writer<'_>, x: Sending)
+    ensures { Writes (sent_line x) w.old w.new }
+{
+    if x.sent == 1 {
+        number_line(w, b"sent", Some(x.last as u64));
+    } else {
+        number_line(w, b"sent", None);
+    }
 }
 
 // Both lines.
-pub fn sending_lines(room: &mut [u8], at: usize, x: Sending) -> usize
-    ensures { Wrote room.old at (sending_lines x) room.new result }
+pub fn sending_lines(w: &mut Writer<'_>, x: Sending)
+    ensures { Writes (sending_lines x) w.old w.new }
 {
-    let next = defined_line(room, at, x);
-    sent_line(room, next, x)
+    defined_line(w, x);
+    sent_line(w, x);
 }

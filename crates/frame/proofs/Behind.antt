@@ -1,4 +1,5 @@
 -- More bytes behind: a judgement that isn't waiting stays, and waiting bytes become whole at their last byte only.
+use Rattle.std.specs.Prelude.{Err, None, Ok, Option, Result, Some}
 use Prim.Native.Nat.{ℕ, ◌+◌, ◌≤◌, ◌<◌}
 use native.Mathlib.Omega.{arith}
 use mathlib.Core.Logic.{◌⊎◌, inl, inr}
@@ -6,13 +7,13 @@ use mathlib.Core.Path.{◌≡◌, refl, sym, subst, ◌∙◌}
 use mathlib.Core.List.{List, [], ◌∷◌, ◌++◌}
 use lib.ListN.{length, get_or, length-append, get_or-append}
 use borrow.Author.Tests.{lt-ltb, le-ltb}
-use Rattle.wire.specs.declared.Int.{Int}
-use Rattle.wire.specs.declared.Int.TheVariants as int
+use Rattle.frame.specs.declared.Header.{Header}
+use Rattle.wire.specs.declared.IntError.{IntError}
+use Rattle.wire.specs.declared.IntError.TheVariants as int
 use Rattle.wire.specs.Integer.{read_int}
 use Rattle.lists.proofs.Cases.{lt-or-le, split}
 use Rattle.wire.proofs.Behind.{int-behind}
 use Rattle.wire.proofs.Decided.{Past, int-past}
-use Rattle.frame.specs.declared.Header.{Header}
 use Rattle.frame.specs.declared.Header.TheVariants as header
 use Rattle.frame.specs.declared.Frame.{Frame}
 use Rattle.frame.specs.declared.Frame.TheVariants as frame
@@ -36,11 +37,11 @@ beyond-header p w (frame.Error type) h q = tt
 beyond-header p w (frame.Body kind start end) h q = omega arith
 beyond-header p w (frame.Refused n) h q = tt
 
-beyond-length : (p kind : ℕ) (w : List ℕ) (i : Int) → Past 2 p i → Beyond p (with_length kind w i)
+beyond-length : (p kind : ℕ) (w : List ℕ) (i : (Result (ℕ × ℕ) IntError)) → Past 2 p i → Beyond p (with_length kind w i)
 unfolding Beyond Past with_length
-beyond-length p kind w (int.Short k) q = tt
-beyond-length p kind w (int.Overflow k) q = tt
-beyond-length p kind w (int.Value n start) q =
+beyond-length p kind w (Err (int.Short k)) q = tt
+beyond-length p kind w (Err (int.Overflow k)) q = tt
+beyond-length p kind w (Ok (n, start)) q =
     split (lt-or-le 1024 n)
     (λ l. rw (lt-ltb 1024 n l) tt)
     (λ l.
@@ -53,19 +54,19 @@ Onward : List ℕ → Frame → Frame → Type 0
 Onward u f g = ((f ≡ frame.Waiting) × Beyond (length u) g) ⊎ (g ≡ f)
 
 module _ (u v : List ℕ) (kind : ℕ) where
-  beyond-short : (k : ℕ) → 2 ≤ length u → read_int u 2 ≡ int.Short k → Beyond (length u) (with_length kind (u ++ v) (read_int (u ++ v) 2))
+  beyond-short : (k : ℕ) → 2 ≤ length u → read_int u 2 ≡ Err (int.Short k) → Beyond (length u) (with_length kind (u ++ v) (read_int (u ++ v) 2))
   unfolding Beyond
   beyond-short k h e =
       split (int-past u v 2 h)
       (λ q. beyond-length (length u) kind (u ++ v) (read_int (u ++ v) 2) q)
       (λ q. subst (Beyond (length u)) (length-short (u ++ v) _ refl kind k (q ∙ e)) tt)
 
-  onward-same : (i : Int) → i ≡ read_int u 2 → i ≡ read_int (u ++ v) 2
+  onward-same : (i : (Result (ℕ × ℕ) IntError)) → i ≡ read_int u 2 → i ≡ read_int (u ++ v) 2
       → Onward u (with_length kind u (read_int u 2)) (with_length kind (u ++ v) (read_int (u ++ v) 2))
   unfolding Onward Beyond
-  onward-same (int.Short k) p q = inr (sym (length-short (u ++ v) _ q kind k refl) ∙ length-short u _ p kind k refl)
-  onward-same (int.Overflow k) p q = inr (sym (length_over (u ++ v) _ q kind k refl) ∙ length_over u _ p kind k refl)
-  onward-same (int.Value n start) p q =
+  onward-same (Err (int.Short k)) p q = inr (sym (length-short (u ++ v) _ q kind k refl) ∙ length-short u _ p kind k refl)
+  onward-same (Err (int.Overflow k)) p q = inr (sym (length_over (u ++ v) _ q kind k refl) ∙ length_over u _ p kind k refl)
+  onward-same (Ok (n, start)) p q =
       split (lt-or-le 1024 n)
       (λ l. inr (sym (too_long (u ++ v) _ q kind n start refl 1024 l refl) ∙ too_long u _ p kind n start refl 1024 l refl))
       (λ l.
@@ -88,12 +89,12 @@ module _ (u v : List ℕ) (kind : ℕ) where
       (λ e. inl (sym (length-short u _ refl kind _ e), beyond-short _ h e))
       (λ q. onward-same (read_int u 2) refl (sym q))
 
-onward-header : (u v : List ℕ) (h : Header) → 2 ≤ length u → Onward u (with_header u h) (with_header (u ++ v) h)
+onward-header : (u v : List ℕ) (h : (Option Header)) → 2 ≤ length u → Onward u (with_header u h) (with_header (u ++ v) h)
 unfolding Onward with_header
-onward-header u v (header.Control type) l = inr refl
-onward-header u v (header.Error type) l = inr refl
-onward-header u v (header.StickTable type) l = onward-length u v type l
-onward-header u v header.Unknown l = inr refl
+onward-header u v (Some (header.Control type)) l = inr refl
+onward-header u v (Some (header.Error type)) l = inr refl
+onward-header u v (Some (header.StickTable type)) l = onward-length u v type l
+onward-header u v None l = inr refl
 
 -- more bytes behind change nothing of the header
 pub by-header-behind : (u v : List ℕ) → 2 ≤ length u → with_header (u ++ v) (header_of (get_or u 0 0) (get_or u 1 0)) ≡ judge_frame (u ++ v)
@@ -107,7 +108,7 @@ onward u v =
     split (lt-or-le (length u) 2)
     (λ l. inl (sym (header-waits u l), beyond-header (length u) (u ++ v) _ l (frame-facts (u ++ v))))
     (λ l.
-    let h : Header = header_of (get_or u 0 0) (get_or u 1 0) in
+    let h : (Option Header) = header_of (get_or u 0 0) (get_or u 1 0) in
     rw (← by-header u h l refl, ← by-header-behind u v l) (onward-header u v h l))
 
 -- ---- the laws

@@ -1,19 +1,20 @@
 -- The bytes of an encoded integer: how many are too few, and how many a small value takes.
+use Rattle.std.specs.Prelude.{Err, Ok, Result}
 use Prim.Native.Nat.{ℕ, zero, suc, ◌+◌, ◌^◌, ◌≤◌, ◌<◌}
 use native.Mathlib.Omega.{arith}
 use mathlib.Core.Path.{◌≡◌, subst}
 use mathlib.Core.List.{List, [], ◌∷◌}
 use lib.ListN.{length, drop}
 use borrow.Author.Tests.{lt-ltb, le-ltb}
-use Rattle.wire.specs.declared.Int.{Int}
-use Rattle.wire.specs.declared.Int.TheVariants.{Value, Short, Overflow}
+use Rattle.wire.specs.declared.IntError.{IntError}
+use Rattle.wire.specs.declared.IntError.TheVariants.{Short, Overflow}
 use Rattle.wire.specs.Integer.{Later, ended, cut, endless, before, later_bytes, weighted, with_later, read_first, read_int}
 use Rattle.lists.proofs.Cases.{lt-or-le, split}
 use Rattle.wire.proofs.Read.{fitting-value, fitting-over}
 use Rattle.wire.proofs.Advance.{short-looked}
 
 -- ---- an integer that is cut short has at most nine bytes
-pub short-few : (s : List ℕ) (at k : ℕ) → read_int s at ≡ Short k → length s ≤ at + 9
+pub short-few : (s : List ℕ) (at k : ℕ) → read_int s at ≡ Err (Short k) → length s ≤ at + 9
 short-few s at k e = split (lt-or-le (length s) at) (λ l. omega arith) (λ l. omega (arith, short-looked s at k l e))
 
 -- ---- two later bytes or more are worth 2048 at least
@@ -38,10 +39,10 @@ later-counted (suc n) (b ∷ s) =
     (λ l. rw (le-ltb b 128 l) (counted-before b (later_bytes n s) l (later-counted n s)))
 
 -- of the integer at position at
-Sized : ℕ → Int → Type 0
-Sized at (Value v next) = v < 2288 → next ≤ at + 2
-Sized at (Short k) = Unit {0}
-Sized at (Overflow k) = Unit {0}
+Sized : ℕ → Result (ℕ × ℕ) IntError → Type 0
+Sized at (Ok (v, next)) = v < 2288 → next ≤ at + 2
+Sized at (Err (Short k)) = Unit {0}
+Sized at (Err (Overflow k)) = Unit {0}
 
 sized-later : (at b : ℕ) (l : Later) → 240 ≤ b → Counted l → Sized at (with_later at b l)
 unfolding Counted Sized with_later
@@ -61,6 +62,6 @@ first-sized at (b ∷ s) =
     (λ l. rw (le-ltb b 240 l) (sized-later at b (later_bytes 9 s) l (later-counted 9 s)))
 
 -- A value below 2288 takes at most two bytes.
-pub two_bytes : (s : List ℕ) (at v next : ℕ) → read_int s at ≡ Value v next → v < 2288 → next ≤ at + 2
+pub two_bytes : (s : List ℕ) (at v next : ℕ) → read_int s at ≡ Ok (v, next) → v < 2288 → next ≤ at + 2
 unfolding read_int Sized
 two_bytes s at v next e = subst (Sized at) e (first-sized at (drop at s))

@@ -1,4 +1,5 @@
 -- What holds of each judgement.
+use Rattle.std.specs.Prelude.{Err, None, Ok, Option, Result, Some}
 use Prim.Native.Nat.{ℕ, ◌+◌, ◌≤◌, ◌<◌}
 use native.Mathlib.Omega.{arith}
 use mathlib.Core.Path.{◌≡◌, refl, sym, subst}
@@ -7,12 +8,12 @@ use mathlib.Core.Bool.{Bool, true, false, cond, ◌&&◌}
 use lib.Dec.{leb, eqb}
 use lib.ListN.{length, get_or}
 use borrow.Author.Tests.{leb-true}
-use Rattle.wire.specs.declared.Int.{Int}
-use Rattle.wire.specs.declared.Int.TheVariants as int
+use Rattle.frame.specs.declared.Header.{Header}
+use Rattle.wire.specs.declared.IntError.{IntError}
+use Rattle.wire.specs.declared.IntError.TheVariants as int
 use Rattle.wire.specs.Integer.{read_int}
 use Rattle.lists.proofs.Cases.{lt-or-le, split}
 use Rattle.wire.proofs.Advance.{advance}
-use Rattle.frame.specs.declared.Header.{Header}
 use Rattle.frame.specs.declared.Header.TheVariants as header
 use Rattle.frame.specs.declared.Frame.{Frame}
 use Rattle.frame.specs.declared.Frame.TheVariants as frame
@@ -21,13 +22,13 @@ use Rattle.frame.proofs.Judging.{header-waits, by-header, length-short, length_o
 use Rattle.frame.proofs.Lengths.{short-few, two_bytes}
 
 -- ---- the header's type
-HeaderFacts : ℕ → Header → Type 0
-HeaderFacts kind (header.Control type) = type ≤ 4
-HeaderFacts kind (header.Error type) = type ≤ 1
-HeaderFacts kind (header.StickTable type) = (type ≡ kind) × (128 ≤ type)
-HeaderFacts kind header.Unknown = Unit {0}
+HeaderFacts : ℕ → Option Header → Type 0
+HeaderFacts kind (Some (header.Control type)) = type ≤ 4
+HeaderFacts kind (Some (header.Error type)) = type ≤ 1
+HeaderFacts kind (Some (header.StickTable type)) = (type ≡ kind) × (128 ≤ type)
+HeaderFacts kind None = Unit {0}
 
-by-test : (kind : ℕ) (a b : Bool) (x y : Header) → (b ≡ true → HeaderFacts kind x) → HeaderFacts kind y → HeaderFacts kind (cond (a && b) x y)
+by-test : (kind : ℕ) (a b : Bool) (x y : (Option Header)) → (b ≡ true → HeaderFacts kind x) → HeaderFacts kind y → HeaderFacts kind (cond (a && b) x y)
 by-test kind true true x y p q = p refl
 by-test kind true false x y p q = q
 by-test kind false b x y p q = q
@@ -57,13 +58,13 @@ FrameFacts u (frame.Error type) = type ≤ 1
 FrameFacts u (frame.Body kind start end) = Whole u kind start end
 FrameFacts u (frame.Refused n) = (20 ≤ n) × (n ≤ 22)
 
-facts-by-length : (u : List ℕ) (kind : ℕ) (i : Int) → i ≡ read_int u 2 → kind ≡ get_or u 1 0 → 128 ≤ kind → FrameFacts u (with_length kind u (read_int u 2))
+facts-by-length : (u : List ℕ) (kind : ℕ) (i : (Result (ℕ × ℕ) IntError)) → i ≡ read_int u 2 → kind ≡ get_or u 1 0 → 128 ≤ kind → FrameFacts u (with_length kind u (read_int u 2))
 unfolding FrameFacts
-facts-by-length u kind (int.Short k) p t h =
+facts-by-length u kind (Err (int.Short k)) p t h =
     let few : length u ≤ 2 + 9 = short-few u 2 k (sym p) in
     subst (FrameFacts u) (length-short u _ p kind k refl) (omega arith)
-facts-by-length u kind (int.Overflow k) p t h = subst (FrameFacts u) (length_over u _ p kind k refl) (omega arith, omega arith)
-facts-by-length u kind (int.Value n start) p t h =
+facts-by-length u kind (Err (int.Overflow k)) p t h = subst (FrameFacts u) (length_over u _ p kind k refl) (omega arith, omega arith)
+facts-by-length u kind (Ok (n, start)) p t h =
     split (lt-or-le 1024 n)
     (λ l. subst (FrameFacts u) (too_long u _ p kind n start refl 1024 l refl) (omega arith, omega arith))
     (λ l.
@@ -82,12 +83,12 @@ facts-by-length u kind (int.Value n start) p t h =
       inside = k;
     })))
 
-facts-by-header : (u : List ℕ) (h : Header) → HeaderFacts (get_or u 1 0) h → FrameFacts u (with_header u h)
+facts-by-header : (u : List ℕ) (h : (Option Header)) → HeaderFacts (get_or u 1 0) h → FrameFacts u (with_header u h)
 unfolding HeaderFacts FrameFacts with_header
-facts-by-header u (header.Control type) q = q
-facts-by-header u (header.Error type) q = q
-facts-by-header u (header.StickTable type) q = facts-by-length u type (read_int u 2) refl q.0 q.1
-facts-by-header u header.Unknown q = (omega arith, omega arith)
+facts-by-header u (Some (header.Control type)) q = q
+facts-by-header u (Some (header.Error type)) q = q
+facts-by-header u (Some (header.StickTable type)) q = facts-by-length u type (read_int u 2) refl q.0 q.1
+facts-by-header u None q = (omega arith, omega arith)
 
 pub frame-facts : (u : List ℕ) → FrameFacts u (judge_frame u)
 unfolding FrameFacts

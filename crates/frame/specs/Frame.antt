@@ -1,9 +1,9 @@
 -- "Messages", first part, of document 01: the header's two bytes and the encoded body length.
-use Rattle.std.specs.Prelude.{ℕ, ◌+◌, List, cond, ◌&&◌, ltb, leb, eqb, length, get_or}
-use Rattle.wire.specs.declared.Int.{Int}
-use Rattle.wire.specs.declared.Int.TheVariants as int
-use Rattle.wire.specs.Integer.{read_int}
+use Rattle.std.specs.Prelude.{ℕ, ◌+◌, List, cond, ◌&&◌, ltb, leb, eqb, length, get_or, Err, None, Ok, Option, Result, Some}
 use Rattle.frame.specs.declared.Header.{Header}
+use Rattle.wire.specs.declared.IntError.{IntError}
+use Rattle.wire.specs.declared.IntError.TheVariants as int
+use Rattle.wire.specs.Integer.{read_int}
 use Rattle.frame.specs.declared.Header.TheVariants as header
 use Rattle.frame.specs.declared.Frame.{Frame}
 use Rattle.frame.specs.declared.Frame.TheVariants as frame
@@ -41,11 +41,11 @@ timed_incremental_type = 134
 
 -- "The header's two bytes decide among these: class 0 with type 0 request, 1 finished, 2 partial, 3 confirmed, 4 heartbeat; class 1 with
 -- type 0 protocol error, 1 size limit; class 10 with types from 128 up. All else is refusal 20"
-unfoldable pub header_of : ℕ → ℕ → Header
+unfoldable pub header_of : ℕ → ℕ → Option Header
 header_of class type =
-    cond (eqb class 0 && leb type 4) (header.Control type)
-    (cond (eqb class 1 && leb type 1) (header.Error type)
-    (cond (eqb class stick_table_class && leb update_type type) (header.StickTable type) header.Unknown))
+    cond (eqb class 0 && leb type 4) (Some (header.Control type))
+    (cond (eqb class 1 && leb type 1) (Some (header.Error type))
+    (cond (eqb class stick_table_class && leb update_type type) (Some (header.StickTable type)) None))
 
 -- "22 | body over 1,024 bytes"
 abbrev pub body_max : ℕ
@@ -53,18 +53,18 @@ body_max = 1024
 
 -- "Class 10 continues with the encoded body length, judged at its last byte (21 at the byte that shows an overflow), then the body, judged
 -- when whole."
-unfoldable pub with_length : ℕ → List ℕ → Int → Frame
-with_length kind u (int.Short looked) = frame.Waiting
-with_length kind u (int.Overflow looked) = frame.Refused 21
-with_length kind u (int.Value n start) =
+unfoldable pub with_length : ℕ → List ℕ → Result (ℕ × ℕ) IntError → Frame
+with_length kind u (Err (int.Short looked)) = frame.Waiting
+with_length kind u (Err (int.Overflow looked)) = frame.Refused 21
+with_length kind u (Ok (n, start)) =
     cond (ltb body_max n) (frame.Refused 22)
     (cond (ltb (length u) (start + n)) frame.Waiting (frame.Body kind start (start + n)))
 
-unfoldable pub with_header : List ℕ → Header → Frame
-with_header u (header.Control type) = frame.Control type
-with_header u (header.Error type) = frame.Error type
-with_header u (header.StickTable type) = with_length type u (read_int u 2)
-with_header u header.Unknown = frame.Refused 20
+unfoldable pub with_header : List ℕ → Option Header → Frame
+with_header u (Some (header.Control type)) = frame.Control type
+with_header u (Some (header.Error type)) = frame.Error type
+with_header u (Some (header.StickTable type)) = with_length type u (read_int u 2)
+with_header u None = frame.Refused 20
 
 -- ".. refusal 20, shown at the second byte."
 unfoldable pub judge_frame : List ℕ → Frame

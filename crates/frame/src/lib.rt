@@ -5,6 +5,8 @@ ghost use Rattle.std.specs.Prelude.{◌≡◌};
 ghost use Rattle.wire.specs.Integer.{read_int};
 ghost use Rattle.frame.specs.Frame.{header_of, with_length, judge_frame};
 
+use wire::IntError;
+
 // The longest body.
 pub const BODY_MAX: u64 = 1024;
 
@@ -26,16 +28,15 @@ pub const TIMED: u8 = 133;
 pub const TIMED_INCREMENTAL: u8 = 134;
 
 // What a message's first two bytes, its class and its type, say.
-#[derive(Clone, Copy)]
+#[derive(Clone, Copy, Debug, PartialEq, Eq)]
 pub enum Header {
     Control(u8),
     Error(u8),
     StickTable(u8),
-    Unknown,
 }
 
 // What the bytes of a message come to so far: more bytes are awaited; a whole control or error message; a whole stick table message,
-// whose body stands from `start` up to `end`; or a refusal.
+// whose body stands from `start` up to `end`; or a refusal by the document's number, as an `Answer` holds it.
 #[derive(Clone, Copy)]
 pub enum Frame {
     Waiting,
@@ -45,52 +46,41 @@ pub enum Frame {
     Refused(u8),
 }
 
-// What class and type say.
-pub fn header_of(class: u8, kind: u8) -> Header
+// What class and type say, if they are known.
+#[tactic(auto, unfolding(crate::specs::Frame::header_of))]
+pub fn header_of(class: u8, kind: u8) -> Option<Header>
     ensures { result ≡ header_of class kind }
 {
-    match class {
-        0 => match kind {
-            0..=4 => Header::Control(kind),
-            _ => Header::Unknown,
-        },
-        1 => match kind {
-            0..=1 => Header::Error(kind),
-            _ => Header::Unknown,
-        },
-        STICK_TABLE => match kind {
-            UPDATE..=255 => Header::StickTable(kind),
-            _ => Header::Unknown,
-        },
-        _ => Header::Unknown,
+    match (class, kind) {
+        (0, 0..=4) => Some(Header::Control(kind)),
+        (1, 0..=1) => Some(Header::Error(kind)),
+        (STICK_TABLE, UPDATE..=255) => Some(Header::StickTable(kind)),
+        _ => None,
     }
 }
 
 // A stick table message, by the encoded length after its header.
+#[tactic(auto, using(crate::proofs::Judging::end_fits), unfolding(crate::specs::Frame::with_length))]
 fn judge_body(s: &[u8], kind: u8) -> Frame
     ensures { result ≡ with_length kind s.now (read_int s.now 2) }
 {
-    match wire::read_int(s, 2) {
-        wire::Int::Short { looked: _ } => Frame::Waiting,
-        wire::Int::Overflow { looked: _ } => Frame::Refused(21),
-        wire::Int::Value { value, next } => {
-            if BODY_MAX < value {
-                return Frame::Refused(22);
-            }
-            let end = next + value as usize;
-            if s.len() < end {
-                return Frame::Waiting;
-            }
-            Frame::Body {
-                kind,
-                start: next,
-                end,
-            }
-        }
+    let (value, start) = match wire::read_int(s, 2) {
+        Ok((value, start)) => (value, start),
+        Err(IntError::Short { .. }) => return Frame::Waiting,
+        Err(IntError::Overflow { .. }) => return Frame::Refused(21),
+    };
+    if BODY_MAX < value {
+        return Frame::Refused(22);
     }
+    let end = start + value as usize;
+    if s.len() < end {
+        return Frame::Waiting;
+    }
+    Frame::Body { kind, start, end }
 }
 
 // What the bytes of a message come to so far.
+#[tactic(auto, unfolding(crate::specs::Frame::judge_frame, crate::specs::Frame::with_header))]
 pub fn judge_frame(s: &[u8]) -> Frame
     ensures { result ≡ judge_frame s.now }
 {
@@ -98,9 +88,9 @@ pub fn judge_frame(s: &[u8]) -> Frame
         return Frame::Waiting;
     }
     match header_of(s[0], s[1]) {
-        Header::Control(kind) => Frame::Control(kind),
-        Header::Error(kind) => Frame::Error(kind),
-        Header::StickTable(kind) => judge_body(s, kind),
-        Header::Unknown => Frame::Refused(20),
+        Some(Header::Control(kind)) => Frame::Control(kind),
+        Some(Header::Error(kind)) => Frame::Error(kind),
+        Some(Header::StickTable(kind)) => judge_body(s, kind),
+        None => Frame::Refused(20),
     }
 }

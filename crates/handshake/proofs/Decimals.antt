@@ -5,12 +5,12 @@ use native.Mathlib.Nat.{pow-suc}
 use mathlib.Core.Logic.{⊎_elim}
 use mathlib.Core.Path.{◌≡◌, refl}
 use mathlib.Core.List.{List, [], ◌∷◌, ◌++◌}
-use mathlib.Core.Bool.{true, ◌&&◌}
-use lib.Dec.{leb}
+use mathlib.Core.Bool.{true}
 use lib.ListN.{length, length-append}
 use borrow.Author.Tests.{lt-ltb, le-ltb, le-leb}
+use Rattle.handshake.proofs.NameBytes.{within-head, within-tail}
 use Rattle.handshake.specs.Bytes.{within, decimal_in, decimal, read_digits}
-use Rattle.lists.proofs.Cases.{lt-or-le, and_first, and_second}
+use Rattle.lists.proofs.Cases.{lt-or-le}
 
 -- ---- the rule, case by case
 pub decimal-last : (f g n : ℕ) → f ≡ suc g → n < 10 → decimal_in f n ≡ (48 + n) ∷ []
@@ -45,22 +45,9 @@ few-in (suc f) (suc k) n h =
     (λ l. rw (le-ltb n 10 l, length-append) (omega (arith, few-in f k (n / 10) (shrinks (suc (suc k)) (suc k) n refl h))))
     (lt-or-le n 10)
 
-most-in : (f n : ℕ) → length (decimal_in f n) ≤ f
-unfolding decimal_in
-most-in zero n = omega arith
-most-in (suc f) n =
-    ⊎_elim
-    (λ l. rw (lt-ltb n 10 l) (omega arith))
-    (λ l. rw (le-ltb n 10 l, length-append) (omega (arith, most-in f (n / 10))))
-    (lt-or-le n 10)
-
 pub decimal-some : (n : ℕ) → 1 ≤ length (decimal n)
 unfolding decimal
 decimal-some n = some_in 19 n
-
-pub decimal-most : (n : ℕ) → length (decimal n) ≤ 20
-unfolding decimal
-decimal-most n = most-in 20 n
 
 -- a number below 10 ^ (k + 1) has k + 1 digits at most
 pub decimal-few : (k n : ℕ) → n < 10 ^ suc k → length (decimal n) ≤ suc k
@@ -72,9 +59,8 @@ pub within-append : (lo hi : ℕ) (s t : List ℕ) → within lo hi s ≡ true �
 unfolding within
 within-append lo hi [] t p q = q
 within-append lo hi (b ∷ s) t p q =
-    let a = and_first (leb lo b) (leb b hi && within lo hi s) p in
-    let r = and_second (leb lo b) (leb b hi && within lo hi s) p in
-    rw (a, and_first (leb b hi) (within lo hi s) r) (within-append lo hi s t (and_second (leb b hi) (within lo hi s) r) q)
+    let h = within-head lo hi b s p in
+    rw (le-leb lo b h.0, le-leb b hi h.1) (within-append lo hi s t (within-tail lo hi b s p) q)
 
 digit-in : (d : ℕ) → d < 10 → within 48 57 ((48 + d) ∷ []) ≡ true
 unfolding within

@@ -1,5 +1,6 @@
 -- Laws of hello and status that layers above cite: every first part of waiting bytes waits, waiting bytes are few, and the numbers of
 -- refusals.
+use Rattle.std.specs.Prelude.{Err, Ok, Result}
 use Prim.Native.Nat.{ℕ, zero, suc, ◌+◌, ◌-◌, ◌^◌, ◌≤◌, ◌<◌}
 use native.Mathlib.Omega.{arith}
 use mathlib.Core.Logic.{⊎_elim}
@@ -10,8 +11,8 @@ use lib.Dec.{ltb, leb, eqb}
 use lib.ListN.{length, take, drop, length-append, length-drop, drop_of_length-le}
 use lib.Seq.{take-append-le, drop-append-le}
 use borrow.Author.Tests.{lt-ltb, le-ltb, leb-true}
-use Rattle.handshake.specs.declared.Line.{Line}
-use Rattle.handshake.specs.declared.Line.TheVariants as line
+use Rattle.handshake.specs.declared.LineError.{LineError}
+use Rattle.handshake.specs.declared.LineError.TheVariants as line
 use Rattle.handshake.specs.declared.Hello.{Hello}
 use Rattle.handshake.specs.declared.Hello.TheVariants as hello
 use Rattle.handshake.specs.declared.Status.{Status}
@@ -23,10 +24,10 @@ use Rattle.lists.proofs.Cases.{by-test, lt-or-le, and_first, and_second}
 use Rattle.handshake.proofs.LineEnds.{line-ends, line-waits}
 
 -- ---- a line that ended, or is too long, stays so with more bytes
-KeptLine : Line → Line → Type 0
-KeptLine (line.End p) y = y ≡ line.End p
-KeptLine line.Open y = Unit {0}
-KeptLine line.TooLong y = y ≡ line.TooLong
+KeptLine : Result ℕ LineError → Result ℕ LineError → Type 0
+KeptLine (Ok p) y = y ≡ Ok p
+KeptLine (Err line.Open) y = Unit {0}
+KeptLine (Err line.TooLong) y = y ≡ (Err line.TooLong)
 
 kept_in : (n at : ℕ) (s t : List ℕ) → KeptLine (line_in n at s) (line_in n at (s ++ t))
 unfolding KeptLine line_in
@@ -63,9 +64,9 @@ span_more u v from to h k =
     rw (drop-append-le from u v a) (take-append-le (to - from) (drop from u) v b)
 
 module _ (l r u v : List ℕ) where
-  kept-third : (p q : ℕ) (x y : Line) → p < length u → p + 1 ≤ q → q < length u → line_at u (q + 1) ≡ x → KeptLine x y → KeptHello (from_third l r u p q x) (from_third l r (u ++ v) p q y)
+  kept-third : (p q : ℕ) (x y : Result ℕ LineError) → p < length u → p + 1 ≤ q → q < length u → line_at u (q + 1) ≡ x → KeptLine x y → KeptHello (from_third l r u p q x) (from_third l r (u ++ v) p q y)
   unfolding KeptLine KeptHello from_third
-  kept-third p q (line.End e) y h₁ h₂ h₃ f k =
+  kept-third p q (Ok e) y h₁ h₂ h₃ f k =
       let b = line-ends u (q + 1) e f in
       let b₁ : q + 1 ≤ e = omega arith in
       let b₂ : e ≤ length u = omega arith in
@@ -73,23 +74,23 @@ module _ (l r u v : List ℕ) where
       let b₄ : q ≤ length u = omega arith in
       rw (k, take-append-le p u v b₃, span_more u v (p + 1) q h₂ b₄, span_more u v (q + 1) e b₁ b₂)
       (kept_refl (judge_lines l r (take p u) (span (p + 1) q u) (span (q + 1) e u)))
-  kept-third p q line.Open y h₁ h₂ h₃ f k = tt
-  kept-third p q line.TooLong y h₁ h₂ h₃ f k = rw k refl
+  kept-third p q (Err line.Open) y h₁ h₂ h₃ f k = tt
+  kept-third p q (Err line.TooLong) y h₁ h₂ h₃ f k = rw k refl
 
-  kept_second : (p : ℕ) (x y : Line) → p < length u → line_at u (p + 1) ≡ x → KeptLine x y → KeptHello (from_second l r u p x) (from_second l r (u ++ v) p y)
+  kept_second : (p : ℕ) (x y : Result ℕ LineError) → p < length u → line_at u (p + 1) ≡ x → KeptLine x y → KeptHello (from_second l r u p x) (from_second l r (u ++ v) p y)
   unfolding KeptLine KeptHello from_second
-  kept_second p (line.End q) y h f k =
+  kept_second p (Ok q) y h f k =
       let b = line-ends u (p + 1) q f in
       rw k (kept-third p q (line_at u (q + 1)) (line_at (u ++ v) (q + 1)) h b.0 b.2 refl (kept_line u v (q + 1)))
-  kept_second p line.Open y h f k = tt
-  kept_second p line.TooLong y h f k = rw k refl
+  kept_second p (Err line.Open) y h f k = tt
+  kept_second p (Err line.TooLong) y h f k = rw k refl
 
-  kept-first : (x y : Line) → line_at u 0 ≡ x → KeptLine x y → KeptHello (from_first l r u x) (from_first l r (u ++ v) y)
+  kept-first : (x y : Result ℕ LineError) → line_at u 0 ≡ x → KeptLine x y → KeptHello (from_first l r u x) (from_first l r (u ++ v) y)
   unfolding KeptLine KeptHello from_first
-  kept-first (line.End p) y f k =
+  kept-first (Ok p) y f k =
       rw k (kept_second p (line_at u (p + 1)) (line_at (u ++ v) (p + 1)) (line-ends u 0 p f).2 refl (kept_line u v (p + 1)))
-  kept-first line.Open y f k = tt
-  kept-first line.TooLong y f k = rw k refl
+  kept-first (Err line.Open) y f k = tt
+  kept-first (Err line.TooLong) y f k = rw k refl
 
   kept-hello : KeptHello (judge_hello l r u) (judge_hello l r (u ++ v))
   unfolding judge_hello
@@ -169,27 +170,27 @@ module _ (n : ℕ) where
       by-test (greets a && ltb 0 (length b)) (λ h. rw h (third-is l r (drop 9 a) b c)) (λ h. rw h (omega arith))
 
 module _ (l r u : List ℕ) where
-  is-third : (p q : ℕ) (x : Line) → q ≤ 129 → line_at u (q + 1) ≡ x → HelloIs (length u) (from_third l r u p q x)
+  is-third : (p q : ℕ) (x : Result ℕ LineError) → q ≤ 129 → line_at u (q + 1) ≡ x → HelloIs (length u) (from_third l r u p q x)
   unfolding HelloIs from_third
-  is-third p q (line.End e) h f = lines_are (length u) l r (take p u) (span (p + 1) q u) (span (q + 1) e u)
-  is-third p q line.Open h f = omega (arith, line-waits u (q + 1) f)
-  is-third p q line.TooLong h f = omega arith
+  is-third p q (Ok e) h f = lines_are (length u) l r (take p u) (span (p + 1) q u) (span (q + 1) e u)
+  is-third p q (Err line.Open) h f = omega (arith, line-waits u (q + 1) f)
+  is-third p q (Err line.TooLong) h f = omega arith
 
-  is-second : (p : ℕ) (x : Line) → p ≤ 64 → line_at u (p + 1) ≡ x → HelloIs (length u) (from_second l r u p x)
+  is-second : (p : ℕ) (x : Result ℕ LineError) → p ≤ 64 → line_at u (p + 1) ≡ x → HelloIs (length u) (from_second l r u p x)
   unfolding HelloIs from_second
-  is-second p (line.End q) h f =
+  is-second p (Ok q) h f =
       let b = line-ends u (p + 1) q f in
       is-third p q (line_at u (q + 1)) (omega arith) refl
-  is-second p line.Open h f = omega (arith, line-waits u (p + 1) f)
-  is-second p line.TooLong h f = omega arith
+  is-second p (Err line.Open) h f = omega (arith, line-waits u (p + 1) f)
+  is-second p (Err line.TooLong) h f = omega arith
 
-  is-first : (x : Line) → line_at u 0 ≡ x → HelloIs (length u) (from_first l r u x)
+  is-first : (x : Result ℕ LineError) → line_at u 0 ≡ x → HelloIs (length u) (from_first l r u x)
   unfolding HelloIs from_first
-  is-first (line.End p) f =
+  is-first (Ok p) f =
       let b = line-ends u 0 p f in
       is-second p (line_at u (p + 1)) (omega arith) refl
-  is-first line.Open f = omega (arith, line-waits u 0 f)
-  is-first line.TooLong f = omega arith
+  is-first (Err line.Open) f = omega (arith, line-waits u 0 f)
+  is-first (Err line.TooLong) f = omega arith
 
 pub hello-is : (l r u : List ℕ) → HelloIs (length u) (judge_hello l r u)
 unfolding judge_hello

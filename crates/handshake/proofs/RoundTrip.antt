@@ -1,4 +1,5 @@
 -- Reading the hello that a caller writes, as the addressed peer, is accepted with its process numbers.
+use Rattle.std.specs.Prelude.{Ok}
 use Prim.Native.Nat.{ℕ, zero, suc, ◌+◌, ◌-◌, ◌^◌, ◌≤◌, ◌<◌}
 use native.Mathlib.Omega.{arith}
 use mathlib.Core.Path.{◌≡◌, refl, sym, ap, ◌∙◌}
@@ -8,12 +9,12 @@ use lib.Dec.{leb}
 use lib.ListN.{length, take, length-append}
 use lib.Seq.{take-append_seam, drop_at}
 use borrow.Author.Tests.{lt-ltb, le-leb, leb-true, eq-eqb, ne_eqb}
-use Rattle.handshake.specs.declared.Line.TheVariants as line
 use Rattle.handshake.specs.declared.Hello.TheVariants as hello
 use Rattle.lists.specs.Lists.{eq_bytes}
 use Rattle.handshake.specs.Bytes.{one_of, within, decimal, read_digits}
 use Rattle.handshake.specs.Handshake.{name_ok, greeting, version20, version21, space, lf, spaced, sender_line, ended, hello_bytes, line_in, line_at, span, until_space, word, after_word, part_b, number_b, numbers_b, greets, judge_names, judge_numbers, judge_third, judge_lines, from_third, from_second, from_first, judge_hello}
 use Rattle.lists.proofs.Cases.{and_first, and_second}
+use Rattle.handshake.proofs.NameBytes.{within-head, within-tail}
 use Rattle.handshake.proofs.Decimals.{within-append, decimal-some, decimal-few, decimal-within, decimal-reads}
 use Rattle.handshake.proofs.writing.Putting.{first-line}
 
@@ -27,24 +28,13 @@ within_wider : (lo hi lo' hi' : ℕ) (s : List ℕ) → lo' ≤ lo → hi ≤ hi
 unfolding within
 within_wider lo hi lo' hi' [] p q w = refl
 within_wider lo hi lo' hi' (b ∷ s) p q w =
-    let r = and_second (leb lo b) (leb b hi && within lo hi s) w in
-    let a = leb-true lo b (and_first (leb lo b) (leb b hi && within lo hi s) w) in
-    let c = leb-true b hi (and_first (leb b hi) (within lo hi s) r) in
+    let h = within-head lo hi b s w in
     let d : lo' ≤ b = omega arith in
     let e : b ≤ hi' = omega arith in
-    rw (le-leb lo' b d, le-leb b hi' e) (within_wider lo hi lo' hi' s p q (and_second (leb b hi) (within lo hi s) r))
-
--- the first byte of such a string, and the others
-within-head : (lo hi b : ℕ) (s : List ℕ) → within lo hi (b ∷ s) ≡ true → lo ≤ b
-unfolding within
-within-head lo hi b s w = leb-true lo b (and_first (leb lo b) (leb b hi && within lo hi s) w)
-
-within-tail : (lo hi b : ℕ) (s : List ℕ) → within lo hi (b ∷ s) ≡ true → within lo hi s ≡ true
-unfolding within
-within-tail lo hi b s w = and_second (leb b hi) (within lo hi s) (and_second (leb lo b) (leb b hi && within lo hi s) w)
+    rw (le-leb lo' b d, le-leb b hi' e) (within_wider lo hi lo' hi' s p q (within-tail lo hi b s w))
 
 -- ---- a line of such bytes, at the end of what stands before it
-line-in : (n at : ℕ) (x t : List ℕ) → within 32 126 x ≡ true → length x ≤ n → line_in n at (x ++ (10 ∷ t)) ≡ line.End (at + length x)
+line-in : (n at : ℕ) (x t : List ℕ) → within 32 126 x ≡ true → length x ≤ n → line_in n at (x ++ (10 ∷ t)) ≡ Ok (at + length x)
 unfolding line_in
 line-in zero at [] t w h = let e : at + 0 ≡ at = omega arith in rw e
 line-in zero at (b ∷ x) t w h = absurd (omega arith)
@@ -53,10 +43,10 @@ line-in (suc n) at (b ∷ x) t w h =
     let k = within-head 32 126 b x w in
     let d : b ≡ 10 → ⊥ = λ e. omega arith in
     let e : at + 1 + length x ≡ at + suc (length x) = omega arith in
-    rw (ne_eqb b 10 d) (line-in n (at + 1) x t (within-tail 32 126 b x w) (omega arith) ∙ ap line.End e)
+    rw (ne_eqb b 10 d) (line-in n (at + 1) x t (within-tail 32 126 b x w) (omega arith) ∙ ap Ok e)
 
 module _ (u pre x t : List ℕ) (n : ℕ) (e : u ≡ pre ++ (x ++ (10 ∷ t))) (f : length pre ≡ n) where
-  line-at : within 32 126 x ≡ true → length x ≤ 64 → line_at u n ≡ line.End (n + length x)
+  line-at : within 32 126 x ≡ true → length x ≤ 64 → line_at u n ≡ Ok (n + length x)
   unfolding line_at
   line-at w h = rw (e, drop_at pre (x ++ (10 ∷ t)) n f) (line-in 64 n x t w h)
 
@@ -202,16 +192,16 @@ module _ (r l : List ℕ) (p q : ℕ) (hr : name_ok r ≡ true) (hl : name_ok l 
   unfolding ended lf
   second-length = omega (arith, length-append (ended first-line) (ended r), length-append r (10 ∷ []))
 
-  first_found : line_at (hello_bytes r l p q) 0 ≡ line.End 12
+  first_found : line_at (hello_bytes r l p q) 0 ≡ Ok 12
   first_found = line-at (hello_bytes r l p q) [] first-line (ended r ++ ended (sender_line l p q)) 0 cut-first refl first-graphic (omega arith)
 
-  second-found : line_at (hello_bytes r l p q) 13 ≡ line.End (13 + length r)
+  second-found : line_at (hello_bytes r l p q) 13 ≡ Ok (13 + length r)
   second-found =
       line-at (hello_bytes r l p q) (ended first-line) r (ended (sender_line l p q)) 13 cut-second first_ended
       (within_wider 33 126 32 126 r (omega arith) (omega arith) (name-graphic r hr))
       (omega (arith, name-most r hr))
 
-  third-found : line_at (hello_bytes r l p q) (13 + length r + 1) ≡ line.End (13 + length r + 1 + length (sender_line l p q))
+  third-found : line_at (hello_bytes r l p q) (13 + length r + 1) ≡ Ok (13 + length r + 1 + length (sender_line l p q))
   third-found =
       line-at (hello_bytes r l p q) (ended first-line ++ ended r) (sender_line l p q) [] (13 + length r + 1) cut-third second-length
       sender-graphic

@@ -1,11 +1,10 @@
 -- Byte strings: texts, ranges, decimal numbers, and bytes at the front of a room.
-use Rattle.std.specs.Prelude.{ℕ, zero, suc, ◌+◌, ◌*◌, ◌-◌, ◌/◌, ◌%◌, List, [], ◌∷◌, ◌++◌, Bool, true, false, cond, ◌&&◌, ltb, leb, length, replicate}
+use Rattle.std.specs.Prelude.{ℕ, zero, suc, ◌+◌, ◌*◌, ◌-◌, ◌/◌, ◌%◌, List, [], ◌∷◌, ◌++◌, Bool, true, false, cond, ◌&&◌, ltb, leb, length, None, Option, Some}
+use Rattle.std.specs.List.{list_all}
 use Prim.Native.Char.{code}
 use Prim.Native.String.{String, [] as ε, ◌∷◌ as ◌◃◌}
 use Rattle.lists.specs.Lists.{eq_bytes, front}
-use Rattle.handshake.specs.declared.Digits.{Digits}
-use Rattle.handshake.specs.declared.Written.{Written}
-use Rattle.handshake.specs.declared.Written.TheVariants as written
+use Rattle.lists.specs.declared.inline.Bytes.{Bytes}
 
 -- the bytes of a text in quotes
 abbrev pub ascii : String → List ℕ
@@ -21,8 +20,7 @@ one_of s (t ∷ ts) = cond (eq_bytes s t) true (one_of s ts)
 
 -- each byte is lo or more, and hi or less
 unfoldable pub within : ℕ → ℕ → List ℕ → Bool
-within lo hi [] = true
-within lo hi (b ∷ s) = leb lo b && (leb b hi && within lo hi s)
+within lo hi s = list_all (λ b. leb lo b && leb b hi) s
 
 -- ---- decimal numbers
 
@@ -40,9 +38,9 @@ unfoldable pub read_digits : ℕ → List ℕ → ℕ
 read_digits n [] = n
 read_digits n (d ∷ ds) = read_digits (n * 10 + (d - 48)) ds
 
--- the digits at the end of an array of twenty, zeros before them
-unfoldable pub digits_of : ℕ → Digits
-digits_of n = record { bytes = replicate (20 - length (decimal n)) 0 ++ decimal n; start = 20 - length (decimal n) }
+-- the digits as `decimal_digits` returns them: at most twenty bytes
+abbrev pub digits_of : ℕ → Bytes 20
+digits_of n = decimal n
 
 -- ---- a room
 
@@ -50,5 +48,5 @@ digits_of n = record { bytes = replicate (20 - length (decimal n)) 0 ++ decimal 
 unfoldable pub room_with : List ℕ → List ℕ → List ℕ
 room_with bytes room = cond (leb (length bytes) (length room)) (front bytes room) room
 
-unfoldable pub written_to : List ℕ → List ℕ → Written
-written_to bytes room = cond (leb (length bytes) (length room)) (written.Length (length bytes)) written.NoRoom
+unfoldable pub written_to : List ℕ → List ℕ → Option ℕ
+written_to bytes room = cond (leb (length bytes) (length room)) (Some (length bytes)) None

@@ -1,6 +1,6 @@
 -- The rules at worked examples, by computation.
-use Rattle.std.specs.Prelude.{ℕ, ◌^◌, ◌-◌, ◌≡◌, refl, List, [], ◌∷◌, ◌++◌, map, true, false, replicate}
-use Rattle.handshake.specs.declared.Line.TheVariants as line
+use Rattle.std.specs.Prelude.{ℕ, ◌^◌, ◌-◌, ◌≡◌, refl, List, [], ◌∷◌, ◌++◌, map, true, false, replicate, Err, Ok}
+use Rattle.handshake.specs.declared.LineError.TheVariants as line
 use Rattle.handshake.specs.declared.Hello.TheVariants as hello
 use Rattle.handshake.specs.declared.Status.TheVariants as status
 use Rattle.lists.specs.Lists.{eq_bytes}
@@ -57,15 +57,15 @@ unfolding eq_bytes one_of within decimal_in decimal read_digits greeting version
 hellos-refused = refl
 
 -- ---- 64 bytes and LF are a line; a 65th byte that is no LF shows the refusal
-line-full : line_at (7 ∷ (replicate 64 7 ++ ascii "\n")) 1 ≡ line.End 65
+line-full : line_at (7 ∷ (replicate 64 7 ++ ascii "\n")) 1 ≡ Ok 65
 unfolding line_in line_at
 line-full = refl
 
-line-open : line_at (replicate 64 7) 0 ≡ line.Open
+line-open : line_at (replicate 64 7) 0 ≡ (Err line.Open)
 unfolding line_in line_at
 line-open = refl
 
-line-over : line_at (replicate 65 7) 0 ≡ line.TooLong
+line-over : line_at (replicate 65 7) 0 ≡ (Err line.TooLong)
 unfolding line_in line_at
 line-over = refl
 

@@ -1,15 +1,11 @@
 -- Hello and status: what document 01 says in "Opening and handshake", in its order.
-use Rattle.std.specs.Prelude.{ℕ, zero, suc, ◌+◌, ◌-◌, List, [], ◌∷◌, ◌++◌, Bool, cond, ◌&&◌, ltb, leb, eqb, length, take, drop}
-use Rattle.handshake.specs.declared.Line.{Line}
-use Rattle.handshake.specs.declared.Line.TheVariants as line
+use Rattle.std.specs.Prelude.{ℕ, zero, suc, ◌+◌, ◌-◌, List, [], ◌∷◌, ◌++◌, Bool, cond, ◌&&◌, ltb, leb, eqb, length, take, drop, None, Option, Some, Err, Ok, Result}
+use Rattle.handshake.specs.declared.LineError.{LineError}
+use Rattle.handshake.specs.declared.LineError.TheVariants as line
 use Rattle.handshake.specs.declared.Hello.{Hello}
 use Rattle.handshake.specs.declared.Hello.TheVariants as hello
 use Rattle.handshake.specs.declared.Status.{Status}
 use Rattle.handshake.specs.declared.Status.TheVariants as status
-use Rattle.handshake.specs.declared.Part.{Part}
-use Rattle.handshake.specs.declared.Part.TheVariants as part
-use Rattle.handshake.specs.declared.Decimal.{Decimal}
-use Rattle.handshake.specs.declared.Decimal.TheVariants as number
 use Rattle.lists.specs.Lists.{eq_bytes}
 use Rattle.handshake.specs.Bytes.{ascii, one_of, within, decimal, read_digits}
 
@@ -36,6 +32,9 @@ version21 = ascii "2.1"
 -- the byte of a space, and of LF
 abbrev pub space_byte : ℕ
 space_byte = 32
+
+abbrev pub is_space : ℕ → Bool
+is_space b = eqb b space_byte
 
 abbrev pub lf_byte : ℕ
 lf_byte = 10
@@ -67,17 +66,17 @@ hello_bytes remote local process relative =
 -- ---- lines
 
 -- the line whose next byte has position at, where s is what is there, and n bytes more may stand before its LF
-unfoldable pub line_in : ℕ → ℕ → List ℕ → Line
-line_in zero at [] = line.Open
-line_in zero at (b ∷ s) = cond (eqb b lf_byte) (line.End at) line.TooLong
-line_in (suc n) at [] = line.Open
-line_in (suc n) at (b ∷ s) = cond (eqb b lf_byte) (line.End at) (line_in n (at + 1) s)
+unfoldable pub line_in : ℕ → ℕ → List ℕ → Result ℕ LineError
+line_in zero at [] = (Err line.Open)
+line_in zero at (b ∷ s) = cond (eqb b lf_byte) (Ok at) (Err line.TooLong)
+line_in (suc n) at [] = (Err line.Open)
+line_in (suc n) at (b ∷ s) = cond (eqb b lf_byte) (Ok at) (line_in n (at + 1) s)
 
 -- "Reading a hello: a line has at most 64 bytes before its LF, and a 65th shows refusal 10 at once."
 abbrev pub line_max : ℕ
 line_max = 64
 
-unfoldable pub line_at : List ℕ → ℕ → Line
+unfoldable pub line_at : List ℕ → ℕ → Result ℕ LineError
 line_at u at = line_in line_max at (drop at u)
 
 -- the bytes from a position up to another
@@ -102,15 +101,15 @@ after_word s = drop (until_space s + 1) s
 unfoldable pub part_b : List ℕ → Bool
 part_b s = ltb 0 (until_space s) && ltb (until_space s) (length s)
 
-unfoldable pub part_of : List ℕ → Part
-part_of s = cond (part_b s) (part.Upto (until_space s)) part.Missing
+unfoldable pub part_of : List ℕ → Option ℕ
+part_of s = cond (part_b s) (Some (until_space s)) None
 
 -- "numbers of 1 to 10 digits, each at most 4294967295"
 unfoldable pub number_b : List ℕ → Bool
 number_b s = leb 1 (length s) && (leb (length s) 10 && (within 48 57 s && leb (read_digits 0 s) 4294967295))
 
-unfoldable pub number_of : List ℕ → Decimal
-number_of s = cond (number_b s) (number.Value (read_digits 0 s)) number.Malformed
+unfoldable pub number_of : List ℕ → Option ℕ
+number_of s = cond (number_b s) (Some (read_digits 0 s)) None
 
 -- "then two numbers of 1 to 10 digits": after the name
 unfoldable pub numbers_b : List ℕ → Bool
@@ -151,21 +150,31 @@ judge_lines local remote one two three =
     cond (greets one && ltb 0 (length two)) (judge_third local remote (drop 9 one) two three) (hello.Refused 10)
 
 -- the third line, after the LFs at p and q
-unfoldable pub from_third : (local remote u : List ℕ) → ℕ → ℕ → Line → Hello
-from_third local remote u p q (line.End e) = judge_lines local remote (take p u) (span (p + 1) q u) (span (q + 1) e u)
-from_third local remote u p q line.Open = hello.Waiting
-from_third local remote u p q line.TooLong = hello.Refused 10
+unfoldable pub from_third : (local remote u : List ℕ) → ℕ → ℕ → Result ℕ LineError → Hello
+from_third local remote u p q (Ok e) = judge_lines local remote (take p u) (span (p + 1) q u) (span (q + 1) e u)
+from_third local remote u p q (Err line.Open) = hello.Waiting
+from_third local remote u p q (Err line.TooLong) = hello.Refused 10
 
 -- the second line, after the LF at p
-unfoldable pub from_second : (local remote u : List ℕ) → ℕ → Line → Hello
-from_second local remote u p (line.End q) = from_third local remote u p q (line_at u (q + 1))
-from_second local remote u p line.Open = hello.Waiting
-from_second local remote u p line.TooLong = hello.Refused 10
+unfoldable pub from_second : (local remote u : List ℕ) → ℕ → Result ℕ LineError → Hello
+from_second local remote u p (Ok q) = from_third local remote u p q (line_at u (q + 1))
+from_second local remote u p (Err line.Open) = hello.Waiting
+from_second local remote u p (Err line.TooLong) = hello.Refused 10
 
-unfoldable pub from_first : (local remote u : List ℕ) → Line → Hello
-from_first local remote u (line.End p) = from_second local remote u p (line_at u (p + 1))
-from_first local remote u line.Open = hello.Waiting
-from_first local remote u line.TooLong = hello.Refused 10
+unfoldable pub from_first : (local remote u : List ℕ) → Result ℕ LineError → Hello
+from_first local remote u (Ok p) = from_second local remote u p (line_at u (p + 1))
+from_first local remote u (Err line.Open) = hello.Waiting
+from_first local remote u (Err line.TooLong) = hello.Refused 10
+
+-- what the bytes come to where a line lacks its end
+abbrev pub hello_error : LineError → Hello
+hello_error line.Open = hello.Waiting
+hello_error line.TooLong = hello.Refused 10
+
+-- what the bytes come to, whether the lines have their ends or not
+abbrev pub either : Result Hello Hello → Hello
+either (Ok h) = h
+either (Err h) = h
 
 -- "Reading a hello: .. The rest is judged at the third LF"
 unfoldable pub judge_hello : (local remote u : List ℕ) → Hello

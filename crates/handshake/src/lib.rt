@@ -11,20 +11,19 @@ pub mod writing;
 
 ghost use Rattle.std.specs.Prelude.{◌≡◌, true, ◌+◌, ◌<◌};
 ghost use Rattle.handshake.specs.Bytes.{within};
-ghost use Rattle.handshake.specs.Handshake.{name_ok};
+ghost use Rattle.handshake.specs.Handshake.{name_ok, hello_error};
 
 // The longest peer name.
 pub const PEER_NAME_MAX: usize = 32;
 
-// Where a line ends: its LF stands at a position; or the bytes end before an LF; or a 65th byte stands where an LF had to be.
-#[derive(Clone, Copy)]
-pub enum Line {
-    End(usize),
+// Why a line has no end: the bytes end before an LF; or a 65th byte stands where an LF had to be.
+#[derive(Clone, Copy, Debug, PartialEq, Eq)]
+pub enum LineError {
     Open,
     TooLong,
 }
 
-// What the bytes of a hello come to so far.
+// What the bytes of a hello come to so far. Three outcomes, and the document's number of a refusal, as `hello_reply` and an `Answer` hold it.
 #[derive(Clone, Copy)]
 pub enum Hello {
     Waiting,
@@ -32,7 +31,19 @@ pub enum Hello {
     Refused(u8),
 }
 
-// What the bytes of a status come to so far.
+// A line that has no end yet is waited for, and one that is too long is refused.
+impl From<LineError> for Hello {
+    ghost from_gives = { λ e r. r ≡ hello_error e };
+
+    fn from(e: LineError) -> Hello {
+        match e {
+            LineError::Open => Hello::Waiting,
+            LineError::TooLong => Hello::Refused(10),
+        }
+    }
+}
+
+// What the bytes of a status come to so far: three outcomes, and the document's number of a refusal, as an `Answer` holds it.
 #[derive(Clone, Copy)]
 pub enum Status {
     Waiting,
@@ -40,60 +51,18 @@ pub enum Status {
     Refused(u8),
 }
 
-// How many bytes were written to the front of a room; or that they do not fit.
-#[derive(Clone, Copy)]
-pub enum Written {
-    Length(usize),
-    NoRoom,
-}
-
-// A part of the sender's line that ends before a space: how many bytes it has.
-#[derive(Clone, Copy)]
-pub enum Part {
-    Upto(usize),
-    Missing,
-}
-
-// A decimal number read, of 32 bits.
-#[derive(Clone, Copy)]
-pub enum Decimal {
-    Value(u32),
-    Malformed,
-}
-
-// A number's decimal digits: the bytes from `start` on, and zeros before them.
-#[derive(Clone, Copy)]
-pub struct Digits {
-    pub bytes: [u8; 20],
-    pub start: usize,
-}
-
+// Whether each byte is in a range.
+#[tactic(auto, unfolding(crate::specs::Bytes::within))]
 pub fn bytes_within(s: &[u8], lo: u8, hi: u8) -> bool
     ensures { result ≡ within lo hi s.now }
 {
-    let mut i: usize = 0;
-    while i < s.len() {
-        let b = s[i];
-        if b < lo {
-            return false;
-        }
-        if hi < b {
-            return false;
-        }
-        i += 1;
-    }
-    true
+    s.iter().all(|b| lo <= *b && *b <= hi)
 }
 
 // Whether a name may be given at opening.
+#[tactic(auto, unfolding(crate::specs::Handshake::name_ok))]
 pub fn name_ok(name: &[u8]) -> bool
     ensures { result ≡ name_ok name.now }
 {
-    if name.len() < 1 {
-        return false;
-    }
-    if PEER_NAME_MAX < name.len() {
-        return false;
-    }
-    bytes_within(name, 33, 126)
+    1 <= name.len() && name.len() <= PEER_NAME_MAX && bytes_within(name, 33, 126)
 }

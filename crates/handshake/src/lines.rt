@@ -2,27 +2,23 @@
 ghost use Rattle.std.specs.Prelude.{◌≡◌};
 ghost use Rattle.handshake.specs.Handshake.{line_at};
 
-use crate::Line;
+use crate::LineError;
 
 // The most bytes that a line has before its LF.
 const LINE_MAX: usize = 64;
 
-// Where the line that starts at `at` ends.
-pub fn line_end(s: &[u8], at: usize) -> Line
+// Where the LF of the line that starts at `at` stands.
+#[tactic(auto, using(crate::proofs::lines::LineLoop::walking))]
+pub fn line_end(s: &[u8], at: usize) -> Result<usize, LineError>
     ensures { result ≡ line_at s.now at }
 {
-    let mut left: usize = LINE_MAX;
-    let mut i = at;
-    while i < s.len() {
-        let b = s[i];
-        if b == b'\n' {
-            return Line::End(i);
+    for i in at..s.len() {
+        if s[i] == b'\n' {
+            return Ok(i);
         }
-        if left == 0 {
-            return Line::TooLong;
+        if i - at == LINE_MAX {
+            return Err(LineError::TooLong);
         }
-        left -= 1;
-        i += 1;
     }
-    Line::Open
+    Err(LineError::Open)
 }

@@ -1,13 +1,16 @@
 // The hello of a caller written, and the decimal digits of a number.
-ghost use Rattle.std.specs.Prelude.{◌≡◌, ◌+◌, ◌≤◌, length};
-ghost use Rattle.lists.specs.Lists.{front, overlay};
+ghost use Rattle.std.specs.Prelude.{◌≡◌, ◌≤◌, length};
+ghost use Rattle.wire.specs.Writing.{Writes};
 ghost use Rattle.handshake.specs.Bytes.{decimal, digits_of, room_with, written_to};
-ghost use Rattle.handshake.specs.Handshake.{spaced, sender_line, ended, hello_bytes};
+ghost use Rattle.handshake.specs.Handshake.{spaced, ended, hello_bytes};
 
-use crate::{Digits, Written};
+use lists::inline::Bytes;
+use wire::writer::Writer;
 
-// The decimal digits of a number.
-pub fn decimal_digits(n: u64) -> Digits
+// The decimal digits of a number. They come last digit first, and a `Bytes` has no way to put one at its front, so an
+// array is filled from its end.
+#[tactic(auto, using(crate::proofs::writing::DigitArray::filling))]
+pub fn decimal_digits(n: u64) -> Bytes<20>
     ensures { result ≡ digits_of n }
 {
     let mut bytes = [0u8; 20];
@@ -19,95 +22,64 @@ pub fn decimal_digits(n: u64) -> Digits
         i -= 1;
     }
     bytes[i] = (48 + y) as u8;
-    Digits { bytes, start: i }
+    Bytes::copy_from_slice(&bytes[i..])
 }
 
+// How many digits a number has.
 fn count_digits(n: u32) -> usize
     ensures { (result ≡ length (decimal n)) × (result ≤ 20) }
 {
-    let d = decimal_digits(n as u64);
-    let start = d.start;
-    20 - start
+    decimal_digits(u64::from(n)).len()
 }
 
-// The bytes go into the room from `at` on; the result is the position after them.
-fn put(room: &mut [u8], at: usize, bytes: &[u8]) -> usize
-    requires { at + length bytes.now ≤ length room.old }
-    ensures next { result ≡ at + length bytes.now }
-    ensures content { room.new ≡ overlay at bytes.now room.old }
+// A line and its LF.
+fn put_line(w: &mut Writer<'_>, line: &[u8])
+    ensures { Writes (ended line.now) w.old w.new }
 {
-    let mut i: usize = 0;
-    while i < bytes.len() {
-        room[at + i] = bytes[i];
-        i += 1;
-    }
-    at + i
+    w.put(line);
+    w.put(b"\n");
 }
 
-fn put_line(room: &mut [u8], at: usize, line: &[u8]) -> usize
-    requires { at + length (ended line.now) ≤ length room.old }
-    ensures next { result ≡ at + length (ended line.now) }
-    ensures content { room.new ≡ overlay at (ended line.now) room.old }
+// A space and a number.
+fn put_spaced(w: &mut Writer<'_>, n: u32)
+    ensures { Writes (spaced n) w.old w.new }
 {
-    let next = put(room, at, line);
-    put(room, next, b"\n")
+    w.put(b" ");
+    w.put(decimal_digits(u64::from(n)).as_slice());
 }
 
-fn put_spaced(room: &mut [u8], at: usize, n: u32) -> usize
-    requires { at + length (spaced n) ≤ length room.old }
-    ensures next { result ≡ at + length (spaced n) }
-    ensures content { room.new ≡ overlay at (spaced n) room.old }
+fn put_hello(w: &mut Writer<'_>, remote: &[u8], local: &[u8], process: u32, relative: u32)
+    ensures { Writes (hello_bytes remote.now local.now process relative) w.old w.new }
 {
-    let next = put(room, at, b" ");
-    let d = decimal_digits(n as u64);
-    let start = d.start;
-    let bytes = d.bytes;
-    put(room, next, &bytes[start..])
-}
-
-fn put_sender(room: &mut [u8], at: usize, name: &[u8], process: u32, relative: u32) -> usize
-    requires { at + length (sender_line name.now process relative) ≤ length room.old }
-    ensures next { result ≡ at + length (sender_line name.now process relative) }
-    ensures content { room.new ≡ overlay at (sender_line name.now process relative) room.old }
-{
-    let a = put(room, at, name);
-    let b = put_spaced(room, a, process);
-    put_spaced(room, b, relative)
-}
-
-fn put_hello(room: &mut [u8], remote: &[u8], local: &[u8], process: u32, relative: u32) -> usize
-    requires { length (hello_bytes remote.now local.now process relative) ≤ length room.old }
-    ensures next { result ≡ length (hello_bytes remote.now local.now process relative) }
-    ensures content { room.new ≡ front (hello_bytes remote.now local.now process relative) room.old }
-{
-    let a = put_line(room, 0, b"HAProxyS 2.1");
-    let b = put_line(room, a, remote);
-    let c = put_sender(room, b, local, process, relative);
-    put(room, c, b"\n")
+    put_line(w, b"HAProxyS 2.1");
+    put_line(w, remote);
+    w.put(local);
+    put_spaced(w, process);
+    put_spaced(w, relative);
+    w.put(b"\n");
 }
 
 // The hello that a caller named `local` sends to the peer `remote`, at the front of the room if it fits.
+#[tactic(auto, using(crate::proofs::writing::Putting::writing_hello))]
 pub fn write_hello(
     room: &mut [u8],
     remote: &[u8],
     local: &[u8],
     process: u32,
     relative: u32,
-) -> Written
+) -> Option<usize>
     ensures length { result ≡ written_to (hello_bytes remote.now local.now process relative) room.old }
     ensures content { room.new ≡ room_with (hello_bytes remote.now local.now process relative) room.old }
 {
     let digits = count_digits(process) + count_digits(relative);
-    let space = room.len();
-    if space < remote.len() {
-        return Written::NoRoom;
+    let left = room
+        .len()
+        .checked_sub(remote.len())?
+        .checked_sub(local.len())?;
+    if left < 17 + digits {
+        return None;
     }
-    let left = space - remote.len();
-    if left < local.len() {
-        return Written::NoRoom;
-    }
-    if left - local.len() < 17 + digits {
-        return Written::NoRoom;
-    }
-    Written::Length(put_hello(room, remote, local, process, relative))
+    let mut w = Writer { room, at: 0 };
+    put_hello(&mut w, remote, local, process, relative);
+    Some(w.at)
 }

@@ -8,190 +8,122 @@
 // Numbers are decimal, bytes are hex.
 #![tactic(auto)]
 
-use std::io;
+use std::{fmt, io};
+use wire::buffer::fit_int;
+use wire::fixed::{read_number, write_number};
+use wire::values::{FieldError, read_limited, read_server_id, server_id_word};
+use wire::{IntError, read_int, write_int};
 
-fn space(rt: &impl Print) -> io::Result<()> {
-    rt.write_all(b" ")
-}
+// Bytes, two hex digits each.
+#[derive(Clone, Copy)]
+struct Hex<'a>(&'a [u8]);
 
-fn line(rt: &impl Print) -> io::Result<()> {
-    rt.write_all(b"\n")
-}
-
-fn decimal(rt: &impl Print, n: u64) -> io::Result<()> {
-    print!(rt; "{n}")
-}
-
-fn octet(b: u8) -> u64 {
-    b as u64
-}
-
-fn hex(rt: &impl Print, bytes: &[u8]) -> io::Result<()> {
-    for i in 0..bytes.len() {
-        let b = octet(bytes[i]);
-        print!(rt; "{b:02x}")?;
-    }
-    Ok(())
-}
-
-fn show_value(rt: &impl Print, value: u64, next: usize) -> io::Result<()> {
-    decimal(rt, value)?;
-    space(rt)?;
-    decimal(rt, next as u64)
-}
-
-fn show_int(rt: &impl Print, r: wire::Int) -> io::Result<()> {
-    match r {
-        wire::Int::Value { value, next } => show_value(rt, value, next),
-        wire::Int::Short { looked } => {
-            rt.write_all(b"short ")?;
-            decimal(rt, looked as u64)
+impl<'a> fmt::Display for Hex<'a> {
+    fn fmt<W: fmt::Write>(&self, f: &mut fmt::Formatter<W>) -> fmt::Result {
+        for b in self.0 {
+            write!(f, "{b:02x}")?;
         }
-        wire::Int::Overflow { looked } => {
-            rt.write_all(b"overflow ")?;
-            decimal(rt, looked as u64)
+        Ok(())
+    }
+}
+
+// What reading an integer gave.
+#[derive(Clone, Copy)]
+struct Answer(Result<(u64, usize), IntError>);
+
+impl fmt::Display for Answer {
+    fn fmt<W: fmt::Write>(&self, f: &mut fmt::Formatter<W>) -> fmt::Result {
+        match self.0 {
+            Ok((value, next)) => write!(f, "{value} {next}"),
+            Err(IntError::Short { looked }) => write!(f, "short {looked}"),
+            Err(IntError::Overflow { looked }) => write!(f, "overflow {looked}"),
         }
     }
 }
 
-fn show_field(rt: &impl Print, r: wire::values::Field) -> io::Result<()> {
-    match r {
-        wire::values::Field::Value { value, next } => show_value(rt, value, next),
-        wire::values::Field::Short => rt.write_all(b"short"),
-        wire::values::Field::OutOfRange => rt.write_all(b"out"),
-    }
-}
+// What reading a field gave.
+#[derive(Clone, Copy)]
+struct Field(Result<(u64, usize), FieldError>);
 
-fn show_id(rt: &impl Print, id: i32) -> io::Result<()> {
-    let w = wire::values::server_id_word(id);
-    if id < 0 {
-        rt.write_all(b"-")?;
-        decimal(rt, std::num::wrapping_sub_u64(0, w))?;
-    } else {
-        decimal(rt, w)?;
+impl fmt::Display for Field {
+    fn fmt<W: fmt::Write>(&self, f: &mut fmt::Formatter<W>) -> fmt::Result {
+        match self.0 {
+            Ok((value, next)) => write!(f, "{value} {next}"),
+            Err(FieldError::Short) => write!(f, "short"),
+            Err(FieldError::OutOfRange) => write!(f, "out"),
+        }
     }
-    space(rt)?;
-    decimal(rt, w)
 }
 
 fn int(rt: &impl Print, v: u64) -> io::Result<()> {
-    let e = wire::write_int(v);
-    let len = e.len;
-    let bytes = e.bytes;
-    rt.write_all(b"int ")?;
-    decimal(rt, v)?;
-    space(rt)?;
-    hex(rt, &bytes[..len])?;
-    space(rt)?;
-    show_int(rt, wire::read_int(&bytes[..len], 0))?;
-    line(rt)
+    let e = write_int(v);
+    let bytes = e.as_slice();
+    println!(rt; "int {v} {} {}", Hex(bytes), Answer(read_int(bytes, 0)))
 }
 
 // A value with the one below and the one above it.
 fn around(rt: &impl Print, v: u64) -> io::Result<()> {
-    if 0 < v {
-        int(rt, v - 1)?;
+    if let Some(below) = v.checked_sub(1) {
+        int(rt, below)?;
     }
     int(rt, v)?;
-    if v < 0xffff_ffff_ffff_ffff {
-        int(rt, v + 1)?;
+    match v.checked_add(1) {
+        Some(above) => int(rt, above),
+        None => Ok(()),
     }
-    Ok(())
 }
 
 fn read(rt: &impl Print, bytes: &[u8]) -> io::Result<()> {
-    rt.write_all(b"read ")?;
-    hex(rt, bytes)?;
-    space(rt)?;
-    show_int(rt, wire::read_int(bytes, 0))?;
-    line(rt)
+    println!(rt; "read {} {}", Hex(bytes), Answer(read_int(bytes, 0)))
 }
 
 fn limit(rt: &impl Print, max: u64, v: u64) -> io::Result<()> {
-    let e = wire::write_int(v);
-    let bytes = e.bytes;
-    rt.write_all(b"limit ")?;
-    decimal(rt, max)?;
-    space(rt)?;
-    decimal(rt, v)?;
-    space(rt)?;
-    show_field(rt, wire::values::read_limited(&bytes, 0, max))?;
-    line(rt)
+    let e = write_int(v);
+    println!(rt;
+        "limit {max} {v} {}",
+        Field(read_limited(e.as_slice(), 0, max))
+    )
 }
 
 fn server(rt: &impl Print, v: u64) -> io::Result<()> {
-    let e = wire::write_int(v);
-    let bytes = e.bytes;
-    rt.write_all(b"id ")?;
-    decimal(rt, v)?;
-    space(rt)?;
-    match wire::values::read_server_id(&bytes, 0) {
-        wire::values::ServerId::Id { id, next: _ } => {
-            show_id(rt, id)?;
-        }
-        wire::values::ServerId::Short => {
-            rt.write_all(b"short")?;
-        }
-        wire::values::ServerId::OutOfRange => {
-            rt.write_all(b"out")?;
-        }
+    let e = write_int(v);
+    match read_server_id(e.as_slice(), 0) {
+        Ok((id, _)) => println!(rt; "id {v} {id} {}", server_id_word(id)),
+        Err(FieldError::Short) => println!(rt; "id {v} short"),
+        Err(FieldError::OutOfRange) => println!(rt; "id {v} out"),
     }
-    line(rt)
 }
 
 fn number(rt: &impl Print, v: u32) -> io::Result<()> {
-    let bytes = wire::fixed::write_number(v);
-    rt.write_all(b"number ")?;
-    decimal(rt, v as u64)?;
-    space(rt)?;
-    hex(rt, &bytes)?;
-    space(rt)?;
-    match wire::fixed::read_number(&bytes, 0) {
-        wire::fixed::FourBytes::Value { value, next } => {
-            show_value(rt, value as u64, next)?;
-        }
-        wire::fixed::FourBytes::Short => {
-            rt.write_all(b"short")?;
-        }
+    let bytes = write_number(v);
+    match read_number(&bytes, 0) {
+        Some((value, next)) => println!(rt; "number {v} {} {value} {next}", Hex(&bytes)),
+        None => println!(rt; "number {v} {} short", Hex(&bytes)),
     }
-    line(rt)
 }
 
 fn put(rt: &impl Print, v: u64, at: usize) -> io::Result<()> {
     let mut room = [170u8; 4];
-    let r = wire::buffer::fit_int(&mut room, at, v);
-    rt.write_all(b"put ")?;
-    decimal(rt, v)?;
-    space(rt)?;
-    decimal(rt, at as u64)?;
-    space(rt)?;
-    match r {
-        wire::buffer::Fit::Next(next) => {
-            decimal(rt, next as u64)?;
-        }
-        wire::buffer::Fit::NoRoom => {
-            rt.write_all(b"full")?;
-        }
+    match fit_int(&mut room, at, v) {
+        Some(next) => println!(rt; "put {v} {at} {next} {}", Hex(&room)),
+        None => println!(rt; "put {v} {at} full {}", Hex(&room)),
     }
-    space(rt)?;
-    hex(rt, &room)?;
-    line(rt)
 }
 
 // The smallest value of each length, and the largest.
-fn lengths(rt: &impl Print) -> io::Result<()> {
-    around(rt, 0)?;
-    around(rt, 240)?;
-    around(rt, 2288)?;
-    around(rt, 264432)?;
-    around(rt, 33818864)?;
-    around(rt, 4328786160)?;
-    around(rt, 554084600048)?;
-    around(rt, 70922828777712)?;
-    around(rt, 9078122083518704)?;
-    around(rt, 1161999626690365680)?;
-    around(rt, 0xffff_ffff_ffff_ffff)
-}
+const LENGTHS: [u64; 11] = [
+    0,
+    240,
+    2288,
+    264432,
+    33818864,
+    4328786160,
+    554084600048,
+    70922828777712,
+    9078122083518704,
+    1161999626690365680,
+    u64::MAX,
+];
 
 // Bytes that are no encoding of a 64-bit value, beside some that are.
 fn reads(rt: &impl Print) -> io::Result<()> {
@@ -231,42 +163,58 @@ fn reads(rt: &impl Print) -> io::Result<()> {
     )
 }
 
-fn limits(rt: &impl Print) -> io::Result<()> {
-    limit(rt, 0xffff_ffff, 0xffff_fffe)?;
-    limit(rt, 0xffff_ffff, 0xffff_ffff)?;
-    limit(rt, 0xffff_ffff, 0x1_0000_0000)?;
-    limit(rt, 0, 0)?;
-    limit(rt, 0, 1)?;
-    limit(rt, 0xffff_ffff_ffff_ffff, 0xffff_ffff_ffff_ffff)
-}
+// A limit, and a value read with it.
+const LIMITS: [(u64, u64); 6] = [
+    (0xffff_ffff, 0xffff_fffe),
+    (0xffff_ffff, 0xffff_ffff),
+    (0xffff_ffff, 0x1_0000_0000),
+    (0, 0),
+    (0, 1),
+    (u64::MAX, u64::MAX),
+];
 
-fn servers(rt: &impl Print) -> io::Result<()> {
-    server(rt, 0)?;
-    server(rt, 1)?;
-    server(rt, 0x7fff_ffff)?;
-    server(rt, 0x8000_0000)?;
-    server(rt, 0xffff_ffff_7fff_ffff)?;
-    server(rt, 0xffff_ffff_8000_0000)?;
-    server(rt, 0xffff_ffff_ffff_fffe)?;
-    server(rt, 0xffff_ffff_ffff_ffff)
-}
+const SERVERS: [u64; 8] = [
+    0,
+    1,
+    0x7fff_ffff,
+    0x8000_0000,
+    0xffff_ffff_7fff_ffff,
+    0xffff_ffff_8000_0000,
+    0xffff_ffff_ffff_fffe,
+    0xffff_ffff_ffff_ffff,
+];
+
+const NUMBERS: [u32; 4] = [0, 0x0102_0304, 0xff00_00fe, 0xffff_ffff];
+
+// A value, and where it is put.
+const PLACES: [(u64, usize); 9] = [
+    (7, 0),
+    (7, 3),
+    (7, 4),
+    (240, 2),
+    (240, 3),
+    (2288, 1),
+    (2288, 2),
+    (7, 5),
+    (u64::MAX, 0),
+];
 
 fn main(rt: HostRuntime) -> io::Result<()> {
-    lengths(&rt)?;
+    for v in LENGTHS {
+        around(&rt, v)?;
+    }
     reads(&rt)?;
-    limits(&rt)?;
-    servers(&rt)?;
-    number(&rt, 0)?;
-    number(&rt, 0x0102_0304)?;
-    number(&rt, 0xff00_00fe)?;
-    number(&rt, 0xffff_ffff)?;
-    put(&rt, 7, 0)?;
-    put(&rt, 7, 3)?;
-    put(&rt, 7, 4)?;
-    put(&rt, 240, 2)?;
-    put(&rt, 240, 3)?;
-    put(&rt, 2288, 1)?;
-    put(&rt, 2288, 2)?;
-    put(&rt, 7, 5)?;
-    put(&rt, 0xffff_ffff_ffff_ffff, 0)
+    for (max, v) in LIMITS {
+        limit(&rt, max, v)?;
+    }
+    for v in SERVERS {
+        server(&rt, v)?;
+    }
+    for v in NUMBERS {
+        number(&rt, v)?;
+    }
+    for (v, at) in PLACES {
+        put(&rt, v, at)?;
+    }
+    Ok(())
 }

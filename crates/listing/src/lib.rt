@@ -8,29 +8,28 @@ pub mod update;
 pub mod words;
 
 ghost use Rattle.std.specs.Prelude.{take};
-ghost use Rattle.text.specs.Room.{Wrote};
+ghost use Rattle.wire.specs.Writing.{Writes};
 ghost use Rattle.listing.specs.CallLines.{call_lines};
 
 use crate::answer::put_answer;
 use crate::reply::put_reply;
 use session::{Answer, Connection};
 use store::{TABLES, Table};
+use wire::writer::Writer;
 
-// The lines of one reading call. The position behind them is returned.
+// The lines of one reading call.
 pub fn put_call(
-    room: &mut [u8],
-    at: usize,
+    w: &mut Writer<'_>,
     connection: Connection,
     tables: [Table; TABLES],
     answer: Answer,
     reply: &[u8],
     len: usize,
-) -> usize
-    ensures { Wrote room.old at (call_lines connection tables answer (take len reply.now)) room.new result }
+)
+    ensures { Writes (call_lines connection tables answer (take len reply.now)) w.old w.new }
 {
-    if session::answers::answer_number(answer) == 256 {
-        return at;
+    if session::answers::answer_number(answer) != 256 {
+        put_answer(w, connection, tables, answer);
+        put_reply(w, reply, len);
     }
-    let next = put_answer(room, at, connection, tables, answer);
-    put_reply(room, next, reply, len)
 }

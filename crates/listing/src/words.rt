@@ -4,92 +4,84 @@ ghost use Rattle.handshake.specs.Bytes.{ascii, decimal};
 ghost use Rattle.store.specs.Store.{name_of};
 ghost use Rattle.session.specs.Session.{remote_name};
 ghost use Rattle.text.specs.Text.{hex, spaced, line};
-ghost use Rattle.text.specs.Room.{Wrote};
+ghost use Rattle.wire.specs.Writing.{Writes};
 
-use handshake::PEER_NAME_MAX;
 use session::Connection;
-use store::{NAME_MAX, Table};
-use text::put;
+use store::Table;
+use text::front;
 use text::spaced::{put_decimal_word, put_hex_word, put_word};
+use wire::writer::Writer;
 
-pub fn word_line(room: &mut [u8], at: usize, word: &[u8]) -> usize
-    ensures { Wrote room.old at (line word.now []) room.new result }
+pub fn word_line(w: &mut Writer<'_>, word: &[u8])
+    ensures { Writes (line word.now []) w.old w.new }
 {
-    let next = put(room, at, word);
-    put(room, next, b"\n")
+    w.put(word);
+    w.put(b"\n");
 }
 
-pub fn number_line(room: &mut [u8], at: usize, word: &[u8], n: u64) -> usize
-    ensures { Wrote room.old at (line word.now (decimal n ∷ [])) room.new result }
+pub fn number_line(w: &mut Writer<'_>, word: &[u8], n: u64)
+    ensures { Writes (line word.now (decimal n ∷ [])) w.old w.new }
 {
-    let a = put(room, at, word);
-    let b = put_decimal_word(room, a, n);
-    put(room, b, b"\n")
+    w.put(word);
+    put_decimal_word(w, n);
+    w.put(b"\n");
 }
 
 // Two numbers, each with a space before it.
-pub fn put_numbers(room: &mut [u8], at: usize, n: u64, m: u64) -> usize
-    ensures { Wrote room.old at (spaced (decimal n ∷ decimal m ∷ [])) room.new result }
+pub fn put_numbers(w: &mut Writer<'_>, n: u64, m: u64)
+    ensures { Writes (spaced (decimal n ∷ decimal m ∷ [])) w.old w.new }
 {
-    let next = put_decimal_word(room, at, n);
-    put_decimal_word(room, next, m)
+    put_decimal_word(w, n);
+    put_decimal_word(w, m);
 }
 
-pub fn numbers_line(room: &mut [u8], at: usize, word: &[u8], n: u64, m: u64) -> usize
-    ensures { Wrote room.old at (line word.now (decimal n ∷ decimal m ∷ [])) room.new result }
+pub fn numbers_line(w: &mut Writer<'_>, word: &[u8], n: u64, m: u64)
+    ensures { Writes (line word.now (decimal n ∷ decimal m ∷ [])) w.old w.new }
 {
-    let a = put(room, at, word);
-    let b = put_numbers(room, a, n, m);
-    put(room, b, b"\n")
+    w.put(word);
+    put_numbers(w, n, m);
+    w.put(b"\n");
 }
 
 // A refusal's number, and the offset at which the failing field starts.
-pub fn refused_at_line(room: &mut [u8], at: usize, number: u8, offset: usize) -> usize
-    ensures { Wrote room.old at (line (ascii "refused") (decimal number ∷ decimal offset ∷ [])) room.new result }
+pub fn refused_at_line(w: &mut Writer<'_>, number: u8, offset: usize)
+    ensures { Writes (line (ascii "refused") (decimal number ∷ decimal offset ∷ [])) w.old w.new }
 {
-    let a = put(room, at, b"refused");
-    let b = put_numbers(room, a, number as u64, offset as u64);
-    put(room, b, b"\n")
+    numbers_line(w, b"refused", number as u64, offset as u64);
 }
 
 // The accepted peer's name.
-fn put_peer(room: &mut [u8], at: usize, c: Connection) -> usize
-    ensures { Wrote room.old at (spaced (remote_name c ∷ [])) room.new result }
+#[tactic(auto, unfolding(session::specs::Session::remote_name))]
+fn put_peer(w: &mut Writer<'_>, c: Connection)
+    ensures { Writes (spaced (remote_name c ∷ [])) w.old w.new }
 {
-    let n = c.remote_len;
     let name = c.remote;
-    if n < PEER_NAME_MAX {
-        return put_word(room, at, &name[..n]);
-    }
-    put_word(room, at, &name)
+    put_word(w, front(&name, c.remote_len));
 }
 
-pub fn hello_line(room: &mut [u8], at: usize, c: Connection, process: u32, relative: u32) -> usize
-    ensures { Wrote room.old at (line (ascii "hello") (remote_name c ∷ decimal process ∷ decimal relative ∷ [])) room.new result }
+pub fn hello_line(w: &mut Writer<'_>, c: Connection, process: u32, relative: u32)
+    ensures { Writes (line (ascii "hello") (remote_name c ∷ decimal process ∷ decimal relative ∷ [])) w.old w.new }
 {
-    let a = put(room, at, b"hello");
-    let b = put_peer(room, a, c);
-    let d = put_numbers(room, b, process as u64, relative as u64);
-    put(room, d, b"\n")
+    w.put(b"hello");
+    put_peer(w, c);
+    put_numbers(w, process as u64, relative as u64);
+    w.put(b"\n");
 }
 
 // A table's name in hex.
-pub fn put_name(room: &mut [u8], at: usize, t: Table) -> usize
-    ensures { Wrote room.old at (spaced (hex (name_of t) ∷ [])) room.new result }
+#[tactic(auto, unfolding(store::specs::Store::name_of))]
+pub fn put_name(w: &mut Writer<'_>, t: Table)
+    ensures { Writes (spaced (hex (name_of t) ∷ [])) w.old w.new }
 {
-    let n = t.name_len;
     let name = t.name;
-    if n < NAME_MAX {
-        return put_hex_word(room, at, &name[..n]);
-    }
-    put_hex_word(room, at, &name)
+    put_hex_word(w, front(&name, t.name_len));
 }
 
-pub fn table_line(room: &mut [u8], at: usize, place: usize, t: Table) -> usize
-    ensures { Wrote room.old at (line (ascii "table") (decimal place ∷ hex (name_of t) ∷ [])) room.new result }
+pub fn table_line(w: &mut Writer<'_>, place: usize, t: Table)
+    ensures { Writes (line (ascii "table") (decimal place ∷ hex (name_of t) ∷ [])) w.old w.new }
 {
-    let a = put(room, at, b"table");
-    let b = put_decimal_word(room, a, place as u64);
-    let c = put_name(room, b, t);
-    put(room, c, b"\n")
+    w.put(b"table");
+    put_decimal_word(w, place as u64);
+    put_name(w, t);
+    w.put(b"\n");
 }

@@ -1,13 +1,14 @@
 -- Byte strings: equality, padding with zeros, and a new front.
 use Prim.Native.Nat.{ℕ, zero, suc, ◌+◌, ◌-◌, ◌≤◌, ◌<◌, min}
 use native.Mathlib.Omega.{arith}
-use native.Mathlib.Nat.{zero-add}
 use mathlib.Core.Path.{◌≡◌, refl, sym, ap, ◌∙◌, subst}
 use mathlib.Core.Bool.{true, false, ◌&&◌}
 use mathlib.Core.List.{List, [], ◌∷◌, ◌++◌}
-use lib.ListN.{length, take, drop, set, get_or, replicate, drop_of_length-le, length-append, length-drop}
-use lib.Seq.{take-append_seam, drop-append_seam, take_at, take-nil, length-take-le, paste, paste-suc}
+use lib.ListN.{length, take, drop, get_or, replicate, drop_of_length-le, length-append, length-drop}
+use lib.Seq.{take-append_seam, drop-append_seam, take-nil}
 use lib.Dec.{eqb}
+use Rattle.std.proofs.lemmas.Grind.{common_steps}
+use Rattle.std.specs.Cmp.Lexicographic.{pointwise}
 use borrow.Author.Tests.{eqb-true, eq-eqb, ne_eqb}
 use Rattle.lists.specs.Lists.{every, eq_bytes, pad_to, front, is_zero}
 use Rattle.lists.proofs.Cases.{and_first, and_second, and_intro, and-true, and-false, never, not-passed}
@@ -57,6 +58,16 @@ module _ (xs ys : List ℕ) (i : ℕ) (l : i < length xs) (m : i < length ys) wh
 pub bytes-end : (xs ys : List ℕ) (i : ℕ) → length xs ≤ i → length ys ≤ i → eq_bytes (drop i xs) (drop i ys) ≡ true
 unfolding eq_bytes
 bytes-end xs ys i l m = rw (drop_of_length-le xs l, drop_of_length-le ys m)
+
+-- which of two byte strings comes first in `==` is the same
+eqb-sym : (x y : ℕ) → eqb x y ≡ eqb y x
+eqb-sym x y = grind (arith, common_steps)
+
+pub by_prefix : (xs ys : List ℕ) → pointwise eqb xs ys ≡ pointwise eqb ys xs
+by_prefix [] [] = refl
+by_prefix [] (y ∷ ys) = refl
+by_prefix (x ∷ xs) [] = refl
+by_prefix (x ∷ xs) (y ∷ ys) = rw (eqb-sym x y, by_prefix xs ys)
 
 -- ---- padding
 
@@ -119,30 +130,3 @@ front-take xs room = take-append_seam xs (drop (length xs) room)
 pub front-drop : (xs room : List ℕ) → drop (length xs) (front xs room) ≡ drop (length xs) room
 unfolding front
 front-drop xs room = drop-append_seam xs (drop (length xs) room)
-
--- a part of a list as the front
-pub front-none : (xs room : List ℕ) → front (take 0 xs) room ≡ room
-unfolding front
-front-none xs room = refl
-
-module _ (xs room : List ℕ) (n : ℕ) where
-  pub front-size : n ≤ length xs → n ≤ length room → length (front (take n xs) room) ≡ length room
-  front-size l m = front_length (take n xs) room (omega (arith, length-take-le n xs l))
-
-  pub front-part : n ≤ length xs → take n (front (take n xs) room) ≡ take n xs
-  unfolding front
-  front-part l = take_at (take n xs) (drop (length (take n xs)) room) n (length-take-le n xs l)
-
-  front-paste : n ≤ length xs → front (take n xs) room ≡ paste room 0 xs n
-  unfolding front
-  front-paste l = ap (λ (k : ℕ). take n xs ++ drop k room) (length-take-le n xs l ∙ sym (zero-add n))
-
-pub front-more : (xs room : List ℕ) (i : ℕ) → i < length xs → i < length room
-    → set (front (take i xs) room) i (get_or xs i 0) ≡ front (take (i + 1) xs) room
-front-more xs room i l m =
-    let e : suc i ≡ i + 1 = omega arith in
-    ap (λ (x : List ℕ). set x i (get_or xs i 0)) (front-paste xs room i (omega arith))
-    ∙ ap (λ (k : ℕ). set (paste room 0 xs i) k (get_or xs i 0)) (sym (zero-add i))
-    ∙ paste-suc room 0 xs i 0 (omega arith) l
-    ∙ ap (paste room 0 xs) e
-    ∙ sym (front-paste xs room (i + 1) (omega arith))

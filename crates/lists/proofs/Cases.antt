@@ -7,8 +7,7 @@ use mathlib.Core.Bool.{Bool, true, false, cond, not, ◌&&◌, ◌||◌}
 use mathlib.Core.List.{List, [], ◌∷◌}
 use lib.Dec.{ltb, eqb}
 use types.Run.{OneOf}
-use borrow.Author.Rules.{rules}
-use borrow.Author.Tests.{ltb-true, ltb-false, eqb-true, eqb-false, eq-eqb, ne_eqb, not-true, not-false}
+use borrow.Author.Tests.{ltb-true, ltb-false, eqb-true, eqb-false, eq-eqb}
 use Rattle.lists.specs.Lists.{all_of, among}
 
 -- a test, with what it came to
@@ -65,15 +64,6 @@ pub and-false-second : (a b : Bool) → b ≡ false → (a && b) ≡ false
 and-false-second true b h = h
 and-false-second false b h = refl
 
--- two tests in code: left at the first that fails
-pub and-stop : (b x y : Bool) → b ≡ x → not b ≡ true → false ≡ (x && y)
-and-stop b x y e h = sym (and-false x y (sym e ∙ not-true b h))
-
-pub and-next : (r b x y : Bool) → b ≡ x → not b ≡ false → r ≡ y → r ≡ (x && y)
-and-next r b x y e h q = q ∙ sym (and-true x y (sym e ∙ not-false b h))
-
-pub ruleset two-tests = (rules, and-stop, and-next)
-
 -- ---- or, where the first test guards the second
 
 pub or-true : (a b : Bool) → a ≡ true → (a || b) ≡ true
@@ -122,32 +112,13 @@ pub all_rest : (t : Bool) (ts : List Bool) → all_of (t ∷ ts) ≡ true → al
 unfolding all_of
 all_rest t ts h = and_second t (all_of ts) h
 
-pub all-only : (t : Bool) → all_of (t ∷ []) ≡ t
-unfolding all_of
-all-only true = refl
-all-only false = refl
-
 pub all-intro : (t : Bool) (ts : List Bool) → t ≡ true → all_of ts ≡ true → all_of (t ∷ ts) ≡ true
 unfolding all_of
 all-intro t ts p q = and_intro t (all_of ts) p q
 
-pub all_true : (t : Bool) (ts : List Bool) → t ≡ true → all_of (t ∷ ts) ≡ all_of ts
-unfolding all_of
-all_true t ts h = and-true t (all_of ts) h
-
 pub all-false : (t : Bool) (ts : List Bool) → t ≡ false → all_of (t ∷ ts) ≡ false
 unfolding all_of
 all-false t ts h = and-false t (all_of ts) h
-
--- a row of tests in code: left at the first that fails
-pub all-stop : (b t : Bool) (ts : List Bool) → b ≡ t → not b ≡ true → false ≡ all_of (t ∷ ts)
-all-stop b t ts e h = sym (all-false t ts (sym e ∙ not-true b h))
-
-pub all-next : (r b t : Bool) (ts : List Bool) → b ≡ t → not b ≡ false → r ≡ all_of ts → r ≡ all_of (t ∷ ts)
-all-next r b t ts e h q = q ∙ sym (all_true t ts (sym e ∙ not-false b h))
-
-pub all-last : (b t : Bool) → b ≡ t → b ≡ all_of (t ∷ [])
-all-last b t e = e ∙ sym (all-only t)
 
 -- ---- the arms of a `match` on a number: it is one of the arm's numbers, or of none of the arms before
 
@@ -157,10 +128,3 @@ among-yes [] x h = absurd h
 among-yes (k ∷ []) x h = sym (or-true (eqb x k) false (eq-eqb x k h))
 among-yes (k ∷ l ∷ ks) x (inl h) = sym (or-true (eqb x k) (among (l ∷ ks) x) (eq-eqb x k h))
 among-yes (k ∷ l ∷ ks) x (inr h) = among-yes (l ∷ ks) x h ∙ sym (or-second (eqb x k) (among (l ∷ ks) x) (sym (among-yes (l ∷ ks) x h)))
-
-pub among-no : (ks : List ℕ) (x : ℕ) → (OneOf ks x → ⊥) → false ≡ among ks x
-unfolding among
-among-no [] x f = refl
-among-no (k ∷ []) x f = sym (or-false (eqb x k) false (ne_eqb x k f))
-among-no (k ∷ l ∷ ks) x f =
-    among-no (l ∷ ks) x (λ h. f (inr h)) ∙ sym (or-false (eqb x k) (among (l ∷ ks) x) (ne_eqb x k (λ h. f (inl h))))

@@ -1,14 +1,14 @@
--- `distinct`: at two places, from all pairs of places, after a store, and along a loop.
-use Prim.Native.Nat.{ℕ, zero, suc, ◌+◌, ◌-◌, ◌≤◌, ◌<◌}
+-- `distinct`: at two places, and from all pairs of places.
+use Prim.Native.Nat.{ℕ, zero, suc, ◌<◌}
 use native.Mathlib.Omega.{arith}
 use mathlib.Core.Path.{◌≡◌, refl, sym, ap, ◌∙◌}
 use mathlib.Core.Bool.{Bool, true, false, not, ◌&&◌}
 use mathlib.Core.List.{List, [], ◌∷◌}
-use lib.ListN.{length, drop, get_or, drop_of_length-le}
+use lib.ListN.{length, get_or}
 use borrow.Author.Tests.{not-true}
 use Rattle.lists.specs.Lists.{every, distinct}
-use Rattle.lists.proofs.Cases.{and_first, and_second, and_intro, and-true, and-false}
-use Rattle.lists.proofs.Every.{every-at, every-from, drop-step}
+use Rattle.lists.proofs.Cases.{and_first, and_second, and_intro}
+use Rattle.lists.proofs.Every.{every-at, every-from}
 
 module _ {A : Type 0} (alike : A → A → Bool) where
   -- no later element is alike to x
@@ -40,17 +40,3 @@ module _ {A : Type 0} (alike : A → A → Bool) where
       ∙ and_intro (every (unlike x) xs) (distinct alike xs)
       (every-from (unlike x) xs d (λ i l. ap not (f 0 (suc i) (omega arith) (omega arith))))
       (distinct_from xs d (λ i j l m. f (suc i) (suc j) (omega arith) (omega arith)))
-
-  -- one element on
-  module _ (xs : List A) (i : ℕ) (d : A) (l : i < length xs) where
-    distinct-step : distinct alike (drop i xs) ≡ (every (unlike (get_or xs i d)) (drop (i + 1) xs) && distinct alike (drop (i + 1) xs))
-    distinct-step = ap (distinct alike) (drop-step xs i d l) ∙ distinct_cons (get_or xs i d) (drop (i + 1) xs)
-
-    pub distinct-stop : every (unlike (get_or xs i d)) (drop (i + 1) xs) ≡ false → distinct alike (drop i xs) ≡ false
-    distinct-stop t = distinct-step ∙ and-false (every (unlike (get_or xs i d)) (drop (i + 1) xs)) (distinct alike (drop (i + 1) xs)) t
-
-    pub distinct-next : every (unlike (get_or xs i d)) (drop (i + 1) xs) ≡ true → distinct alike (drop i xs) ≡ distinct alike (drop (i + 1) xs)
-    distinct-next t = distinct-step ∙ and-true (every (unlike (get_or xs i d)) (drop (i + 1) xs)) (distinct alike (drop (i + 1) xs)) t
-
-  pub distinct-end : (xs : List A) (i : ℕ) → length xs ≤ i → distinct alike (drop i xs) ≡ true
-  distinct-end xs i h = ap (distinct alike) (drop_of_length-le xs h) ∙ distinct_nil

@@ -1,12 +1,12 @@
 -- `every`: at a place, from all places, after a store, and along a loop.
-use Prim.Native.Nat.{ℕ, zero, suc, ◌+◌, ◌-◌, ◌≤◌, ◌<◌}
+use Prim.Native.Nat.{ℕ, zero, suc, ◌+◌, ◌<◌}
 use native.Mathlib.Omega.{arith}
 use native.Mathlib.Numerals.{add-one}
 use mathlib.Core.Path.{◌≡◌, refl, sym, ap, ◌∙◌}
 use mathlib.Core.Logic.{⊎_elim}
-use mathlib.Core.Bool.{Bool, true, false, ◌&&◌}
+use mathlib.Core.Bool.{Bool, true, ◌&&◌}
 use mathlib.Core.List.{List, [], ◌∷◌, ◌++◌}
-use lib.ListN.{length, drop, get_or, drop_of_length-le, length-append, get_or-append}
+use lib.ListN.{length, drop, get_or, length-append, get_or-append}
 use lib.Seq.{drop-cons, get_or_at}
 use Rattle.lists.specs.Lists.{every, up_to}
 use Rattle.lists.proofs.Cases.{and_first, and_second, and_intro, and-true, and-false, by-test, lt-or-le}
@@ -47,20 +47,6 @@ module _ {A : Type 0} (p : A → Bool) where
       by-test (p x)
       (λ t. and-true (p x) (every p (xs ++ ys)) t ∙ every_append xs ys ∙ sym (ap (λ (b : Bool). b && every p ys) (and-true (p x) (every p xs) t)))
       (λ t. and-false (p x) (every p (xs ++ ys)) t ∙ sym (ap (λ (b : Bool). b && every p ys) (and-false (p x) (every p xs) t)))
-
-  -- one element on
-  module _ (xs : List A) (i : ℕ) (d : A) (l : i < length xs) where
-    every-step : every p (drop i xs) ≡ (p (get_or xs i d) && every p (drop (i + 1) xs))
-    every-step = ap (every p) (drop-step xs i d l) ∙ every-cons (get_or xs i d) (drop (i + 1) xs)
-
-    pub every-stop : p (get_or xs i d) ≡ false → every p (drop i xs) ≡ false
-    every-stop t = every-step ∙ and-false (p (get_or xs i d)) (every p (drop (i + 1) xs)) t
-
-    pub every-next : p (get_or xs i d) ≡ true → every p (drop i xs) ≡ every p (drop (i + 1) xs)
-    every-next t = every-step ∙ and-true (p (get_or xs i d)) (every p (drop (i + 1) xs)) t
-
-  pub every-end : (xs : List A) (i : ℕ) → length xs ≤ i → every p (drop i xs) ≡ true
-  every-end xs i h = ap (every p) (drop_of_length-le xs h) ∙ every-nil
 
 -- tests of two lists that agree at every place
 pub every-agree : {A B : Type 0} (p : A → Bool) (q : B → Bool) (d : A) (e : B) (xs : List A) (ys : List B) → length xs ≡ length ys

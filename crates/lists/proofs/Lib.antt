@@ -3,13 +3,10 @@ pub mod Every
 pub mod Distinct
 pub mod Places
 pub mod Bytes
-pub mod Comparing
 pub mod Walking
 pub mod Elements
 pub mod Searching
-pub mod Testing
-pub mod Passing
-pub mod Pairs
 pub mod Prefix
 pub mod Maps
 pub mod Stores
+pub mod Padding

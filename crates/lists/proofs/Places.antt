@@ -1,23 +1,21 @@
 -- `first_place`: the lowest place that passes a test, what it says of all places, after a store, and along a loop.
-use Prim.Native.Nat.{ℕ, zero, suc, ◌+◌, ◌-◌, ◌≤◌, ◌<◌}
+use Rattle.std.specs.Prelude.{None, Option, Some}
+use Prim.Native.Nat.{ℕ, zero, suc, ◌+◌, ◌≤◌, ◌<◌}
 use native.Mathlib.Omega.{arith}
-use native.Mathlib.Nat.{add-zero}
 use mathlib.Core.Path.{◌≡◌, refl, sym, ap, ◌∙◌, subst}
 use mathlib.Core.Bool.{Bool, true, false, cond}
 use mathlib.Core.Logic.{⊎_elim}
 use mathlib.Core.List.{List, [], ◌∷◌}
 use lib.ListN.{length, drop, get_or, drop_of_length-le}
-use Rattle.lists.specs.declared.Found.{Found}
-use Rattle.lists.specs.declared.Found.TheVariants.{At, Nothing}
 use Rattle.lists.specs.Lists.{first_from, first_place}
 use Rattle.lists.proofs.Cases.{by-test, never, not-passed, cond-true, cond-false, lt-or-le}
 use Rattle.lists.proofs.Every.{drop-step}
 
 -- what a search that starts to count at k says of its list
-pub data Search {A : Type 0} (p : A → Bool) (xs : List A) (k : ℕ) : Found → Type 0 where
+pub data Search {A : Type 0} (p : A → Bool) (xs : List A) (k : ℕ) : Option ℕ → Type 0 where
   lowest : (n i : ℕ) → n ≡ k + i → i < length xs → ((d : A) → p (get_or xs i d) ≡ true) → ((j : ℕ) (d : A) → j < i → p (get_or xs j d) ≡ false)
-      → Search p xs k (At n)
-  none : ((j : ℕ) (d : A) → j < length xs → p (get_or xs j d) ≡ false) → Search p xs k Nothing
+      → Search p xs k (Some n)
+  none : ((j : ℕ) (d : A) → j < length xs → p (get_or xs j d) ≡ false) → Search p xs k None
 
 -- place i passes, and no lower one does
 pub record First {A : Type 0} (p : A → Bool) (xs : List A) (i : ℕ) : Type 0 where
@@ -26,16 +24,16 @@ pub record First {A : Type 0} (p : A → Bool) (xs : List A) (i : ℕ) : Type 0 
   pub lower : (j : ℕ) (d : A) → j < i → p (get_or xs j d) ≡ false
 
 module _ {A : Type 0} (p : A → Bool) where
-  from_cons : (k : ℕ) (x : A) (xs : List A) → first_from k p (x ∷ xs) ≡ cond (p x) (At k) (first_from (k + 1) p xs)
+  from_cons : (k : ℕ) (x : A) (xs : List A) → first_from k p (x ∷ xs) ≡ cond (p x) (Some k) (first_from (k + 1) p xs)
   unfolding first_from
   from_cons k x xs = refl
 
-  from-nil : (k : ℕ) → first_from k p [] ≡ Nothing
+  from-nil : (k : ℕ) → first_from k p [] ≡ None
   unfolding first_from
   from-nil k = refl
 
   pub place-from : (xs : List A) → first_place p xs ≡ first_from 0 p xs
-  unfolding first_place
+  unfolding first_place first_from
   place-from xs = refl
 
   failing : (x : A) (xs : List A) (n : ℕ) → p x ≡ false → ((j : ℕ) (d : A) → j < n → p (get_or xs j d) ≡ false) → (j : ℕ) (d : A) → j < suc n
@@ -43,7 +41,7 @@ module _ {A : Type 0} (p : A → Bool) where
   failing x xs n t r zero d m = t
   failing x xs n t r (suc j) d m = r j d (omega arith)
 
-  later : (x : A) (xs : List A) (k : ℕ) (f : Found) → p x ≡ false → Search p xs (k + 1) f → Search p (x ∷ xs) k f
+  later : (x : A) (xs : List A) (k : ℕ) (f : (Option ℕ)) → p x ≡ false → Search p xs (k + 1) f → Search p (x ∷ xs) k f
   later x xs k f t (lowest n i e l q r) = lowest n (suc i) (omega arith) (omega arith) q (failing x xs i t r)
   later x xs k f t (none r) = none (failing x xs (length xs) t r)
 
@@ -53,17 +51,17 @@ module _ {A : Type 0} (p : A → Bool) where
       by-test (p x)
       (λ t.
       subst (Search p (x ∷ xs) k)
-      (sym (from_cons k x xs ∙ cond-true (p x) (At k) (first_from (k + 1) p xs) t))
+      (sym (from_cons k x xs ∙ cond-true (p x) (Some k) (first_from (k + 1) p xs) t))
       (lowest k 0 (omega arith) (omega arith) (λ d. t) (λ j d l. absurd (omega arith))))
       (λ t.
       subst (Search p (x ∷ xs) k)
-      (sym (from_cons k x xs ∙ cond-false (p x) (At k) (first_from (k + 1) p xs) t))
+      (sym (from_cons k x xs ∙ cond-false (p x) (Some k) (first_from (k + 1) p xs) t))
       (later x xs k (first_from (k + 1) p xs) t (searched xs (k + 1))))
 
-  place-searched : (xs : List A) (f : Found) → first_place p xs ≡ f → Search p xs 0 f
+  place-searched : (xs : List A) (f : (Option ℕ)) → first_place p xs ≡ f → Search p xs 0 f
   place-searched xs f e = subst (Search p xs 0) (sym (place-from xs) ∙ e) (searched xs 0)
 
-  place-first : (xs : List A) (i : ℕ) → Search p xs 0 (At i) → First p xs i
+  place-first : (xs : List A) (i : ℕ) → Search p xs 0 (Some i) → First p xs i
   place-first xs i (lowest n k e l q r) =
       let z : k ≡ n = omega arith in
       record {
@@ -72,52 +70,39 @@ module _ {A : Type 0} (p : A → Bool) where
         lower = λ j d m. r j d (omega arith);
       }
 
-  place_none : (xs : List A) → Search p xs 0 Nothing → (j : ℕ) (d : A) → j < length xs → p (get_or xs j d) ≡ false
+  place_none : (xs : List A) → Search p xs 0 None → (j : ℕ) (d : A) → j < length xs → p (get_or xs j d) ≡ false
   place_none xs (none r) = r
 
   -- the lowest place passes, and lower ones don't; without one, none passes
-  pub first-at : (xs : List A) (i : ℕ) → first_place p xs ≡ At i → First p xs i
-  first-at xs i e = place-first xs i (place-searched xs (At i) e)
+  pub first-at : (xs : List A) (i : ℕ) → first_place p xs ≡ Some i → First p xs i
+  first-at xs i e = place-first xs i (place-searched xs (Some i) e)
 
-  pub first-nothing : (xs : List A) → first_place p xs ≡ Nothing → (j : ℕ) (d : A) → j < length xs → p (get_or xs j d) ≡ false
-  first-nothing xs e = place_none xs (place-searched xs Nothing e)
+  pub first-nothing : (xs : List A) → first_place p xs ≡ None → (j : ℕ) (d : A) → j < length xs → p (get_or xs j d) ≡ false
+  first-nothing xs e = place_none xs (place-searched xs None e)
 
   -- and the other way round
-  is-from : (xs : List A) (k i : ℕ) → First p xs i → first_from k p xs ≡ At (k + i)
-  is-from [] k i f = absurd (omega (arith, f.inside))
-  is-from (x ∷ xs) k zero f = from_cons k x xs ∙ cond-true (p x) (At k) (first_from (k + 1) p xs) (f.passes x) ∙ ap At (sym (add-zero k))
-  is-from (x ∷ xs) k (suc i) f =
-      let e : k + 1 + i ≡ k + suc i = omega arith in
-      from_cons k x xs
-      ∙ cond-false (p x) (At k) (first_from (k + 1) p xs) (f.lower 0 x (omega arith))
-      ∙ is-from xs (k + 1) i (record { inside = omega (arith, f.inside); passes = f.passes; lower = λ j d l. f.lower (suc j) d (omega arith) })
-      ∙ ap At e
-
-  none_from : (xs : List A) (k : ℕ) → ((j : ℕ) (d : A) → j < length xs → p (get_or xs j d) ≡ false) → first_from k p xs ≡ Nothing
+  none_from : (xs : List A) (k : ℕ) → ((j : ℕ) (d : A) → j < length xs → p (get_or xs j d) ≡ false) → first_from k p xs ≡ None
   none_from [] k f = from-nil k
   none_from (x ∷ xs) k f =
       from_cons k x xs
-      ∙ cond-false (p x) (At k) (first_from (k + 1) p xs) (f 0 x (omega arith))
+      ∙ cond-false (p x) (Some k) (first_from (k + 1) p xs) (f 0 x (omega arith))
       ∙ none_from xs (k + 1) (λ j d l. f (suc j) d (omega arith))
 
-  pub first-is : (xs : List A) (i : ℕ) → First p xs i → first_place p xs ≡ At i
-  first-is xs i f = let e : 0 + i ≡ i = omega arith in place-from xs ∙ is-from xs 0 i f ∙ ap At e
-
-  pub first-none : (xs : List A) → ((j : ℕ) (d : A) → j < length xs → p (get_or xs j d) ≡ false) → first_place p xs ≡ Nothing
+  pub first-none : (xs : List A) → ((j : ℕ) (d : A) → j < length xs → p (get_or xs j d) ≡ false) → first_place p xs ≡ None
   first-none xs f = place-from xs ∙ none_from xs 0 f
 
   -- one element on
   module _ (xs : List A) (i : ℕ) (d : A) (l : i < length xs) where
-    from_step : first_from i p (drop i xs) ≡ cond (p (get_or xs i d)) (At i) (first_from (i + 1) p (drop (i + 1) xs))
+    from_step : first_from i p (drop i xs) ≡ cond (p (get_or xs i d)) (Some i) (first_from (i + 1) p (drop (i + 1) xs))
     from_step = ap (first_from i p) (drop-step xs i d l) ∙ from_cons i (get_or xs i d) (drop (i + 1) xs)
 
-    pub from-here : p (get_or xs i d) ≡ true → first_from i p (drop i xs) ≡ At i
-    from-here t = from_step ∙ cond-true (p (get_or xs i d)) (At i) (first_from (i + 1) p (drop (i + 1) xs)) t
+    pub from-here : p (get_or xs i d) ≡ true → first_from i p (drop i xs) ≡ Some i
+    from-here t = from_step ∙ cond-true (p (get_or xs i d)) (Some i) (first_from (i + 1) p (drop (i + 1) xs)) t
 
     pub from_next : p (get_or xs i d) ≡ false → first_from i p (drop i xs) ≡ first_from (i + 1) p (drop (i + 1) xs)
-    from_next t = from_step ∙ cond-false (p (get_or xs i d)) (At i) (first_from (i + 1) p (drop (i + 1) xs)) t
+    from_next t = from_step ∙ cond-false (p (get_or xs i d)) (Some i) (first_from (i + 1) p (drop (i + 1) xs)) t
 
-  pub from_end : (xs : List A) (i : ℕ) → length xs ≤ i → first_from i p (drop i xs) ≡ Nothing
+  pub from_end : (xs : List A) (i : ℕ) → length xs ≤ i → first_from i p (drop i xs) ≡ None
   from_end xs i h = ap (first_from i p) (drop_of_length-le xs h) ∙ from-nil i
 
 -- tests of two lists that agree at every place find the same place
@@ -129,8 +114,8 @@ module _ {A B : Type 0} (p : A → Bool) (q : B → Bool) (d : A) (e : B) where
   agree-from (x ∷ xs) [] k n f = absurd (omega arith)
   agree-from (x ∷ xs) (y ∷ ys) k n f =
       from_cons p k x xs
-      ∙ ap (λ (t : Bool). cond t (At k) (first_from (k + 1) p xs)) (f 0 (omega arith))
-      ∙ ap (λ (g : Found). cond (q y) (At k) g) (agree-from xs ys (k + 1) (omega arith) (λ i l. f (suc i) (omega arith)))
+      ∙ ap (λ (t : Bool). cond t (Some k) (first_from (k + 1) p xs)) (f 0 (omega arith))
+      ∙ ap (λ (g : (Option ℕ)). cond (q y) (Some k) g) (agree-from xs ys (k + 1) (omega arith) (λ i l. f (suc i) (omega arith)))
       ∙ sym (from_cons q k y ys)
 
   pub first-agree : (xs : List A) (ys : List B) → length xs ≡ length ys → ((i : ℕ) → i < length xs → p (get_or xs i d) ≡ q (get_or ys i e))

@@ -1,7 +1,7 @@
 -- Tests and searches over lists, and byte strings, for the definitions of other crates.
-use Rattle.std.specs.Prelude.{ℕ, zero, suc, ◌+◌, List, [], ◌∷◌, ◌++◌, Bool, true, false, cond, not, ◌&&◌, ◌||◌, length, take, drop, eqb}
-use Rattle.lists.specs.declared.Found.{Found}
-use Rattle.lists.specs.declared.Found.TheVariants.{At, Nothing}
+use Rattle.std.specs.Prelude.{ℕ, zero, suc, ◌≡◌, ◌+◌, List, [], ◌∷◌, ◌++◌, Bool, true, false, not, ◌&&◌, ◌||◌, length, take, drop, eqb, Option, bytes_eq}
+use Rattle.std.specs.List.{list_all, position_from}
+use denote.Ref.{Bor}
 
 -- ---- tests
 
@@ -13,24 +13,26 @@ all_of (t ∷ ts) = t && all_of ts
 module _ {A : Type 0} where
   -- each element passes the test
   unfoldable pub every : (A → Bool) → List A → Bool
-  every p [] = true
-  every p (x ∷ xs) = p x && every p xs
+  every p xs = list_all p xs
 
   -- no element is alike to a later one
   unfoldable pub distinct : (A → A → Bool) → List A → Bool
   distinct alike [] = true
   distinct alike (x ∷ xs) = every (λ y. not (alike x y)) xs && distinct alike xs
 
+  -- what `apart` answers of an element and others says whether it is alike to none of them
+  abbrev pub TellsApart : (Bor A → Bor (List A) → Bool → Type 0) → (A → A → Bool) → Type 0
+  TellsApart apart alike = (x : Bor A) (ys : Bor (List A)) (r : Bool) → apart x ys r → r ≡ every (λ y. not (alike x.now y)) ys.now
+
   -- ---- places
 
   -- the place of the first element that passes the test, where the list's first element has place i
-  unfoldable pub first_from : ℕ → (A → Bool) → List A → Found
-  first_from i p [] = Nothing
-  first_from i p (x ∷ xs) = cond (p x) (At i) (first_from (i + 1) p xs)
+  unfoldable pub first_from : ℕ → (A → Bool) → List A → Option ℕ
+  first_from i p xs = position_from p i xs
 
   -- the lowest place whose element passes the test
-  unfoldable pub first_place : (A → Bool) → List A → Found
-  first_place p xs = first_from 0 p xs
+  unfoldable pub first_place : (A → Bool) → List A → Option ℕ
+  first_place p xs = position_from p 0 xs
 
 -- the number is one of these
 unfoldable pub among : List ℕ → ℕ → Bool
@@ -49,10 +51,7 @@ is_zero b = eqb b 0
 
 -- the same bytes, and as many
 unfoldable pub eq_bytes : List ℕ → List ℕ → Bool
-eq_bytes [] [] = true
-eq_bytes [] (y ∷ ys) = false
-eq_bytes (x ∷ xs) [] = false
-eq_bytes (x ∷ xs) (y ∷ ys) = eqb x y && eq_bytes xs ys
+eq_bytes xs ys = bytes_eq xs ys
 
 -- n places that hold the list and then zeros
 unfoldable pub pad_to : ℕ → List ℕ → List ℕ

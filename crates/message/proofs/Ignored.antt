@@ -11,7 +11,9 @@ use Rattle.session.specs.declared.Answer.TheVariants as answer
 use Rattle.session.specs.Session.{binding_at, is_updated}
 use Rattle.body.specs.declared.Fault.{Fault}
 use Rattle.body.specs.Fields.{Read, got, failed, span_in}
-use Rattle.body.specs.Bodies.{Definition, definition_fields, switch_fields, acknowledgement_fields, Update, update_fields, form_of}
+use Rattle.body.specs.declared.definition.Definition.{Definition}
+use Rattle.body.specs.declared.update.Update.{Update}
+use Rattle.body.specs.Bodies.{definition_fields, switch_fields, acknowledgement_fields, update_fields, form_of}
 use Rattle.body.specs.declared.update.Form.{Form}
 use Rattle.body.proofs.Behind.{definition-behind, update-behind, switch-behind, acknowledgement-behind}
 use Rattle.body.proofs.Spans.{span-behind}

@@ -1,7 +1,5 @@
 -- What a message does keeps record and store sound, and their shape; its reply is short.
-use Rattle.std.proofs.Common.{◌≡◌, ℕ, ◌+◌, ◌^◌, ◌<◌, ◌≤◌, true, false, cond, ◌&&◌, eqb, leb, ◌⊎◌, List, length, get_or, ℤ, sym, refl, ap, ◌∙◌, subst, inl, inr, arith, lit<, get_or-set_same, eq-eqb, eqb-true, leb-true}
-use Rattle.lists.specs.declared.Found.{Found}
-use Rattle.lists.specs.declared.Found.TheVariants as found
+use Rattle.std.proofs.Common.{◌≡◌, ℕ, ◌+◌, ◌^◌, ◌<◌, ◌≤◌, true, false, cond, ◌&&◌, eqb, leb, ◌⊎◌, List, length, get_or, ℤ, sym, refl, ap, ◌∙◌, subst, inl, inr, arith, lit<, get_or-set_same, eq-eqb, eqb-true, leb-true, None, Option, Some}
 use Rattle.lists.specs.Lists.{first_place}
 use Rattle.lists.proofs.Cases.{by-test, and_first, and_second, cond-true, cond-false}
 use Rattle.store.specs.declared.Definition.{Definition as Rules}
@@ -34,7 +32,9 @@ use Rattle.body.specs.declared.Failure.{Failure}
 use Rattle.body.specs.declared.Failure.TheVariants as failure
 use Rattle.body.specs.Fields.{got, span_in}
 use Rattle.body.specs.declared.update.Form.{Form}
-use Rattle.body.specs.Bodies.{Definition, definition_fields, Update, time_mark}
+use Rattle.body.specs.declared.definition.Definition.{Definition}
+use Rattle.body.specs.declared.update.Update.{Update}
+use Rattle.body.specs.Bodies.{definition_fields, time_mark}
 use Rattle.body.proofs.Spans.{span-length, span-bytes}
 use Rattle.body.proofs.Within.{definition-within, UpdateRead}
 use Rattle.wire.specs.Value.{Bytes}
@@ -167,7 +167,7 @@ module _ (c : Connection) (s : Store) (h : Held c s) where
 
   -- ---- a switch
 
-  switch-at : (id p : ℕ) → find_bound c id ≡ found.At p → Held (make_current c p) s
+  switch-at : (id p : ℕ) → find_bound c id ≡ Some p → Held (make_current c p) s
   switch-at id p e =
       let b = found-bound c id p e in
       record {
@@ -177,10 +177,10 @@ module _ (c : Connection) (s : Store) (h : Held c s) where
         connection_shape = current-shape h.connection_shape p;
       }
 
-  pub switch_kept : (id : ℕ) (f : Found) → find_bound c id ≡ f → Kept s (Effects.switch_to c f)
+  pub switch_kept : (id : ℕ) (f : (Option ℕ)) → find_bound c id ≡ f → Kept s (Effects.switch_to c f)
   unfolding Effects.switch_to Effects.note
-  switch_kept id (found.At p) e = stays-kept (switch-at id p e)
-  switch_kept id found.Nothing e = refuse-kept 27 closing-27 (lit< tt)
+  switch_kept id (Some p) e = stays-kept (switch-at id p e)
+  switch_kept id None e = refuse-kept 27 closing-27 (lit< tt)
 
   -- ---- a definition
 
@@ -232,22 +232,22 @@ module _ (c : Connection) (s : Store) (h : Held c s) where
       connection_shape = bind-shape h.connection_shape place id_fits;
     }
 
-    define-new : (f : Found) → first_place table_free s.tables ≡ f → find_table s name ≡ found.Nothing → Kept s (Effects.define_new c id t f)
+    define-new : (f : (Option ℕ)) → first_place table_free s.tables ≡ f → find_table s name ≡ None → Kept s (Effects.define_new c id t f)
     unfolding Effects.define_new free_table
-    define-new (found.At p) e n =
+    define-new (Some p) e n =
         let k = table-place s p e in
         define-at p (omega (arith, k.inside, h.store_shape.tables)) (λ q m z. table-missing s name n q no_table m)
         (inl (free-not-held (get_or s.tables p no_table) (k.passes no_table)))
-    define-new found.Nothing e n = refuse-kept 26 closing-26 (lit< tt)
+    define-new None e n = refuse-kept 26 closing-26 (lit< tt)
 
-    pub define-kept : (f : Found) → find_table s name ≡ f → Kept s (Effects.define_named c s.tables id t f)
+    pub define-kept : (f : (Option ℕ)) → find_table s name ≡ f → Kept s (Effects.define_named c s.tables id t f)
     unfolding Effects.define_named
-    define-kept (found.At p) e =
+    define-kept (Some p) e =
         let k = table-found s name p e in
         by-test (Effects.agrees (get_or s.tables p no_table) t)
         (λ a. rw a (define-at p (omega (arith, k.inside, h.store_shape.tables)) (only-table s name p h.store e) (inr (agreed (get_or s.tables p no_table) a))))
         (λ a. rw a (refuse-kept 25 closing-25 (lit< tt)))
-    define-kept found.Nothing e = define-new (first_place table_free s.tables) refl e
+    define-kept None e = define-new (first_place table_free s.tables) refl e
 
   -- the table that a definition describes
   pub definition-kept : (body : List ℕ) (d : Definition) (next : ℕ) → Bytes body → definition_fields body ≡ got d next
@@ -310,14 +310,14 @@ module _ (c : Connection) (s : Store) (h : Held c s) where
       connection_shape = subst (λ (n : ℕ). ConnectionShape (committed c n id)) (sym e-table) (commit-shape h.connection_shape table id_fits);
     }
 
-    pub commit-kept : (f : Found) → find_entry s table key ≡ f → Kept s (Effects.commit_entry c id e (place_of f (first_place entry_free s.entries)))
+    pub commit-kept : (f : (Option ℕ)) → find_entry s table key ≡ f → Kept s (Effects.commit_entry c id e (place_of f (first_place entry_free s.entries)))
     unfolding Effects.commit_entry place_of free_of
-    commit-kept (found.At p) q = commit-at p commit.Replaced (only-entry s table key p h.store q)
-    commit-kept found.Nothing q = commit-free (first_place entry_free s.entries)
+    commit-kept (Some p) q = commit-at p commit.Replaced (only-entry s table key p h.store q)
+    commit-kept None q = commit-free (first_place entry_free s.entries)
       where
-        commit-free : (f : Found) → Kept s (Effects.commit_entry c id e (place_of found.Nothing f))
-        commit-free (found.At p) = commit-at p commit.New (λ r m z. entry-missing s table key q r no_entry m)
-        commit-free found.Nothing = refuse-kept 29 closing-29 (lit< tt)
+        commit-free : (f : (Option ℕ)) → Kept s (Effects.commit_entry c id e (place_of None f))
+        commit-free (Some p) = commit-at p commit.New (λ r m z. entry-missing s table key q r no_entry m)
+        commit-free None = refuse-kept 29 closing-29 (lit< tt)
 
   -- the entry that an update makes
   pub update-kept : (form : Form) (following : ℕ) (body : List ℕ) (table : ℕ) (u : Update) → Bytes body → following < 2 ^ 32

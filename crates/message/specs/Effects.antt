@@ -1,8 +1,6 @@
 -- What a whole message does: answer, reply, the new session, and what it puts into the store.
-use Rattle.std.specs.Prelude.{ℕ, ◌+◌, ◌-◌, ◌%◌, ◌^◌, Bool, cond, ◌&&◌, ◌||◌, List, [], ◌∷◌, ◌++◌, length, ◌==◌, nat_le, slice_index_or}
-use Rattle.std.proofs.Math.Option.{Option, some, none}
-use Rattle.lists.specs.declared.Found.{Found}
-use Rattle.lists.specs.declared.Found.TheVariants as found
+use Rattle.std.specs.Prelude.{ℕ, ◌+◌, ◌-◌, ◌%◌, ◌^◌, Bool, cond, ◌&&◌, ◌||◌, List, [], ◌∷◌, ◌++◌, length, ◌==◌, nat_le, slice_index_or, Option, Some, None}
+use Rattle.std.proofs.Math.Option as math
 use Rattle.lists.specs.Lists.{first_place}
 use Rattle.wire.specs.Integer.{encode_int}
 use Rattle.wire.specs.Number.{encode_number}
@@ -24,23 +22,29 @@ use Rattle.body.specs.declared.Failure.TheVariants as failure
 use Rattle.body.specs.declared.Fault.{Fault}
 use Rattle.body.specs.declared.update.Form.{Form}
 use Rattle.body.specs.Fields.{Read, got, failed, span_in}
-use Rattle.body.specs.Bodies.{Definition, definition_fields, switch_fields, acknowledgement_fields, Update, update_fields, form_of}
-use Rattle.message.specs.declared.Change.{Change}
+use Rattle.body.specs.declared.definition.Definition.{Definition}
+use Rattle.body.specs.declared.update.Update.{Update}
+use Rattle.body.specs.Bodies.{definition_fields, switch_fields, acknowledgement_fields, update_fields, form_of}
+use Rattle.message.specs.declared.Effect.{Effect as EffectStruct}
+use Rattle.message.specs.declared.Asked.{Asked}
+use Rattle.message.specs.declared.Asked.TheVariants as ask
 use Rattle.message.specs.Changes.{no_change, table_change, entry_change}
 use Rattle.message.specs.Targets.{goes_to}
 
 -- what a message does: its answer, its reply, the new connection, and what it puts into the store
-pub record Effect : Type 0 where
-  pub answer : Answer
-  pub reply : List ℕ
-  pub connection : Connection
-  pub change : Change
+abbrev pub Effect : Type 0
+Effect = EffectStruct
 
 -- what a message comes to before the entries are looked at: what it does, or, of an update, that this entry is to be committed with this
 -- update ID
-pub data Asks : Type 0 where
-  does : Effect → Asks
-  commits : ℕ → Entry → Asks
+abbrev pub Asks : Type 0
+Asks = Asked
+
+pattern abbrev pub does : Effect → Asks
+does e = ask.Done e
+
+pattern abbrev pub commits : ℕ → Entry → Asks
+commits id e = ask.Commit id e
 
 -- "From 10 up the record is closed with that number", with the reply of the table of refusals; the store stays
 unfoldable pub refuse_with : Connection → ℕ → Answer → Effect
@@ -111,9 +115,9 @@ unfoldable pub define_at : Connection → ℕ → Table → ℕ → Effect
 define_at c id t place = record { answer = answer.Table place; reply = []; connection = bind c place id; change = table_change place t }
 
 -- "A name not held takes the lowest free of 8 table places", "26 | new name, 8 tables held"
-unfoldable pub define_new : Connection → ℕ → Table → Found → Effect
-define_new c id t (found.At place) = define_at c id t place
-define_new c id t found.Nothing = refuse c 26
+unfoldable pub define_new : Connection → ℕ → Table → Option ℕ → Effect
+define_new c id t (Some place) = define_at c id t place
+define_new c id t None = refuse c 26
 
 -- "A held name must agree in key type, key length and data types"
 unfoldable pub agrees : Table → Table → Bool
@@ -122,9 +126,9 @@ agrees held t =
     && (held.key_len == t.key_len && held.data_types == t.data_types)
 
 -- "its expiry and periods are replaced, by none where the body has none", "25 | held name disagrees"
-unfoldable pub define_named : Connection → List Table → ℕ → Table → Found → Effect
-define_named c tables id t (found.At place) = cond (agrees (slice_index_or tables place no_table) t) (define_at c id t place) (refuse c 25)
-define_named c tables id t found.Nothing = define_new c id t (first_place table_free tables)
+unfoldable pub define_named : Connection → List Table → ℕ → Table → Option ℕ → Effect
+define_named c tables id t (Some place) = cond (agrees (slice_index_or tables place no_table) t) (define_at c id t place) (refuse c 25)
+define_named c tables id t None = define_new c id t (first_place table_free tables)
 
 -- "In a definition fields come first, then 25, then 26"
 unfoldable pub definition : Connection → List Table → List ℕ → Effect
@@ -135,9 +139,9 @@ definition c tables body =
 -- ---- switch
 
 -- "the table bound to it becomes current", "27 | no current table; switch to an unbound ID"
-unfoldable pub switch_to : Connection → Found → Effect
-switch_to c (found.At place) = note (make_current c place) (answer.Switch place) []
-switch_to c found.Nothing = refuse c 27
+unfoldable pub switch_to : Connection → Option ℕ → Effect
+switch_to c (Some place) = note (make_current c place) (answer.Switch place) []
+switch_to c None = refuse c 27
 
 -- "in a switch fields, then 27"
 unfoldable pub switch : Connection → List ℕ → Effect
@@ -189,9 +193,9 @@ other_message c tables kind body =
     (cond (kind == switch_type) (switch c body)
     (cond (kind == acknowledgement_type) (acknowledgement c body) (skipped c kind)))
 
-unfoldable pub by_form : Connection → List Table → ℕ → List ℕ → Option Form → Asks
-by_form c tables kind body (some form) = update form c tables body
-by_form c tables kind body none = does (other_message c tables kind body)
+unfoldable pub by_form : Connection → List Table → ℕ → List ℕ → math.Option Form → Asks
+by_form c tables kind body (math.some form) = update form c tables body
+by_form c tables kind body math.none = does (other_message c tables kind body)
 
 unfoldable pub stick_table : Connection → List Table → ℕ → List ℕ → Asks
 stick_table c tables kind body = by_form c tables kind body (form_of kind)

@@ -1,111 +1,44 @@
-// What a message puts into the store, what it asks before the entries are looked at, and refusals.
+// What a message does that leaves the store as it is: accepted, or refused.
 ghost use Rattle.std.specs.Prelude.{◌≡◌};
-ghost use Rattle.message.specs.Changes.{no_change, table_change, entry_change};
-ghost use Rattle.message.specs.Effects.{refuse_with, refuse, refusal, failure_number, refuse_body};
-ghost use Rattle.message.specs.Structs.{effect_struct, asks_nothing, asks_commit, asked};
+ghost use Rattle.message.specs.Effects.{note, refuse_with, refuse, refusal, failure_number, refuse_body};
 
-use crate::{Asked, Change, Effect, PUTS_ENTRY, PUTS_NOTHING, PUTS_TABLE};
+use crate::{Asked, Change, Effect};
 use body::{Failure, Fault};
-use session::reply_bytes::no_reply;
-use session::{Answer, Connection};
-use store::{Entry, Table, no_entry, no_table};
+use session::reply_bytes::refusal_reply;
+use session::{Answer, Connection, Reply};
 
-// The store stays as it is.
-pub fn no_change() -> Change
-    ensures { result ≡ no_change }
+// An accepted message that leaves the store as it is.
+#[tactic(auto, unfolding(crate::specs::Effects::note, crate::specs::Changes::no_change))]
+pub fn note(connection: Connection, answer: Answer, reply: Reply) -> Effect
+    ensures { result ≡ note connection answer reply }
 {
-    let table = no_table();
-    let entry = no_entry();
-    Change {
-        kind: PUTS_NOTHING,
-        place: 0,
-        table,
-        entry,
-    }
-}
-
-// The table goes to the place.
-pub fn table_change(place: usize, table: Table) -> Change
-    ensures { result ≡ table_change place table }
-{
-    let entry = no_entry();
-    Change {
-        kind: PUTS_TABLE,
-        place,
-        table,
-        entry,
-    }
-}
-
-// The entry goes to the place.
-pub fn entry_change(place: usize, entry: Entry) -> Change
-    ensures { result ≡ entry_change place entry }
-{
-    let table = no_table();
-    Change {
-        kind: PUTS_ENTRY,
-        place,
-        table,
-        entry,
-    }
-}
-
-// No entry is committed.
-pub fn ask_nothing(effect: Effect) -> Asked
-    ensures { result ≡ asks_nothing effect }
-{
-    let entry = no_entry();
-    Asked {
-        effect,
-        commits: false,
-        id: 0,
-        entry,
-    }
-}
-
-// The entry is committed, with the update ID.
-pub fn ask_commit(connection: Connection, id: u32, entry: Entry) -> Asked
-    ensures { result ≡ asks_commit connection id entry }
-{
-    let reply = no_reply();
-    let change = no_change();
-    let effect = Effect {
-        answer: Answer::More,
+    Effect {
+        answer,
         reply,
         connection,
-        change,
-    };
-    Asked {
-        effect,
-        commits: true,
-        id,
-        entry,
+        change: Change::Nothing,
     }
 }
 
 // A message that is refused with a number: it closes the session, and changes nothing else.
+#[tactic(auto, unfolding(crate::specs::Effects::note, crate::specs::Effects::refuse_with))]
 fn refuse_with(connection: Connection, number: u8, answer: Answer) -> Effect
-    ensures { result ≡ effect_struct (refuse_with connection number answer) }
+    ensures { result ≡ refuse_with connection number answer }
 {
     let closed = session::close_connection(connection, number);
-    let reply = session::reply_bytes::refusal_reply(number);
-    let change = no_change();
-    Effect {
-        answer,
-        reply,
-        connection: closed,
-        change,
-    }
+    note(closed, answer, refusal_reply(number))
 }
 
 // A message that is refused with a number alone.
+#[tactic(auto, unfolding(crate::specs::Effects::refuse))]
 pub fn refuse(connection: Connection, number: u8) -> Effect
-    ensures { result ≡ effect_struct (refuse connection number) }
+    ensures { result ≡ refuse connection number }
 {
     refuse_with(connection, number, Answer::Refused(number))
 }
 
 // The number of a failure.
+#[tactic(auto, unfolding(crate::specs::Effects::failure_number))]
 fn failure_number(failure: Failure) -> u8
     ensures { result ≡ failure_number failure }
 {
@@ -117,11 +50,11 @@ fn failure_number(failure: Failure) -> u8
 }
 
 // A message whose body can't be read, with the offset at which the failing field starts.
+#[tactic(auto, unfolding(crate::specs::Effects::refuse_body))]
 pub fn refuse_body(connection: Connection, fault: Fault) -> Effect
-    ensures { result ≡ effect_struct (refuse_body connection fault) }
+    ensures { result ≡ refuse_body connection fault }
 {
-    let failure = fault.failure;
-    let number = failure_number(failure);
+    let number = failure_number(fault.failure);
     let answer = Answer::RefusedAt {
         number,
         offset: fault.start,
@@ -130,9 +63,9 @@ pub fn refuse_body(connection: Connection, fault: Fault) -> Effect
 }
 
 // A refusal, asked before the entries are looked at.
+#[tactic(auto, unfolding(crate::specs::Effects::refusal))]
 pub fn ask_refusal(connection: Connection, number: u8) -> Asked
-    ensures { result ≡ asked connection (refusal connection number) }
+    ensures { result ≡ refusal connection number }
 {
-    let refused = refuse(connection, number);
-    ask_nothing(refused)
+    Asked::Done(refuse(connection, number))
 }

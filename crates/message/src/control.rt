@@ -1,14 +1,13 @@
 // Control and error messages, and those of other types.
 ghost use Rattle.std.specs.Prelude.{◌≡◌};
-ghost use Rattle.session.specs.Answers.{reply_of};
 ghost use Rattle.message.specs.Effects.{control_answer, control_reply, control, peer_error, skipped};
-ghost use Rattle.message.specs.Structs.{effect_struct};
 
 use crate::Effect;
-use crate::changes::no_change;
+use crate::changes::note;
 use session::reply_bytes::no_reply;
 use session::{Answer, Connection, Reply};
 
+#[tactic(auto, unfolding(crate::specs::Effects::control_answer))]
 fn control_answer(kind: u8) -> Answer
     ensures { result ≡ control_answer kind }
 {
@@ -21,61 +20,37 @@ fn control_answer(kind: u8) -> Answer
     }
 }
 
+#[tactic(auto, unfolding(crate::specs::Effects::control_reply))]
 fn control_reply(kind: u8) -> Reply
-    ensures { result ≡ reply_of (control_reply kind) }
+    ensures { result ≡ control_reply kind }
 {
-    if kind < 1 {
-        return no_reply();
-    }
-    if 2 < kind {
-        return no_reply();
-    }
-    Reply {
-        bytes: [0, 3, 0, 0, 0, 0, 0, 0, 0, 0, 0, 0],
-        len: 2,
+    match kind {
+        1 | 2 => Reply::copy_from_slice(&[0, 3]),
+        _ => no_reply(),
     }
 }
 
 // A control message of this type, 0 to 4.
+#[tactic(auto, unfolding(crate::specs::Effects::control))]
 pub fn control(connection: Connection, kind: u8) -> Effect
-    ensures { result ≡ effect_struct (control connection kind) }
+    ensures { result ≡ control connection kind }
 {
-    let answer = control_answer(kind);
-    let reply = control_reply(kind);
-    let change = no_change();
-    Effect {
-        answer,
-        reply,
-        connection,
-        change,
-    }
+    note(connection, control_answer(kind), control_reply(kind))
 }
 
 // A peer's error message of this type: it is accepted, and closes the session with number 0.
+#[tactic(auto, unfolding(crate::specs::Effects::peer_error))]
 pub fn peer_error(connection: Connection, kind: u8) -> Effect
-    ensures { result ≡ effect_struct (peer_error connection kind) }
+    ensures { result ≡ peer_error connection kind }
 {
     let closed = session::close_connection(connection, 0);
-    let reply = no_reply();
-    let change = no_change();
-    Effect {
-        answer: Answer::Error(kind),
-        reply,
-        connection: closed,
-        change,
-    }
+    note(closed, Answer::Error(kind), no_reply())
 }
 
 // A message of another type.
+#[tactic(auto, unfolding(crate::specs::Effects::skipped))]
 pub fn skipped(connection: Connection, kind: u8) -> Effect
-    ensures { result ≡ effect_struct (skipped connection kind) }
+    ensures { result ≡ skipped connection kind }
 {
-    let reply = no_reply();
-    let change = no_change();
-    Effect {
-        answer: Answer::Skipped(kind),
-        reply,
-        connection,
-        change,
-    }
+    note(connection, Answer::Skipped(kind), no_reply())
 }

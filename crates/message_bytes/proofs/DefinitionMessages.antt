@@ -24,12 +24,14 @@ use Rattle.session.specs.Session.{binding_at, bind, bind_to, with_tables, holdin
 use Rattle.session.proofs.Bindings.{bound-here, bound-lost, bound-kept}
 use Rattle.session.proofs.CurrentTable.{current-within}
 use Rattle.body.specs.Fields.{got, span_in}
-use Rattle.body.specs.Bodies.{Definition, definition_fields}
+use Rattle.body.specs.declared.definition.Definition.{Definition}
+use Rattle.body.specs.Bodies.{definition_fields}
 use Rattle.body.proofs.Spans.{span-length}
 use Rattle.body.proofs.Within.{definition-within}
 use Rattle.body.proofs.DefinitionEncoding.{TableRead, definition-encoded, definition-ends, definition-none, definition-absent}
 use Rattle.body.proofs.OneEncoding.{FittingTable, definition-once, body-once}
-use Rattle.message.specs.Effects.{Effect, defined_table}
+use Rattle.message.specs.declared.Effect.{Effect}
+use Rattle.message.specs.Effects.{defined_table}
 use Rattle.streams.specs.Calls.{Call}
 use Rattle.receiver.specs.Model.{State}
 use Rattle.receiver.specs.Promise.{Made, ReadPromise, call_of}

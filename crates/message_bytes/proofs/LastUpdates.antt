@@ -19,12 +19,12 @@ use Rattle.session.specs.declared.Answer.TheVariants as answer
 use Rattle.session_soundness.specs.Sound.{sound}
 use Rattle.streams.specs.Model.{bytes_in}
 use Rattle.streams.specs.Calls.{Call}
-use Rattle.streams.proofs.Timeline.{bytes_in-bytes}
 use Rattle.receiver.specs.Model.{State, held_by}
 use Rattle.receiver.specs.Promise.{Made, ReadPromise, call_of}
 use Rattle.receiver.specs.Demand3.{Called, reads, passes, Chain, taken_by, last_session, last_store}
 use Rattle.receiver.specs.Corollaries.{message_of}
 use Rattle.receiver.proofs.Chained.{good-held}
+use Rattle.receiver.proofs.NoneTaken.{taken_in, passed-in}
 use Rattle.receiver.proofs.OneRead.{call-is, made-state}
 use Rattle.receiver.proofs.Lawfully.{lawful}
 use Rattle.receiver.proofs.Ways.{Way, staying, waiting-on, judging, ways, taken_is, record-stays}
@@ -141,15 +141,6 @@ module _ (s : Session) (t : Store) (m : Made) (p : ReadPromise s t m) where
   carries = carried (ways s t m p)
 
 -- ---- all calls
-
--- the bytes that a call and those after it took
-taken_in : (m : Made) (calls : List Called) → bytes_in (taken_by (reads m ∷ calls)) ≡ take m.outcome.taken m.piece ++ bytes_in (taken_by calls)
-unfolding taken_by
-taken_in m calls = bytes_in-bytes (take m.outcome.taken m.piece) (taken_by calls)
-
-passed-in : (p : Passed) (calls : List Called) → bytes_in (taken_by (passes p ∷ calls)) ≡ bytes_in (taken_by calls)
-unfolding taken_by bytes_in
-passed-in p calls = refl
 
 later : (s : Session) (t : Store) (m : Made) (calls : List Called) (place : ℕ) → ReadPromise s t m → LastUpdate m.session m.store calls place
     → LastUpdate s t (reads m ∷ calls) place

@@ -32,12 +32,14 @@ use Rattle.session.specs.declared.Answer.TheVariants as answer
 use Rattle.session.specs.Session.{binding_at}
 use Rattle.body.specs.Fields.{got, span_in}
 use Rattle.body.specs.declared.update.Form.{Form}
-use Rattle.body.specs.Bodies.{Update, update_fields, time_mark, form_of}
+use Rattle.body.specs.declared.update.Update.{Update}
+use Rattle.body.specs.Bodies.{update_fields, time_mark, form_of}
 use Rattle.body.specs.Encodings.{message_bytes, entry_bytes, number_if, update_bytes}
 use Rattle.body.proofs.Within.{UpdateWithin, UpdateRead, update-within}
 use Rattle.body.proofs.UpdateEncoding.{EntryRead, update-encoded, if-length, entry-start, slot-there, server-there}
 use Rattle.body.proofs.OneEncoding.{Fitting, SameFields, update-once, type-once, body-once}
-use Rattle.message.specs.Effects.{Effect, updated_entry, following_id}
+use Rattle.message.specs.declared.Effect.{Effect}
+use Rattle.message.specs.Effects.{updated_entry, following_id}
 use Rattle.streams.specs.Calls.{Call}
 use Rattle.receiver.specs.Model.{State}
 use Rattle.receiver.specs.Promise.{Made, ReadPromise, call_of}

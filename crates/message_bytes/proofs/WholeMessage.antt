@@ -1,4 +1,5 @@
 -- The message that a call ended has no byte past its body: it is class 10, its type, the encoded body length and the body.
+use Rattle.std.specs.Prelude.{Err, None, Ok, Option, Result, Some}
 use Prim.Native.Nat.{ℕ, ◌+◌, ◌-◌, ◌≤◌}
 use native.Mathlib.Omega.{arith}
 use mathlib.Core.Path.{◌≡◌, refl, sym, ap, subst, ◌∙◌}
@@ -9,8 +10,9 @@ use lib.Seq.{drop-cons, drop-append_seam, take_all}
 use lib.Dec.{ltb, leb, eqb}
 use borrow.Author.Tests.{lt-ltb, le-ltb, ltb-false, eqb-true, eq-eqb, ne_eqb}
 use Rattle.lists.proofs.Cases.{by-test, never, lt-or-le, and_first, split}
-use Rattle.wire.specs.declared.Int.{Int}
-use Rattle.wire.specs.declared.Int.TheVariants as int
+use Rattle.frame.specs.declared.Header.{Header}
+use Rattle.wire.specs.declared.IntError.{IntError}
+use Rattle.wire.specs.declared.IntError.TheVariants as int
 use Rattle.wire.specs.Integer.{encode_int, read_int}
 use Rattle.wire.specs.Value.{Bytes}
 use Rattle.wire.proofs.RoundTrip.{one-encoding}
@@ -21,7 +23,6 @@ use Rattle.handshake.specs.declared.Hello.TheVariants as hello
 use Rattle.handshake.specs.declared.Status.{Status}
 use Rattle.handshake.specs.declared.Status.TheVariants as status
 use Rattle.handshake.specs.Handshake.{judge_hello, judge_status}
-use Rattle.frame.specs.declared.Header.{Header}
 use Rattle.frame.specs.declared.Header.TheVariants as header
 use Rattle.frame.specs.declared.Frame.{Frame}
 use Rattle.frame.specs.declared.Frame.TheVariants as frame
@@ -37,7 +38,8 @@ use Rattle.session_soundness.proofs.Records.{sound-session, open-facts}
 use Rattle.session_soundness.proofs.Waiting.{waits-frame, frame-is-waiting}
 use Rattle.body.specs.Encodings.{message_bytes, body_start}
 use Rattle.body.proofs.Encoding.{Stands, stands-part}
-use Rattle.message.specs.Effects.{Effect, refuse_with, refuse, note, done}
+use Rattle.message.specs.declared.Effect.{Effect}
+use Rattle.message.specs.Effects.{refuse_with, refuse, note, done}
 use Rattle.message.proofs.Kept.{Held}
 use Rattle.reassembly.specs.Judge.{Judged, waiting, settled, hello_judged, status_judged, asks_none, judge_bytes, done_of, judge}
 use Rattle.reassembly.specs.Pieces.{Part, take_piece}
@@ -62,7 +64,7 @@ record Framed (u : List ℕ) (kind start end : ℕ) : Type 0 where
   long : 2 ≤ length u
   size : ℕ
   most : size ≤ 1024
-  read : read_int u 2 ≡ int.Value size start
+  read : read_int u 2 ≡ Ok (size, start)
   ends : end ≡ start + size
 
 FrameIs : List ℕ → Frame → Type 0
@@ -72,11 +74,11 @@ FrameIs u (frame.Error type) = Unit {0}
 FrameIs u (frame.Body kind start end) = Framed u kind start end
 FrameIs u (frame.Refused n) = Unit {0}
 
-HeaderIs : ℕ → ℕ → Header → Type 0
-HeaderIs class type (header.Control n) = Unit {0}
-HeaderIs class type (header.Error n) = Unit {0}
-HeaderIs class type (header.StickTable n) = (class ≡ 10) × (type ≡ n)
-HeaderIs class type header.Unknown = Unit {0}
+HeaderIs : ℕ → ℕ → Option Header → Type 0
+HeaderIs class type (Some (header.Control n)) = Unit {0}
+HeaderIs class type (Some (header.Error n)) = Unit {0}
+HeaderIs class type (Some (header.StickTable n)) = (class ≡ 10) × (type ≡ n)
+HeaderIs class type None = Unit {0}
 
 header_is : (class type : ℕ) → HeaderIs class type (header_of class type)
 unfolding header_of HeaderIs
@@ -93,11 +95,11 @@ header_is class type =
     (λ d. rw d (eqb-true class 10 (and_first (eqb class 10) (leb 128 type) d), refl))
     (λ d. rw d tt)))))
 
-length-is : (u : List ℕ) (kind : ℕ) (i : Int) → read_int u 2 ≡ i → get_or u 0 0 ≡ 10 → get_or u 1 0 ≡ kind → 2 ≤ length u → FrameIs u (with_length kind u i)
+length-is : (u : List ℕ) (kind : ℕ) (i : (Result (ℕ × ℕ) IntError)) → read_int u 2 ≡ i → get_or u 0 0 ≡ 10 → get_or u 1 0 ≡ kind → 2 ≤ length u → FrameIs u (with_length kind u i)
 unfolding with_length FrameIs
-length-is u kind (int.Short k) e c t l = tt
-length-is u kind (int.Overflow k) e c t l = tt
-length-is u kind (int.Value n start) e c t l =
+length-is u kind (Err (int.Short k)) e c t l = tt
+length-is u kind (Err (int.Overflow k)) e c t l = tt
+length-is u kind (Ok (n, start)) e c t l =
     by-test (ltb 1024 n)
     (λ a. rw a tt)
     (λ a.
@@ -106,12 +108,12 @@ length-is u kind (int.Value n start) e c t l =
     (λ b. rw b tt)
     (λ b. rw b (record { class = c; type = t; long = l; size = n; most = ltb-false 1024 n a; read = e; ends = refl }))))
 
-by-header : (u : List ℕ) (h : Header) → HeaderIs (get_or u 0 0) (get_or u 1 0) h → 2 ≤ length u → FrameIs u (with_header u h)
+by-header : (u : List ℕ) (h : (Option Header)) → HeaderIs (get_or u 0 0) (get_or u 1 0) h → 2 ≤ length u → FrameIs u (with_header u h)
 unfolding with_header FrameIs HeaderIs
-by-header u (header.Control n) h l = tt
-by-header u (header.Error n) h l = tt
-by-header u (header.StickTable n) h l = length-is u n (read_int u 2) refl h.0 h.1 l
-by-header u header.Unknown h l = tt
+by-header u (Some (header.Control n)) h l = tt
+by-header u (Some (header.Error n)) h l = tt
+by-header u (Some (header.StickTable n)) h l = length-is u n (read_int u 2) refl h.0 h.1 l
+by-header u None h l = tt
 
 frame_is : (u : List ℕ) → FrameIs u (judge_frame u)
 unfolding judge_frame FrameIs

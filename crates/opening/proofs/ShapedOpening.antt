@@ -5,13 +5,12 @@ use mathlib.Core.Path.{◌≡◌, refl, sym, subst}
 use mathlib.Core.Bool.{true}
 use mathlib.Core.List.{List, [], ◌∷◌}
 use lib.ListN.{length, get_or, get_or-replicate}
-use lib.Dec.{leb, lit<}
-use borrow.Author.Tests.{leb-true}
-use Rattle.lists.proofs.Cases.{and_first, and_second}
+use lib.Dec.{lit<}
 use Rattle.store.proofs.Kept.{pad-cells}
 use Rattle.handshake.specs.Bytes.{within}
 use Rattle.handshake.specs.Handshake.{name_ok}
 use Rattle.handshake.proofs.RoundTrip.{name-most, name-graphic}
+use Rattle.handshake.proofs.NameBytes.{within-head, within-tail}
 use Rattle.session.specs.Session.{no_binding, binding_at, holding, nothing_sent}
 use Rattle.session.specs.Shape.{BindingShape, ConnectionShape, SessionShape}
 use Rattle.session.proofs.Shapes.{holding-shape, nothing-shape}
@@ -20,10 +19,9 @@ use Rattle.opening.proofs.SoundOpening.{open-cases}
 
 -- the bytes of a name are bytes
 graphic-small : (xs : List ℕ) → within 33 126 xs ≡ true → (i : ℕ) → get_or xs i 0 < 2 ^ 8
-unfolding within
 graphic-small [] h i = lit< tt
-graphic-small (x ∷ xs) h zero = let l = leb-true x 126 (and_first (leb x 126) _ (and_second (leb 33 x) _ h)) in omega arith
-graphic-small (x ∷ xs) h (suc i) = graphic-small xs (and_second (leb x 126) _ (and_second (leb 33 x) _ h)) i
+graphic-small (x ∷ xs) h zero = let l = within-head 33 126 x xs h in omega arith
+graphic-small (x ∷ xs) h (suc i) = graphic-small xs (within-tail 33 126 x xs h) i
 
 none-shape : BindingShape no_binding
 unfolding no_binding

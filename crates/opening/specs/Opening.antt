@@ -1,5 +1,5 @@
 -- Opening a session as answerer or caller.
-use Rattle.std.specs.Prelude.{ℕ, List, [], cond, ◌&&◌, length, ltb}
+use Rattle.std.specs.Prelude.{ℕ, List, [], cond, ◌&&◌, length, ltb, Option, Some, None}
 use Rattle.lists.specs.Lists.{front}
 use Rattle.handshake.specs.Handshake.{name_ok, hello_bytes}
 use Rattle.session.specs.declared.Session.{Session}
@@ -53,6 +53,10 @@ unfoldable pub «open» : Role → List ℕ → List ℕ → ℕ → Opening
 «open» role local remote room =
     cond (ltb room opening_room) (refuse_opening 1)
     (cond (name_ok local && name_ok remote) (accept role local remote) (refuse_opening 3))
+
+-- the number of the refusal, where there is one
+unfoldable pub opening_refusal : List ℕ → List ℕ → ℕ → Option ℕ
+opening_refusal local remote room = cond (ltb room opening_room) (Some 1) (cond (name_ok local && name_ok remote) None (Some 3))
 
 -- the room afterwards: the reply at its front, and the rest as it came
 unfoldable pub open_room : Role → List ℕ → List ℕ → List ℕ → List ℕ

@@ -13,7 +13,7 @@ use store::TABLES;
 fn name_array(name: &[u8]) -> [u8; PEER_NAME_MAX]
     ensures { result ≡ pad_to peer_name_max name.now }
 {
-    let mut bytes = [0u8; PEER_NAME_MAX];
+    let mut bytes = [0; PEER_NAME_MAX];
     pad(&mut bytes, name);
     bytes
 }
@@ -22,14 +22,6 @@ fn name_array(name: &[u8]) -> [u8; PEER_NAME_MAX]
 pub fn new_session(phase: u32, closed: u32, number: u32, local: &[u8], remote: &[u8]) -> Session
     ensures { result ≡ holding nothing_sent (new_connection phase closed number local.now remote.now) [] }
 {
-    let ours = name_array(local);
-    let theirs = name_array(remote);
-    let free = Binding {
-        bound: 0,
-        updated: 0,
-        id: 0,
-        previous: 0,
-    };
     let connection = Connection {
         phase,
         closed,
@@ -37,24 +29,20 @@ pub fn new_session(phase: u32, closed: u32, number: u32, local: &[u8], remote: &
         current: 0,
         local_len: local.len(),
         remote_len: remote.len(),
-        local: ours,
-        remote: theirs,
-        bindings: [free; TABLES],
+        local: name_array(local),
+        remote: name_array(remote),
+        bindings: [Binding::default(); TABLES],
     };
-    let sending = nothing_sent();
     Session {
         connection,
         len: 0,
-        buffer: [0u8; BUFFER],
-        sending,
+        buffer: [0; BUFFER],
+        sending: nothing_sent(),
     }
 }
 
 pub fn names_given(local: &[u8], remote: &[u8]) -> bool
     ensures { result ≡ (name_ok local.now && name_ok remote.now) }
 {
-    if !name_ok(local) {
-        return false;
-    }
-    name_ok(remote)
+    name_ok(local) && name_ok(remote)
 }

@@ -2,15 +2,15 @@
 #![tactic(auto)]
 
 ghost use Rattle.std.specs.Prelude.{◌≡◌};
-ghost use Rattle.store.specs.Shape.{StoreShape};
 ghost use Rattle.store.specs.Time.{pass_time, PassPromise};
 
 use store::counts::count_entry;
+use store::lent::store_shaped;
 use store::time::pass_entry;
 use store::{ENTRIES, Store, TABLES};
 use store_scan::store_ok;
 
-// What passing time by value gives back: the number that the lent one returns, and the store that it leaves.
+// What passing time by value gives back: the number that the lent one returns, as C gets it, and the store that it leaves.
 #[derive(Clone, Copy)]
 pub struct Step {
     pub number: u32,
@@ -22,8 +22,7 @@ fn pass_entries(store: &mut Store, milliseconds: u32)
     ensures { store.new ≡ pass_time milliseconds store.old }
 {
     let mut counts = [0u32; TABLES];
-    let mut i = 0;
-    while i < ENTRIES {
+    for i in 0..ENTRIES {
         let held = store.entries[i].held;
         if held != 0 {
             let e = store.entries[i];
@@ -32,23 +31,16 @@ fn pass_entries(store: &mut Store, milliseconds: u32)
             counts = counted;
             store.entries[i] = left;
         }
-        i += 1;
     }
     store.counts = counts;
 }
 
-// A lent store has the shape that its type says. A proof knows this where the store is read, so it is read here; nothing is done.
-fn shaped(store: &Store)
-    ensures { StoreShape store.now }
-{
-    let _first = store.counts[0];
-}
-
-// Passes milliseconds on a lent store, which holds the new state afterwards: 0; or 4, and the store stays, where it isn't sound.
+// Passes milliseconds on a lent store, which holds the new state afterwards: 0; or 4, and the store stays, where it isn't sound. The numbers
+// are those that C gets, of which PassPromise speaks.
 pub fn pass_lent(store: &mut Store, milliseconds: u32) -> u32
     ensures { PassPromise store.old (record { milliseconds = milliseconds; number = result; store = store.new }) }
 {
-    shaped(store);
+    store_shaped(store);
     if !store_ok(store) {
         return 4;
     }

@@ -2,17 +2,17 @@
 // The last line, `end`, is left out where a read or a write failed.
 #![tactic(auto)]
 
-ghost use Rattle.std.specs.Prelude.{◌≤◌, ◌<◌};
-
 use listing::end::put_end;
 use listing::put_call;
 use opening::{OPENING_ROOM, open_answerer};
 use reading::{REPLY_ROOM, Step, read};
-use session::{Connection, Outcome};
+use session::{Connection, Outcome, Session};
 use store::{TABLES, Table};
 use text::arguments::{none_given, words};
-use text::input::{Next, count, next_of, read_some};
+use text::front;
+use text::input::{InputError, next_of, read_some};
 use text::output::{Page, flush, room_at, write};
+use wire::writer::Writer;
 
 // More than any call's lines need.
 const MARGIN: usize = 1024;
@@ -20,14 +20,9 @@ const MARGIN: usize = 1024;
 // For a piece, and for its lines.
 const ROOM: usize = 65_536;
 
-// Between two pieces: the last call, the output that isn't written yet, and how the input stands.
+// A read or a write failed, which is told already.
 #[derive(Clone, Copy)]
-struct Run {
-    step: Step,
-    page: Page,
-    goes_on: bool,
-    failed: bool,
-}
+struct Failed;
 
 // The lines of a call.
 fn put_lines(
@@ -40,120 +35,79 @@ fn put_lines(
     reply: &[u8],
 ) -> Page {
     let p = room_at(rt, out, page, MARGIN);
-    let answer = outcome.answer;
-    let next = put_call(
-        out,
-        p.next,
+    let mut w = Writer {
+        room: out,
+        at: p.next,
+    };
+    put_call(
+        &mut w,
         connection,
         tables,
-        answer,
+        outcome.answer,
         reply,
         outcome.reply_len,
     );
-    Page {
-        next,
-        written: p.written,
-    }
-}
-
-// Whether no call follows: the session is closed, or a write failed.
-fn is_over(closed: u32, written: bool) -> bool {
-    if !written {
-        return true;
-    }
-    closed == 1
-}
-
-// Where the next call starts in a piece: behind what the last one took, or at the end where none is to follow.
-fn next_start(at: usize, taken: usize, len: usize, over: bool) -> usize
-    requires { at < len }
-    ensures { (at < result) × (result ≤ len) }
-{
-    if taken == 0 {
-        return len;
-    }
-    if over {
-        return len;
-    }
-    if len - at < taken {
-        return len;
-    }
-    at + taken
+    Page { next: w.at, ..p }
 }
 
 // A piece, offered until all of it is taken, a call takes nothing, as on a closed session, or a write failed. The step goes to the
 // call whole and from the loop itself: taken apart, or passed on by another function, it would be copied once more.
-fn list_piece(rt: &(impl Print + Eprint), run: Run, piece: &[u8], out: &mut [u8]) -> Run {
-    let mut step = run.step;
-    let mut page = run.page;
+fn list_piece(
+    rt: &(impl Print + Eprint),
+    given: Step,
+    piece: &[u8],
+    out: &mut [u8],
+) -> Result<Step, Failed> {
+    let mut step = given;
+    let mut page = Page {
+        next: 0,
+        written: true,
+    };
     let mut reply = [0u8; REPLY_ROOM];
-    let mut at: usize = 0;
-    while at < piece.len() {
-        step = read(step, &piece[at..], &mut reply);
+    let mut rest = piece;
+    while !rest.is_empty() {
+        step = read(step, rest, &mut reply);
         let outcome = step.outcome;
         let session = step.session;
         let connection = session.connection;
         let store = step.store;
         let tables = store.tables;
         page = put_lines(rt, out, page, connection, tables, outcome, &reply);
-        let over = is_over(connection.closed, page.written);
-        at = next_start(at, outcome.taken, piece.len(), over);
+        let taken = outcome.taken;
+        if taken == 0 || connection.closed == 1 || !page.written || rest.len() < taken {
+            break;
+        }
+        rest = &rest[taken..];
     }
-    Run {
-        step,
-        page,
-        goes_on: run.goes_on,
-        failed: run.failed,
+    if flush(rt, out, page).written {
+        return Ok(step);
     }
+    Err(Failed)
 }
 
-// A run that ends, by a failed read or at the end of the input.
-fn stopped(run: Run, failed: bool) -> Run {
-    let mut r = run;
-    r.goes_on = false;
-    r.failed = failed;
-    r
-}
-
-// What a run came to once a piece is listed and written: it goes on unless a write failed, nothing was taken or the session is closed.
-fn listed(run: Run, page: Page) -> Run {
-    let mut r = run;
-    r.page = page;
-    r.failed = !page.written;
-    r.goes_on = 0 < run.step.outcome.taken
-        && !is_over(run.step.session.connection.closed, page.written);
-    r
-}
-
-// Reads once, and lists what came.
-fn list_some(rt: &(impl Input + Print + Eprint), run: Run, out: &mut [u8]) -> Run {
+// What comes is listed in pieces, until the input ends, a call takes nothing or the session is closed. Nothing says that an input ends, so
+// the turns are bounded by a number that no run uses up.
+fn list_all(
+    rt: &(impl Input + Print + Eprint),
+    given: Step,
+    out: &mut [u8],
+) -> Result<Session, Failed> {
+    let mut step = given;
     let mut buffer = [0u8; ROOM];
-    let got = read_some(rt, &mut buffer);
-    match next_of(got) {
-        Next::Again => run,
-        Next::Failed => stopped(run, true),
-        Next::End => stopped(run, false),
-        Next::Bytes => {
-            let n = count(got, &buffer);
-            let r = list_piece(rt, run, &buffer[..n], out);
-            let page = flush(rt, out, r.page);
-            listed(r, page)
+    for _ in 0..u64::MAX {
+        match next_of(read_some(rt, &mut buffer)) {
+            Ok(Some(n)) => {
+                step = list_piece(rt, step, front(&buffer, n), out)?;
+                if step.outcome.taken == 0 || step.session.connection.closed == 1 {
+                    break;
+                }
+            }
+            Ok(None) => {}
+            Err(InputError::End) => break,
+            Err(InputError::Failed) => return Err(Failed),
         }
     }
-}
-
-// Nothing says that an input ends, so the turns are counted down from a number that no run uses up.
-fn list_all(rt: &(impl Input + Print + Eprint), run: Run, out: &mut [u8]) -> Run {
-    let mut r = run;
-    let mut turns = u64::MAX;
-    while turns > 0 {
-        turns -= 1;
-        r = list_some(rt, r, out);
-        if !r.goes_on {
-            return r;
-        }
-    }
-    r
+    Ok(step.session)
 }
 
 fn main(rt: HostRuntime) {
@@ -165,24 +119,19 @@ fn main(rt: HostRuntime) {
     let session = opened.session;
     let store = store::empty_store();
     let outcome = opened.outcome;
-    let run = Run {
-        step: Step {
-            outcome,
-            session,
-            store,
-        },
-        page: Page {
-            next: 0,
-            written: true,
-        },
-        goes_on: true,
-        failed: false,
+    let step = Step {
+        outcome,
+        session,
+        store,
     };
     let mut out = [0u8; ROOM];
-    let last = list_all(&rt, run, &mut out);
-    if last.failed {
-        return;
+    if let Ok(last) = list_all(&rt, step, &mut out) {
+        let mut w = Writer {
+            room: &mut out,
+            at: 0,
+        };
+        put_end(&mut w, last);
+        let n = w.at;
+        write(&rt, &out, n);
     }
-    let n = put_end(&mut out, 0, last.step.session);
-    write(&rt, &out, n);
 }

@@ -1,4 +1,5 @@
 -- The corollaries for the exported calls, from those for calls with the answer enum.
+use Rattle.std.specs.Prelude.{None, Option, Some}
 use Prim.Native.Nat.{ℕ, ◌<◌, ◌≤◌}
 use native.Mathlib.Omega.{arith}
 use mathlib.Core.Path.{◌≡◌, refl, sym, ap, ◌∙◌, subst}
@@ -9,8 +10,6 @@ use lib.ListN.{length, take, get_or, length-map, get_or-eq_default}
 use lib.Dec.{eqb}
 use borrow.Author.Tests.{eqb-true, eqb-false, ne_eqb}
 use Rattle.lists.specs.Lists.{first_place}
-use Rattle.lists.specs.declared.Found.{Found}
-use Rattle.lists.specs.declared.Found.TheVariants as found
 use Rattle.lists.proofs.Cases.{by-test, never, and-false, cond-false, lt-or-le}
 use Rattle.lists.proofs.Places.{first-at, first-nothing}
 use Rattle.store.specs.declared.Entry.{Entry}
@@ -329,18 +328,18 @@ unfolding entry_free no_entry
 no-entry-free = refl
 
 -- the lowest free place isn't above a free one
-lowest-free : (t : Store) (place : ℕ) → place < length t.entries → entry_free (get_or t.entries place no_entry) ≡ true → (f : Found) → free_entry t ≡ f
-    → (lowest : ℕ) × ((free_entry t ≡ found.At lowest) × (lowest ≤ place))
+lowest-free : (t : Store) (place : ℕ) → place < length t.entries → entry_free (get_or t.entries place no_entry) ≡ true → (f : (Option ℕ)) → free_entry t ≡ f
+    → (lowest : ℕ) × ((free_entry t ≡ Some lowest) × (lowest ≤ place))
 unfolding free_entry
-lowest-free t place l free (found.At i) e =
+lowest-free t place l free (Some i) e =
     ⊎_elim
     (λ less. never free ((first-at entry_free t.entries i e).lower place no_entry less))
     (λ most. (i, (e, most)))
     (lt-or-le place i)
-lowest-free t place l free found.Nothing e = never free (first-nothing entry_free t.entries e place no_entry l)
+lowest-free t place l free None e = never free (first-nothing entry_free t.entries e place no_entry l)
 
 -- an entry whose key isn't held goes to it
-goes-free : (t : Store) (lowest : ℕ) → free_entry t ≡ found.At lowest → (e : Entry) → first_place (keyed_as e) t.entries ≡ found.Nothing
+goes-free : (t : Store) (lowest : ℕ) → free_entry t ≡ Some lowest → (e : Entry) → first_place (keyed_as e) t.entries ≡ None
     → goes_to t.entries e ≡ places.Free lowest
 unfolding free_entry goes_to place_of free_of
 goes-free t lowest next e none = λ i. place_of (none i) (next i)

@@ -1,7 +1,8 @@
 -- The promises of the exported calls, from those of the calls that they make.
 use Prim.Native.Nat.{ℕ, ◌%◌, ◌^◌, ◌≤◌, ◌<◌}
 use native.Mathlib.Omega.{arith}
-use mathlib.Core.Path.{◌≡◌, refl, sym, ap, subst, ◌∙◌}
+use mathlib.Core.Path.{◌≡◌, sym, ap, ◌∙◌}
+use Rattle.std.specs.Prelude.{Result, Ok, Err}
 use mathlib.Core.Bool.{true, false}
 use mathlib.Core.List.{List}
 use lib.ListN.{length}
@@ -15,11 +16,7 @@ use Rattle.session.specs.declared.Outcome.{Outcome}
 use Rattle.session_soundness.specs.Sound.{sound}
 use Rattle.session_soundness.proofs.Records.{sound-store}
 use Rattle.receiver.specs.Promise.{ReadPromise}
-use Rattle.sending.specs.declared.Ask.{Ask}
-use Rattle.sending.specs.declared.Sent.{Sent}
-use Rattle.sending.specs.declared.Sent.TheVariants as sent
 use Rattle.sending.specs.Sending.{Asked, definition, entry, Askable, Message, message_for, can_send, number_for, sent_as, SendMade, SendPromise}
-use Rattle.sending.specs.Finish.{asked_by}
 use Rattle.sending.proofs.plans.Numbers.{Sends, sends}
 use Rattle.teaching.specs.Teaching.{id_of, message_most}
 use Rattle.teaching.specs.ReadBack.{MessageBack}
@@ -44,15 +41,6 @@ raw-promised o e p = record {
 }
 
 -- ---- sending
-
--- what the code asks for
-pub definition-asked : (place id : ℕ) → asked_by (record { entry = false; id = id; place = place }) ≡ definition place id
-unfolding asked_by
-definition-asked place id = refl
-
-pub entry-asked : (place id : ℕ) → asked_by (record { entry = true; id = id; place = place }) ≡ entry place id
-unfolding asked_by
-entry-asked place id = refl
 
 -- an ID of 32 bits
 asked-id : (a : Asked) → Askable a → id_of a < 2 ^ 32
@@ -84,11 +72,11 @@ module _ (s : Session) (t : Store) (m : SendMade) (p : SendPromise s t m) where
   abbrev message : Message
   message = message_for t s.sending m.asked
 
-  as-sent : eqb number 0 ≡ true → m.result ≡ sent.Sent (length message.bytes)
+  as-sent : eqb number 0 ≡ true → m.result ≡ Ok (length message.bytes)
   unfolding sent_as
   as-sent e = p.result ∙ rw e
 
-  as-refused : eqb number 0 ≡ false → m.result ≡ sent.Refused number
+  as-refused : eqb number 0 ≡ false → m.result ≡ Err number
   unfolding sent_as
   as-refused e = p.result ∙ rw e
 
@@ -96,8 +84,8 @@ module _ (s : Session) (t : Store) (m : SendMade) (p : SendPromise s t m) where
   unfolding sent_numbers
   number-told =
       by-test (eqb number 0)
-      (λ e. ap (λ (r : Sent). (sent_numbers r).number) (as-sent e) ∙ sym (eqb-true number 0 e))
-      (λ e. ap (λ (r : Sent). (sent_numbers r).number) (as-refused e))
+      (λ e. ap (λ (r : Result ℕ ℕ). (sent_numbers r).number) (as-sent e) ∙ sym (eqb-true number 0 e))
+      (λ e. ap (λ (r : Result ℕ ℕ). (sent_numbers r).number) (as-refused e))
 
   whole_length : eqb number 0 ≡ true → length message.bytes % 2 ^ 32 ≡ length message.bytes
   whole_length e = omega (arith, sent-short s t (length m.room) m.asked p.store-shape p.askable e)
@@ -106,21 +94,20 @@ module _ (s : Session) (t : Store) (m : SendMade) (p : SendPromise s t m) where
   unfolding sent_numbers sent_length
   length-told =
       by-test (eqb number 0)
-      (λ e. ap (λ (r : Sent). (sent_numbers r).len) (as-sent e) ∙ (whole_length e ∙ rw e))
-      (λ e. ap (λ (r : Sent). (sent_numbers r).len) (as-refused e) ∙ rw e)
+      (λ e. ap (λ (r : Result ℕ ℕ). (sent_numbers r).len) (as-sent e) ∙ (whole_length e ∙ rw e))
+      (λ e. ap (λ (r : Result ℕ ℕ). (sent_numbers r).len) (as-refused e) ∙ rw e)
 
-pub raw-sent-promised : {s next : Session} {t : Store} {room final : List ℕ} {told : Sent} {asked : Asked} (a : Ask) → asked_by a ≡ asked → (o : RawSent)
-    → o ≡ sent_numbers told → SendPromise s t (record { asked = asked_by a; room = room; result = told; session = next; final = final })
+pub raw-sent-promised : {s next : Session} {t : Store} {room final : List ℕ} {told : Result ℕ ℕ} {asked : Asked} (o : RawSent) → o ≡ sent_numbers told
+    → SendPromise s t (record { asked = asked; room = room; result = told; session = next; final = final })
     → RawSendPromise s t (record { asked = asked; room = room; outcome = o; session = next; final = final })
-raw-sent-promised {s} {next} {t} {room} {final} {told} {asked} a q o e p =
-    let made : Asked → SendMade = λ x. record { asked = x; room = room; result = told; session = next; final = final } in
-    let p' : SendPromise s t (made asked) = subst (λ (x : Asked). SendPromise s t (made x)) q p in
+raw-sent-promised {s} {next} {t} {room} {final} {told} {asked} o e p =
+    let made : SendMade = record { asked = asked; room = room; result = told; session = next; final = final } in
     record {
-      number = ap (λ (x : RawSent). x.number) e ∙ number-told s t (made asked) p';
-      len = ap (λ (x : RawSent). x.len) e ∙ length-told s t (made asked) p';
-      session = p'.session;
-      final = p'.final;
-      session-shape = p'.session-shape;
-      store-shape = p'.store-shape;
-      askable = p'.askable;
+      number = ap (λ (x : RawSent). x.number) e ∙ number-told s t made p;
+      len = ap (λ (x : RawSent). x.len) e ∙ length-told s t made p;
+      session = p.session;
+      final = p.final;
+      session-shape = p.session-shape;
+      store-shape = p.store-shape;
+      askable = p.askable;
     }

@@ -1,8 +1,7 @@
 -- What follows from the exported calls' promises and from their demand 3, in the auditor's words and in the numbers that a host has.
-use Rattle.std.specs.Prelude.{ℕ, ◌+◌, ◌-◌, ◌≤◌, ◌<◌, ◌≡◌, ◌⊎◌, true, cond, ◌&&◌, ◌||◌, length, take, drop, get_or, eqb}
+use Rattle.std.specs.Prelude.{ℕ, ◌+◌, ◌-◌, ◌≤◌, ◌<◌, ◌≡◌, ◌⊎◌, true, cond, ◌&&◌, ◌||◌, length, take, drop, get_or, eqb, None, Some}
 use mathlib.Core.List.{List, [], ◌∷◌, ◌++◌, map, flatten}
 use Rattle.std.proofs.Math.Option.{some}
-use Rattle.lists.specs.declared.Found.TheVariants as found
 use Rattle.lists.specs.Lists.{every, first_place}
 use Rattle.store.specs.declared.Entry.{Entry}
 use Rattle.store.specs.declared.Store.{Store}
@@ -23,7 +22,8 @@ use Rattle.session_soundness.specs.Sound.{sound}
 use Rattle.opening.specs.Opening.{Role, «open», opened_of, open_room, refused_opening}
 use Rattle.body.specs.declared.update.Form.{Form}
 use Rattle.body.specs.Fields.{got, span_in}
-use Rattle.body.specs.Bodies.{Update, form_of}
+use Rattle.body.specs.declared.update.Update.{Update}
+use Rattle.body.specs.Bodies.{form_of}
 use Rattle.message.specs.Effects.{acknowledge}
 use Rattle.message.specs.Targets.{keyed_as, goes_to}
 use Rattle.streams.specs.Model.{Item, bytes, bytes_in}
@@ -340,9 +340,9 @@ pub record FreedPlace (t : Store) (place : ℕ) : Type 0 where
   pub cleared : get_or t.entries place no_entry ≡ no_entry
   pub free : entry_free (get_or t.entries place no_entry) ≡ true
   pub lowest : ℕ
-  pub next : free_entry t ≡ found.At lowest
+  pub next : free_entry t ≡ Some lowest
   pub not-above : lowest ≤ place
-  pub used : (e : Entry) → first_place (keyed_as e) t.entries ≡ found.Nothing → goes_to t.entries e ≡ places.Free lowest
+  pub used : (e : Entry) → first_place (keyed_as e) t.entries ≡ None → goes_to t.entries e ≡ places.Free lowest
 
 pub record PassingCalls : Type 0 where
   -- "passing time gives 4 on an unsound store, unchanged, else 0"

@@ -1,12 +1,10 @@
 -- What a host in C or Rust is told: numbers for the answer.
-use Rattle.std.specs.Prelude.{◌%◌, ◌^◌, length}
+use Rattle.std.specs.Prelude.{ℕ, ◌%◌, ◌^◌, length, Result, Ok, Err}
 use Rattle.lists.specs.Lists.{pad_to}
 use Rattle.session.specs.declared.Outcome.{Outcome}
 use Rattle.session.specs.Answers.{answer_number, answer_values}
 use Rattle.opening.specs.declared.Opened.{Opened}
 use Rattle.peers.specs.declared.numbers.RawOutcome.{RawOutcome}
-use Rattle.sending.specs.declared.Sent.{Sent}
-use Rattle.sending.specs.declared.Sent.TheVariants as sent
 use Rattle.peers.specs.declared.numbers.RawOpened.{RawOpened}
 use Rattle.peers.specs.declared.numbers.RawSent.{RawSent}
 
@@ -25,6 +23,6 @@ unfoldable pub raw_opened : Opened → RawOpened
 raw_opened o = record { session = o.session; outcome = raw_outcome o.outcome }
 
 -- 0 and the message's length, or the refusal's number and 0; a length as 32 bits hold it
-unfoldable pub sent_numbers : Sent → RawSent
-sent_numbers (sent.Sent n) = record { number = 0; len = n % 2 ^ 32 }
-sent_numbers (sent.Refused n) = record { number = n; len = 0 }
+unfoldable pub sent_numbers : Result ℕ ℕ → RawSent
+sent_numbers (Ok n) = record { number = 0; len = n % 2 ^ 32 }
+sent_numbers (Err n) = record { number = n; len = 0 }

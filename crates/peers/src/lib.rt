@@ -14,7 +14,7 @@ ghost use Rattle.sending.specs.Sending.{definition, entry};
 ghost use Rattle.peers.specs.Sending.{RawSendPromise};
 ghost use Rattle.peers.specs.Version.{archive_version};
 
-use crate::numbers::{RawOpened, RawOutcome, RawSent, raw_opened, raw_outcome, raw_sent};
+use crate::numbers::{RawOpened, RawOutcome, RawSent};
 use passing::pass_lent;
 use reading::read_lent;
 use sending::{Ask, send_lent};
@@ -27,6 +27,7 @@ const VERSION: u32 = 7;
 const LAYOUT: u32 = 5;
 
 // What this archive was built as, so that a header or a wrapper of another version is noticed.
+#[tactic(auto, unfolding(crate::specs::Version::archive_version, crate::specs::Version::version, crate::specs::Version::layout))]
 #[unsafe(no_mangle)]
 pub extern "C" fn peers_version() -> u32
     ensures { result ≡ archive_version }
@@ -48,7 +49,7 @@ pub extern "C" fn peers_open_answerer(local: &[u8], remote: &[u8], room: &mut [u
     ensures result { result ≡ raw_opened (opened_of («open» answerer local.now remote.now (length room.old))) }
     ensures content { room.new ≡ open_room answerer local.now remote.now room.old }
 {
-    raw_opened(opening::open_answerer(local, remote, room))
+    RawOpened::from(opening::open_answerer(local, remote, room))
 }
 
 // Opens a session that awaits a status. The caller's hello stands at the front of the room.
@@ -63,7 +64,7 @@ pub extern "C" fn peers_open_caller(
     ensures result { result ≡ raw_opened (opened_of («open» (caller process relative) local.now remote.now (length room.old))) }
     ensures content { room.new ≡ open_room (caller process relative) local.now remote.now room.old }
 {
-    raw_opened(opening::open_caller(local, remote, process, relative, room))
+    RawOpened::from(opening::open_caller(local, remote, process, relative, room))
 }
 
 // The reading call: record and store are lent, and hold the new state afterwards.
@@ -76,7 +77,7 @@ pub extern "C" fn peers_read(
 ) -> RawOutcome
     ensures { RawPromise session.old store.old (record { piece = piece.entry.now; room = reply.old; outcome = result; session = session.new; store = store.new; final = reply.new }) }
 {
-    raw_outcome(read_lent(session, store, piece, reply))
+    RawOutcome::from(read_lent(session, store, piece, reply))
 }
 
 // Passes milliseconds on a lent store: 0; or 4, and nothing is changed, where the store isn't sound.
@@ -98,12 +99,7 @@ pub extern "C" fn peers_send_definition(
 ) -> RawSent
     ensures { RawSendPromise session.old store.now (record { asked = definition place id; room = room.old; outcome = result; session = session.new; final = room.new }) }
 {
-    let ask = Ask {
-        entry: false,
-        id,
-        place,
-    };
-    raw_sent(send_lent(session, store, ask, room))
+    RawSent::from(send_lent(session, store, Ask::Definition { place, id }, room))
 }
 
 // Writes the entry at a place, with this update ID, to the front of the room: 0 and its length, or the refusal's number and 0.
@@ -117,10 +113,5 @@ pub extern "C" fn peers_send_entry(
 ) -> RawSent
     ensures { RawSendPromise session.old store.now (record { asked = entry place id; room = room.old; outcome = result; session = session.new; final = room.new }) }
 {
-    let ask = Ask {
-        entry: true,
-        id,
-        place,
-    };
-    raw_sent(send_lent(session, store, ask, room))
+    RawSent::from(send_lent(session, store, Ask::Entry { place, id }, room))
 }

@@ -3,7 +3,6 @@ ghost use Rattle.std.specs.Prelude.{◌≡◌};
 ghost use Rattle.peers.specs.Numbers.{raw_outcome, raw_opened, sent_numbers};
 
 use opening::Opened;
-use sending::Sent;
 use session::answers::{answer_number, answer_values};
 use session::{Outcome, Session};
 
@@ -36,41 +35,50 @@ pub struct RawSent {
 }
 
 // An outcome with numbers for its answer.
-pub fn raw_outcome(outcome: Outcome) -> RawOutcome
-    ensures { result ≡ raw_outcome outcome }
-{
-    let answer = outcome.answer;
-    let number = answer_number(answer);
-    let told = answer_values(answer);
-    let values = told.numbers;
-    RawOutcome {
-        taken: outcome.taken,
-        reply_len: outcome.reply_len,
-        number,
-        count: told.count,
-        values,
+impl From<Outcome> for RawOutcome {
+    ghost from_gives = { λ outcome r. r ≡ raw_outcome outcome };
+
+    #[tactic(auto, unfolding(crate::specs::Numbers::raw_outcome, session::specs::Answers::values_of))]
+    fn from(outcome: Outcome) -> RawOutcome {
+        let told = answer_values(outcome.answer);
+        // an array isn't stored straight from a field
+        let values = told.numbers;
+        RawOutcome {
+            taken: outcome.taken,
+            reply_len: outcome.reply_len,
+            number: answer_number(outcome.answer),
+            count: told.count,
+            values,
+        }
     }
 }
 
-pub fn raw_opened(opened: Opened) -> RawOpened
-    ensures { result ≡ raw_opened opened }
-{
-    let session = opened.session;
-    let outcome = raw_outcome(opened.outcome);
-    RawOpened { session, outcome }
+impl From<Opened> for RawOpened {
+    ghost from_gives = { λ opened r. r ≡ raw_opened opened };
+
+    #[tactic(auto, unfolding(crate::specs::Numbers::raw_opened))]
+    fn from(opened: Opened) -> RawOpened {
+        RawOpened {
+            session: opened.session,
+            outcome: opened.outcome.into(),
+        }
+    }
 }
 
-pub fn raw_sent(sent: Sent) -> RawSent
-    ensures { result ≡ sent_numbers sent }
-{
-    match sent {
-        Sent::Sent(len) => RawSent {
-            number: 0,
-            len: (len % 0x1_0000_0000) as u32,
-        },
-        Sent::Refused(number) => RawSent {
-            number: number as u32,
-            len: 0,
-        },
+impl From<Result<usize, u8>> for RawSent {
+    ghost from_gives = { λ sent r. r ≡ sent_numbers sent };
+
+    #[tactic(auto, unfolding(crate::specs::Numbers::sent_numbers))]
+    fn from(sent: Result<usize, u8>) -> RawSent {
+        match sent {
+            Ok(len) => RawSent {
+                number: 0,
+                len: (len % 0x1_0000_0000) as u32,
+            },
+            Err(number) => RawSent {
+                number: u32::from(number),
+                len: 0,
+            },
+        }
     }
 }

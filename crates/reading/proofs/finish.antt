@@ -1,4 +1,3 @@
-pub mod Answering
 pub mod Receiving
 pub mod Promising
 pub mod Finishing

@@ -1,5 +1,5 @@
 -- What a reading call gives back, for each way that it ends, and the reply in the room.
-use Rattle.std.specs.Prelude.{ℕ, List, [], cond, ltb, length, take}
+use Rattle.std.specs.Prelude.{ℕ, List, [], length}
 use Rattle.wire.specs.Room.{put_room}
 use Rattle.store.specs.declared.Store.{Store}
 use Rattle.session.specs.declared.Connection.{Connection}
@@ -7,9 +7,7 @@ use Rattle.session.specs.declared.Sending.{Sending}
 use Rattle.session.specs.declared.Session.{Session}
 use Rattle.session.specs.declared.Answer.{Answer}
 use Rattle.session.specs.declared.Answer.TheVariants as answer
-use Rattle.session.specs.declared.Reply.{Reply}
 use Rattle.session.specs.Session.{holding}
-use Rattle.message.specs.declared.Effect.{Effect as EffectStruct}
 use Rattle.message.specs.Effects.{Effect}
 use Rattle.message.specs.Changes.{no_change, changed}
 use Rattle.streams.specs.Calls.{Call}
@@ -31,24 +29,16 @@ unfoldable pub applied : Store → StepChange → Step
 applied t r = record { outcome = r.outcome; session = r.session; store = changed t r.change }
 
 -- what a message did is answered, after so many bytes
-unfoldable pub gives : Sending → ℕ → EffectStruct → StepChange
-gives k count x = record {
-  outcome = record { taken = count; reply_len = x.reply.len; answer = x.answer };
-  session = holding k x.connection [];
-  change = x.change;
-}
-
--- the same on a store
-unfoldable pub answers : Sending → ℕ → Store → Effect → Step
-answers k count t e = record {
+unfoldable pub gives : Sending → ℕ → Effect → StepChange
+gives k count e = record {
   outcome = record { taken = count; reply_len = length e.reply; answer = e.answer };
   session = holding k e.connection [];
-  store = changed t e.change;
+  change = e.change;
 }
 
--- the room with a reply at its front; a reply of more than the twelve bytes of its array, or than the room has, is not put
-unfoldable pub replied : Reply → List ℕ → List ℕ
-replied k room = cond (ltb 12 k.len) room (put_room room 0 (take k.len k.bytes))
+-- the room with a reply at its front; a reply longer than the room is not put
+unfoldable pub replied : List ℕ → List ℕ → List ℕ
+replied reply room = put_room room 0 reply
 
 -- outcome, record and store of the model's call
 unfoldable pub step_of : Session → Call State Answer → Step

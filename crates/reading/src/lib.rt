@@ -12,10 +12,12 @@ pub use crate::finish::REPLY_ROOM;
 use crate::finish::finish_read;
 pub use crate::results::Step;
 use crate::start::start_read;
-use session::{Answer, Outcome, Session};
-use store::Store;
+use message::Change;
+use message::commit::sought;
+use session::{Outcome, Session};
 use store::lent::store_shaped;
-use store_scan::scan;
+use store::{ENTRIES, Store, TABLES};
+use store_scan::{Query, scan};
 
 // Reads bytes of a piece up to and with the first that ends a message or shows a refusal, else all of it. Record and store are lent, and
 // hold the new state afterwards. Tables and counts are copied; the entries are tested and looked up where they lie.
@@ -30,20 +32,27 @@ pub fn read_lent(
     store_shaped(store);
     let tables = store.tables;
     let started = start_read(*session, tables, piece);
-    let query = started.query;
-    let scanned = scan(store, query);
+    let entry = sought(started.asked);
+    let scanned = scan(store, Query { tables, entry });
     let counts = store.counts;
-    let step = finish_read(*session, started, scanned, counts, reply);
-    *session = step.session;
-    let counts = step.counts;
+    let finished = finish_read(*session, started, scanned, counts, reply);
+    *session = finished.session;
+    let counts = finished.counts;
     store.counts = counts;
-    if step.puts_entry {
-        store.entries[step.place] = step.entry;
+    match finished.change {
+        Change::Nothing => {}
+        Change::Table { place, table } => {
+            if place < TABLES {
+                store.tables[place] = table;
+            }
+        }
+        Change::Entry { place, entry } => {
+            if place < ENTRIES {
+                store.entries[place] = entry;
+            }
+        }
     }
-    if step.puts_table {
-        store.tables[step.place] = step.table;
-    }
-    step.outcome
+    finished.outcome
 }
 
 // The same by value: record and store are lent where they lie in the step, which is returned with the new outcome.

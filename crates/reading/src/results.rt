@@ -4,9 +4,8 @@ ghost use Rattle.session.specs.Session.{holding};
 ghost use Rattle.reading.specs.Results.{stays, waits, gives, replied};
 
 use lists::pad;
-use message::changes::no_change;
 use message::{Change, Effect};
-use session::{Answer, BUFFER, Connection, Outcome, Reply, Sending, Session};
+use session::{Answer, BUFFER, Connection, Outcome, Sending, Session};
 use store::Store;
 
 // What a reading call by value gives back: what the lent one returns, and the record and the store that it leaves.
@@ -26,6 +25,7 @@ pub struct StepChange {
 }
 
 // A record with the sending state, a connection, and unfinished bytes, zeros behind them.
+#[tactic(auto, unfolding(session::specs::Session::holding))]
 pub fn record_with(sending: Sending, connection: Connection, bytes: &[u8]) -> Session
     ensures { result ≡ holding sending connection bytes.now }
 {
@@ -41,72 +41,52 @@ pub fn record_with(sending: Sending, connection: Connection, bytes: &[u8]) -> Se
 }
 
 // Nothing is taken: the record is the one that came, and the store stays.
+#[tactic(auto, unfolding(crate::specs::Results::stays, message::specs::Changes::no_change))]
 pub fn stay(session: Session, answer: Answer) -> StepChange
     ensures { result ≡ stays session answer }
 {
-    let outcome = Outcome {
-        taken: 0,
-        reply_len: 0,
-        answer,
-    };
-    let change = no_change();
     StepChange {
-        outcome,
+        outcome: Outcome {
+            taken: 0,
+            reply_len: 0,
+            answer,
+        },
         session,
-        change,
+        change: Change::Nothing,
     }
 }
 
 // The whole piece is taken, and more is wanted.
+#[tactic(auto, unfolding(crate::specs::Results::waits, message::specs::Changes::no_change))]
 pub fn wait(sending: Sending, connection: Connection, bytes: &[u8], count: usize) -> StepChange
     ensures { result ≡ waits sending connection bytes.now count }
 {
-    let session = record_with(sending, connection, bytes);
-    let answer = Answer::More;
-    let outcome = Outcome {
-        taken: count,
-        reply_len: 0,
-        answer,
-    };
-    let change = no_change();
     StepChange {
-        outcome,
-        session,
-        change,
+        outcome: Outcome {
+            taken: count,
+            reply_len: 0,
+            answer: Answer::More,
+        },
+        session: record_with(sending, connection, bytes),
+        change: Change::Nothing,
     }
 }
 
-// The reply goes to the front of the room, if both have room for it.
-fn put_reply(room: &mut [u8], reply: Reply)
-    ensures { room.new ≡ replied reply room.old }
-{
-    let n = reply.len;
-    let text = reply.bytes;
-    if 12 < n {
-        return;
-    }
-    wire::buffer::fit_bytes(room, 0, &text[..n]);
-}
-
-// What a message did is answered; its reply stands at the front of the room.
+// What a message did is answered; its reply stands at the front of the room, if both have room for it.
+#[tactic(auto, unfolding(crate::specs::Results::gives, crate::specs::Results::replied))]
 pub fn give(sending: Sending, effect: Effect, count: usize, reply: &mut [u8]) -> StepChange
     ensures result { result ≡ gives sending count effect }
     ensures content { reply.new ≡ replied effect.reply reply.old }
 {
     let written = effect.reply;
-    put_reply(reply, written);
-    let next = effect.connection;
-    let session = record_with(sending, next, b"");
-    let given = effect.answer;
-    let outcome = Outcome {
-        taken: count,
-        reply_len: written.len,
-        answer: given,
-    };
-    let change = effect.change;
+    wire::buffer::fit_bytes(reply, 0, written.as_slice());
     StepChange {
-        outcome,
-        session,
-        change,
+        outcome: Outcome {
+            taken: count,
+            reply_len: written.len(),
+            answer: effect.answer,
+        },
+        session: record_with(sending, effect.connection, b""),
+        change: effect.change,
     }
 }

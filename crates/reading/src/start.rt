@@ -3,27 +3,24 @@ ghost use Rattle.std.specs.Prelude.{◌≡◌, ◌&&◌};
 ghost use Rattle.lists.specs.Lists.{every, distinct};
 ghost use Rattle.store.specs.Sound.{sound_table, same_name};
 ghost use Rattle.session_soundness.specs.Sound.{sound_session};
-ghost use Rattle.message.specs.Structs.{asked};
 ghost use Rattle.reassembly.specs.Judge.{judge_bytes, asks_of};
-ghost use Rattle.reading.specs.Start.{taken_bytes, Starts};
+ghost use Rattle.reading.specs.Start.{Starts};
 
-use lists::shorter;
 use message::Asked;
+use reassembly::Part;
 use reassembly::judge::judge_bytes;
 use reassembly::piece::take_piece;
-use reassembly::{MESSAGE_MAX, Taken};
 use session::{Connection, Session};
 use session_soundness::session_ok;
 use store::{TABLES, Table};
-use store_scan::Query;
 use store_soundness::table::tables_ok;
 
-// What the entries are to be asked, whether the tables and the record are sound, what was taken of the piece, and what that asks for.
+// Whether the tables and the record are sound, what was taken of the piece, and what that asks for. `sound` is a flag, since the room is tested
+// before it, and what was taken is there either way.
 #[derive(Clone, Copy)]
 pub struct Started {
-    pub query: Query,
     pub sound: bool,
-    pub taken: Taken,
+    pub part: Part,
     pub asked: Asked,
 }
 
@@ -31,19 +28,14 @@ pub struct Started {
 fn tables_and_record_ok(session: Session, tables: [Table; TABLES]) -> bool
     ensures { result ≡ ((every sound_table tables && distinct same_name tables) && sound_session tables session) }
 {
-    if !tables_ok(tables) {
-        return false;
-    }
-    session_ok(tables, session)
+    tables_ok(tables) && session_ok(tables, session)
 }
 
-// What the bytes that were taken ask for.
-fn ask_taken(connection: Connection, tables: [Table; TABLES], taken: Taken) -> Asked
-    ensures { result ≡ asked connection (asks_of connection (judge_bytes connection tables (taken_bytes taken))) }
+// What the bytes of a part ask for.
+fn ask_part(connection: Connection, tables: [Table; TABLES], part: Part) -> Asked
+    ensures { result ≡ asks_of connection (judge_bytes connection tables part.bytes) }
 {
-    let bytes = taken.bytes;
-    let n = shorter(taken.len, MESSAGE_MAX);
-    judge_bytes(connection, tables, &bytes[..n])
+    judge_bytes(connection, tables, part.bytes.as_slice())
 }
 
 // Tests tables and record, takes bytes of the piece, and says what they ask for.
@@ -51,15 +43,9 @@ pub fn start_read(session: Session, tables: [Table; TABLES], piece: &[u8]) -> St
     ensures { Starts session tables piece.now result }
 {
     let sound = tables_and_record_ok(session, tables);
-    let taken = take_piece(session, piece);
-    let connection = session.connection;
-    let asked = ask_taken(connection, tables, taken);
-    let entry = asked.entry;
-    let query = Query { tables, entry };
-    Started {
-        query,
-        sound,
-        taken,
-        asked,
-    }
+    let part = take_piece(session, piece);
+    // a copy: a value that was passed on isn't put into a struct
+    let ended = part;
+    let asked = ask_part(session.connection, tables, ended);
+    Started { sound, part, asked }
 }

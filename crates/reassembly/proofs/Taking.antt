@@ -1,38 +1,30 @@
 -- The loop that takes a piece: what stands taken, and what is left gives the answer.
-use Prim.Native.Nat.{ℕ, zero, suc, ◌+◌, ◌≤◌, ◌<◌}
+use Prim.Native.Nat.{ℕ, suc, ◌+◌, ◌≤◌, ◌<◌}
 use native.Mathlib.Omega.{arith}
 use native.Mathlib.Numerals.{add-one}
 use mathlib.Core.Path.{◌≡◌, refl, sym, ap, ◌∙◌}
 use mathlib.Core.Bool.{Bool, true, false}
 use mathlib.Core.List.{List, [], ◌∷◌, ◌++◌, append-nil, append_assoc}
-use lib.ListN.{length, take, drop, get_or, set, length-append, drop_of_length-le}
-use lib.Seq.{drop-cons, length-take-le}
-use mir.Val.{Fits}
-use mir.Syntax.{w64}
-use borrow.Author.Rules.{rules}
-use Rattle.lists.specs.Lists.{pad_to}
+use lib.ListN.{length, take, drop, get_or, length-append, length-take, drop_of_length-le}
+use lib.Seq.{drop-cons}
 use Rattle.lists.proofs.Cases.{by-test, cond-true, cond-false}
-use Rattle.lists.proofs.Bytes.{pad-length, pad-take}
 use Rattle.session.specs.declared.Connection.{Connection}
 use Rattle.session.specs.declared.Session.{Session}
 use Rattle.session.specs.Session.{unfinished}
-use Rattle.session.proofs.Unfinished.{limit-within, limit-length, buffer-padded}
+use Rattle.session.proofs.Unfinished.{limit-within, limit-length, first-unfinished}
 use Rattle.session_soundness.specs.Sound.{waits}
 use Rattle.session_soundness.proofs.Waiting.{waits-few}
-use Rattle.reassembly.specs.declared.Taken.{Taken}
-use Rattle.reassembly.specs.Pieces.{Part, one_more, take_piece, taken_of}
+use Rattle.reassembly.specs.Pieces.{Part, one_more, take_piece}
 
 -- ---- the unfinished bytes of a record
 
-pub ruleset unfinished-rules = (rules, limit-within, limit-length, buffer-padded)
+pub ruleset unfinished_rules = (limit-within, limit-length, first-unfinished)
 
--- ---- one byte behind the others
+pub unfinished-few : (s : Session) (u : List ℕ) → u ≡ unfinished s → length u ≤ 1027
+unfolding unfinished
+unfinished-few s u p = rw (p, length-take) (omega arith)
 
-pad-set : (n : ℕ) (u : List ℕ) (b : ℕ) → length u < n → set (pad_to n u) (length u) b ≡ pad_to n (u ++ (b ∷ []))
-unfolding pad_to
-pad-set zero u b h = absurd (omega arith)
-pad-set (suc n) [] b h = refl
-pad-set (suc n) (x ∷ u) b h = ap (λ (l : List ℕ). x ∷ l) (pad-set n u b (omega arith))
+-- ---- the cases of taking
 
 one-behind : (u : List ℕ) (b : ℕ) → length (u ++ (b ∷ [])) ≡ length u + 1
 one-behind u b = length-append u (b ∷ [])
@@ -53,7 +45,7 @@ take_ends : (c : Connection) (u : List ℕ) (b : ℕ) (bs : List ℕ) → waits 
 unfolding take_piece
 take_ends c u b bs w = cond-false (waits c (u ++ (b ∷ []))) _ _ w
 
--- ---- the loop
+-- ---- the loop, where u₀ are the bytes that came and u those that stand after i more
 
 -- so many bytes more
 abbrev later : ℕ → Part → Part
@@ -62,111 +54,48 @@ later i a = record { bytes = a.bytes; taken = i + a.taken; ended = a.ended }
 later-one : (i : ℕ) (a : Part) → later i (one_more a) ≡ later (i + 1) a
 later-one i a = let e : i + suc a.taken ≡ i + 1 + a.taken = omega arith in ap (λ (n : ℕ). record { bytes = a.bytes; taken = n; ended = a.ended }) e
 
-pub record Taking (piece : List ℕ) (c : Connection) (bytes₀ : List ℕ) (len₀ : ℕ) (bytes : List ℕ) (len i : ℕ) : Type 0 where
-  pub taken : List ℕ
-  pub filled : bytes ≡ pad_to 1028 taken
-  pub long : len ≡ length taken
-  pub few : len ≤ 1027
-  pub inside : i ≤ length piece
-  pub rest : (u : List ℕ) → bytes₀ ≡ pad_to 1028 u → len₀ ≡ length u → take_piece c u piece ≡ later i (take_piece c taken (drop i piece))
+pub record Taking (piece : List ℕ) (c : Connection) (u₀ u : List ℕ) (i : ℕ) : Type 0 where
+  pub few : length u ≤ 1027
+  pub rest : take_piece c u₀ piece ≡ later i (take_piece c u (drop i piece))
 
-pub start : (piece : List ℕ) (c : Connection) (s : Session) (bytes : List ℕ) (len : ℕ) → bytes ≡ pad_to 1028 (unfinished s) → len ≡ length (unfinished s)
-    → len ≤ 1027 → Taking piece c bytes len bytes len 0
-start piece c s bytes len e p l =
-    record {
-      taken = unfinished s;
-      filled = e;
-      long = p;
-      few = l;
-      inside = omega arith;
-      rest = λ u f q. same-part u f q;
-    }
+pub start : (piece : List ℕ) (c : Connection) (u : List ℕ) → length u ≤ 1027 → Taking piece c u u 0
+start piece c u l = record { few = l; rest = zero-later (take_piece c u piece) }
   where
-    same_bytes : (u : List ℕ) → bytes ≡ pad_to 1028 u → len ≡ length u → u ≡ unfinished s
-    same_bytes u f q =
-        let h : length u ≡ length (unfinished s) = sym q ∙ p in
-        sym (pad-take 1028 u (omega arith))
-        ∙ (ap (λ (n : ℕ). take n (pad_to 1028 u)) h ∙ (ap (take (length (unfinished s))) (sym f ∙ e) ∙ pad-take 1028 (unfinished s) (omega arith)))
+    zero-later : (a : Part) → a ≡ later 0 a
+    zero-later a = let e : a.taken ≡ 0 + a.taken = omega arith in ap (λ (n : ℕ). record { bytes = a.bytes; taken = n; ended = a.ended }) e
 
-    same-part : (u : List ℕ) → bytes ≡ pad_to 1028 u → len ≡ length u → take_piece c u piece ≡ later 0 (take_piece c (unfinished s) piece)
-    same-part u f q = ap (λ (v : List ℕ). take_piece c v piece) (same_bytes u f q) ∙ zero-later (take_piece c (unfinished s) piece)
-      where
-        zero-later : (a : Part) → a ≡ later 0 a
-        zero-later a = let e : a.taken ≡ 0 + a.taken = omega arith in ap (λ (n : ℕ). record { bytes = a.bytes; taken = n; ended = a.ended }) e
-
-module _ {piece : List ℕ} {c : Connection} {bytes₀ : List ℕ} {len₀ : ℕ} {bytes : List ℕ} {len i : ℕ} (t : Taking piece c bytes₀ len₀ bytes len i) where
-  pub room-left : len < 1028
+module _ {piece : List ℕ} {c : Connection} {u₀ u : List ℕ} {i : ℕ} (t : Taking piece c u₀ u i) where
+  pub room-left : length u < 1028
   room-left = omega (arith, t.few)
 
-  pub len-fits : Fits w64 (len + 1)
-  len-fits = record { fits = omega (arith, t.few) }
-
   module _ (b : ℕ) (e : b ≡ get_or piece i 0) (l : i < length piece) where
-    unfoldable pub behind : List ℕ
-    behind = t.taken ++ (b ∷ [])
-
-    filled_on : set bytes len b ≡ pad_to 1028 behind
-    unfolding behind
-    filled_on =
-        ap (λ (x : List ℕ). set x len b) t.filled
-        ∙ (ap (λ (n : ℕ). set (pad_to 1028 t.taken) n b) t.long ∙ pad-set 1028 t.taken b (omega (arith, t.few, t.long)))
-
-    long-on : len + 1 ≡ length behind
-    unfolding behind
-    long-on = ap (λ (n : ℕ). n + 1) t.long ∙ sym (one-behind t.taken b)
-
-    prefix-is : take (len + 1) (set bytes len b) ≡ behind
-    prefix-is =
-        ap (take (len + 1)) filled_on
-        ∙ (ap (λ (n : ℕ). take n (pad_to 1028 behind)) long-on ∙ pad-take 1028 behind (omega (arith, t.few, long-on)))
+    abbrev behind : List ℕ
+    behind = u ++ (b ∷ [])
 
     rest-is : drop i piece ≡ b ∷ drop (i + 1) piece
     rest-is = rw (drop-cons piece i 0 l, ← e, add-one)
 
-    pub prefix-room : len + 1 ≤ length (set bytes len b)
-    prefix-room = omega (arith, t.few, ap length filled_on ∙ pad-length 1028 behind)
+    pub goes_on : waits c behind ≡ true → Taking piece c u₀ behind (i + 1)
+    goes_on h = record {
+      few = waits-few c behind h;
+      rest =
+          t.rest
+          ∙ (ap (λ (r : List ℕ). later i (take_piece c u r)) rest-is
+          ∙ (ap (later i) (take_on c u b (drop (i + 1) piece) h) ∙ later-one i (take_piece c behind (drop (i + 1) piece))));
+    }
 
-    pub prefix-long : length (take (len + 1) (set bytes len b)) ≡ len + 1
-    prefix-long = length-take-le (len + 1) (set bytes len b) prefix-room
+    pub ends : waits c behind ≡ false → ◌≡◌ {A = Part} (record { bytes = behind; taken = i + 1; ended = true }) (take_piece c u₀ piece)
+    ends h =
+        sym
+        (t.rest ∙ (ap (λ (r : List ℕ). later i (take_piece c u r)) rest-is ∙ ap (later i) (take_ends c u b (drop (i + 1) piece) h)))
 
-    pub goes_on : (w : Bool) → w ≡ waits c (take (len + 1) (set bytes len b)) → true ≡ w → Taking piece c bytes₀ len₀ (set bytes len b) (len + 1) (i + 1)
-    unfolding behind
-    goes_on w p q =
-        let h : waits c behind ≡ true = ap (waits c) (sym prefix-is) ∙ (sym p ∙ sym q) in
-        record {
-          taken = behind;
-          filled = filled_on;
-          long = long-on;
-          few = omega (arith, waits-few c behind h, long-on);
-          inside = omega arith;
-          rest =
-              λ u f g.
-              t.rest u f g
-              ∙ (ap (λ (r : List ℕ). later i (take_piece c t.taken r)) rest-is
-              ∙ (ap (later i) (take_on c t.taken b (drop (i + 1) piece) h) ∙ later-one i (take_piece c behind (drop (i + 1) piece))));
-        }
-
-    pub ends : (s : Session) → bytes₀ ≡ pad_to 1028 (unfinished s) → len₀ ≡ length (unfinished s) → (w : Bool)
-        → w ≡ waits c (take (len + 1) (set bytes len b)) → false ≡ w
-        → ◌≡◌ {A = Taken} (record { bytes = set bytes len b; len = len + 1; count = i + 1; ended = true }) (taken_of (take_piece c (unfinished s) piece))
-    unfolding taken_of behind
-    ends s f g w p q =
-        let h : waits c behind ≡ false = ap (waits c) (sym prefix-is) ∙ (sym p ∙ sym q) in
-        let r : take_piece c (unfinished s) piece ≡ record { bytes = behind; taken = i + 1; ended = true } =
-        t.rest (unfinished s) f g
-        ∙ (ap (λ (r : List ℕ). later i (take_piece c t.taken r)) rest-is ∙ ap (later i) (take_ends c t.taken b (drop (i + 1) piece) h)) in
-        rw (filled_on, long-on) (sym (ap taken_of r))
-
-  pub all-taken : (s : Session) → bytes₀ ≡ pad_to 1028 (unfinished s) → len₀ ≡ length (unfinished s) → length piece ≤ i
-      → ◌≡◌ {A = Taken} (record { bytes = bytes; len = len; count = i; ended = false }) (taken_of (take_piece c (unfinished s) piece))
-  unfolding taken_of
-  all-taken s f g l =
-      let z : i + 0 ≡ i = omega arith in
-      let r : take_piece c (unfinished s) piece ≡ record { bytes = t.taken; taken = i; ended = false } =
-      t.rest (unfinished s) f g
-      ∙ (ap (λ (r : List ℕ). later i (take_piece c t.taken r)) (drop_of_length-le piece l)
-      ∙ (ap (later i) (take_none c t.taken) ∙ ap (λ (n : ℕ). record { bytes = t.taken; taken = n; ended = false }) z)) in
-      rw (t.filled, t.long) (sym (ap taken_of r))
+  pub all-taken : (n : ℕ) → n ≡ length piece → i ≡ n → ◌≡◌ {A = Part} (record { bytes = u; taken = n; ended = false }) (take_piece c u₀ piece)
+  all-taken n p q =
+      let z : i + 0 ≡ n = omega arith in
+      sym
+      (t.rest
+      ∙ (ap (λ (r : List ℕ). later i (take_piece c u r)) (drop_of_length-le piece (omega (arith, p, q)))
+      ∙ (ap (later i) (take_none c u) ∙ ap (λ (n : ℕ). record { bytes = u; taken = n; ended = false }) z)))
 
 -- ---- what was taken
 

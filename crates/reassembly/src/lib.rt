@@ -5,15 +5,16 @@ pub mod handshakes;
 pub mod judge;
 pub mod piece;
 
+use lists::inline::Bytes;
+
 // The longest message: two bytes of a header, two of a length and 1,024 of a body.
 pub const MESSAGE_MAX: usize = 1028;
 
-// What was taken of a piece: the first `len` of `bytes` are the unfinished bytes with the `count` bytes taken behind them, zeros after
-// them; `ended` says whether they end a message or show a refusal.
+// What was taken of a piece: the unfinished bytes with those taken behind them, how many these are, and whether they end a message or show
+// a refusal: a flag, since the bytes are there either way.
 #[derive(Clone, Copy)]
-pub struct Taken {
-    pub bytes: [u8; MESSAGE_MAX],
-    pub len: usize,
-    pub count: usize,
+pub struct Part {
+    pub bytes: Bytes<MESSAGE_MAX>,
+    pub taken: usize,
     pub ended: bool,
 }

@@ -28,7 +28,8 @@ use Rattle.session.specs.Session.{unfinished, holding}
 use Rattle.message.specs.Changes.{no_change, changed}
 use Rattle.session.specs.Answers.{refusal_of}
 use Rattle.session.proofs.answers.Refusals.{no_number, same_number}
-use Rattle.message.specs.Effects.{Effect, refuse_with, updated_entry}
+use Rattle.message.specs.declared.Effect.{Effect}
+use Rattle.message.specs.Effects.{refuse_with, updated_entry}
 use Rattle.opening.specs.Opening.{Role, Opening, refuse_opening, accept, refused_opening, «open», open_room}
 use Rattle.body.specs.Fields.{span_in}
 use Rattle.body.proofs.Within.{update-within}

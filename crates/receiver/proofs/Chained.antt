@@ -26,7 +26,8 @@ use Rattle.session_soundness.specs.Sound.{sound}
 use Rattle.streams.specs.Model.{answered, Item, event, bytes, bytes_in}
 use Rattle.streams.specs.Calls.{Call, Step, reading, happening, Result, respond, scan, read_call, run_calls, taken_of, Offers, of_bytes}
 use Rattle.streams.specs.Claim.{Lawful}
-use Rattle.streams.proofs.Basics.{by-fed, every-nil, every-cons, every-both}
+use Rattle.lists.proofs.Every.{every-nil}
+use Rattle.streams.proofs.Basics.{by-fed, every-cons, every-both}
 use Rattle.streams.proofs.OneCall.{scan-nil, scan-quiet, scan-answered, call-short, call-closed, call-reads}
 use Rattle.streams.proofs.Theorem.{call-inside, call-good}
 use Rattle.streams.proofs.Timeline.{bytes_in-bytes}

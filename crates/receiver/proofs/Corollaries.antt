@@ -14,7 +14,8 @@ use Rattle.session.specs.Session.{is_closed, holding}
 use Rattle.session_soundness.specs.Sound.{sound}
 use Rattle.streams.specs.Model.{Item, byte, bytes}
 use Rattle.streams.specs.Calls.{Result, piece, pieces, on_part, eventless, reachable}
-use Rattle.streams.proofs.Basics.{every-nil, every-cons, every-both}
+use Rattle.lists.proofs.Every.{every-nil}
+use Rattle.streams.proofs.Basics.{every-cons, every-both}
 use Rattle.streams.proofs.Timeline.{only-bytes}
 use Rattle.streams.proofs.Reachable.{bytes-eventless, bytes-reachable, pieces-reachable, offered-reachable}
 use Rattle.receiver.specs.Model.{State, Event, held_by, is_byte, is_time, peers}

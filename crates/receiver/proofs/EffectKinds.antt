@@ -1,5 +1,7 @@
 -- What unfinished bytes can come to, on any record and store: a refusal, a note of the answer, a peer's error, a table defined, an update committed.
 -- Each law over everything that bytes come to goes by these kinds.
+use Rattle.std.specs.Prelude.{Some, None}
+use Rattle.std.specs.Prelude as std
 use Prim.Native.Nat.{ℕ, ◌-◌, ◌≤◌, ◌<◌}
 use native.Mathlib.Omega.{arith}
 use mathlib.Core.Path.{◌≡◌, refl, sym, ap, ◌∙◌, subst}
@@ -9,8 +11,6 @@ use mathlib.Core.List.{List, [], ◌∷◌}
 use lib.ListN.{length, take, drop, get_or}
 use lib.Dec.{eqb}
 use borrow.Author.Tests.{eqb-true, eqb-false, ne_eqb, le-leb, lt-leb}
-use Rattle.lists.specs.declared.Found.{Found}
-use Rattle.lists.specs.declared.Found.TheVariants as found
 use Rattle.lists.specs.Lists.{first_place}
 use Rattle.lists.proofs.Places.{first-at}
 use Rattle.lists.proofs.Cases.{by-test, or-false}
@@ -38,12 +38,15 @@ use Rattle.body.specs.declared.Failure.{Failure}
 use Rattle.body.specs.declared.Failure.TheVariants as failure
 use Rattle.body.specs.declared.Fault.{Fault}
 use Rattle.body.specs.Fields.{Read, got, failed, span_in}
-use Rattle.body.specs.Bodies.{Definition, Update, definition_fields, switch_fields, acknowledgement_fields, form_of}
+use Rattle.body.specs.declared.definition.Definition.{Definition}
+use Rattle.body.specs.declared.update.Update.{Update}
+use Rattle.body.specs.Bodies.{definition_fields, switch_fields, acknowledgement_fields, form_of}
 use Rattle.body.proofs.BodiesBreak.{bodies-break}
 use Rattle.message.specs.Targets.{keyed_as, goes_to}
 use Rattle.message.proofs.Kept.{failure-least, failure-most}
 use Rattle.session.specs.Answers.{refusal_of, answer_values}
-use Rattle.message.specs.Effects.{Effect, refuse_with, refuse, refusal, failure_number, refuse_body, note, fields_then, control, control_answer, peer_error, defined_table, define_at, define_new, define_named, agrees, definition, switch_to, switch, acknowledgement, skipped, updated_entry, commit_at, commit_entry, with_fields, update_of, update, other_message, by_form, stick_table, done}
+use Rattle.message.specs.declared.Effect.{Effect}
+use Rattle.message.specs.Effects.{refuse_with, refuse, refusal, failure_number, refuse_body, note, fields_then, control, control_answer, peer_error, defined_table, define_at, define_new, define_named, agrees, definition, switch_to, switch, acknowledgement, skipped, updated_entry, commit_at, commit_entry, with_fields, update_of, update, other_message, by_form, stick_table, done}
 use Rattle.body.specs.declared.update.Form.{Form}
 use Rattle.reassembly.specs.Judge.{Judged, waiting, settled, hello_judged, status_judged, frame_judged, asks_none, judge_bytes, done_of, judge}
 use Rattle.receiver.specs.Corollaries.{EntryWent, TableWent, held_name, new_name, closes, fields_of, gives_offset, FieldFails, in_definition, in_switch, in_acknowledgement, in_update, BodyBroke, OffsetGiven}
@@ -151,10 +154,10 @@ module _ (c : Connection) (t : Store) (u : List ℕ) where
   refused-with : (n : ℕ) → 25 ≤ n → n ≤ 29 → Kind c t u (refuse c n)
   refused-with n a b = refuses n (closes-high n (omega (arith, a)) (omega (arith, b))) (between_none n a b)
 
-  switch-kind : (f : Found) → Kind c t u (switch_to c f)
+  switch-kind : (f : std.Option ℕ) → Kind c t u (switch_to c f)
   unfolding switch_to
-  switch-kind (found.At p) = noted _ _ [] tt
-  switch-kind found.Nothing = refused-with 27 (omega arith) (omega arith)
+  switch-kind (Some p) = noted _ _ [] tt
+  switch-kind None = refused-with 27 (omega arith) (omega arith)
 
   module _ (kind start end : ℕ) (e : judge_frame u ≡ frame.Body kind start end) where
     abbrev body : List ℕ
@@ -198,18 +201,18 @@ module _ (c : Connection) (t : Store) (u : List ℕ) where
           defined d body p
           (record { start = start; end = end; framed = e ∙ ap (λ (n : ℕ). frame.Body n start end) k; body_is = refl; after = after; read = r; inside = l; went = w })
 
-      new-kind : (f : Found) → find_table t name ≡ found.Nothing → free_table t ≡ f → Kind c t u (define_new c d.id (defined_table body d) f)
+      new-kind : (f : std.Option ℕ) → find_table t name ≡ None → free_table t ≡ f → Kind c t u (define_new c d.id (defined_table body d) f)
       unfolding define_new
-      new-kind (found.At p) n q = define-kind p (unfold free_table in (first-at table_free t.tables p q).inside) (new_name n q)
-      new-kind found.Nothing n q = refused-with 26 (omega arith) (omega arith)
+      new-kind (Some p) n q = define-kind p (unfold free_table in (first-at table_free t.tables p q).inside) (new_name n q)
+      new-kind None n q = refused-with 26 (omega arith) (omega arith)
 
-      named-kind : (f : Found) → find_table t name ≡ f → Kind c t u (define_named c t.tables d.id (defined_table body d) f)
+      named-kind : (f : std.Option ℕ) → find_table t name ≡ f → Kind c t u (define_named c t.tables d.id (defined_table body d) f)
       unfolding define_named
-      named-kind (found.At p) q =
+      named-kind (Some p) q =
           by-test (agrees (get_or t.tables p no_table) (defined_table body d))
           (λ a. rw a (define-kind p (unfold find_table in (first-at (table_named name) t.tables p q).inside) (held_name q a)))
           (λ a. rw a (refused-with 25 (omega arith) (omega arith)))
-      named-kind found.Nothing q = unfold free_table in new-kind (free_table t) q refl
+      named-kind None q = unfold free_table in new-kind (free_table t) q refl
 
     definition-kind : kind ≡ 130 → (r : Read Definition) → definition_fields body ≡ r
         → Kind c t u (fields_then (refuse_body c) r λ d. define_named c t.tables d.id (defined_table body d) (first_place (table_named (span_in body d.name)) t.tables))
@@ -230,17 +233,17 @@ module _ (c : Connection) (t : Store) (u : List ℕ) where
           (record { kind = kind; start = start; end = end; framed = e; body_is = refl; form = form; type = type; current = z; previous = previous; after = after; read = r; inside = l; finds = d; went = w })
 
       -- where the entry goes, by what the lookups found
-      commit-entry-kind : (f : Update) (after : ℕ) (x y : Found) → fields_of c t now form body ≡ got f after
+      commit-entry-kind : (f : Update) (after : ℕ) (x y : std.Option ℕ) → fields_of c t now form body ≡ got f after
           → first_place (keyed_as (updated_entry body now f)) t.entries ≡ x → first_place entry_free t.entries ≡ y
           → Kind c t u (commit_entry c f.id (updated_entry body now f) (place_of x y))
       unfolding commit_entry place_of free_of Finds EntryWent
-      commit-entry-kind f after (found.At p) y r q w =
+      commit-entry-kind f after (Some p) y r q w =
           let x = first-at (keyed_as (updated_entry body now f)) t.entries p q in
           commit-kind f after p commit.Replaced r x.inside (x.passes no_entry) q
-      commit-entry-kind f after found.Nothing (found.At p) r q w =
+      commit-entry-kind f after None (Some p) r q w =
           let x = first-at entry_free t.entries p w in
           commit-kind f after p commit.New r x.inside (x.passes no_entry) (q, w)
-      commit-entry-kind f after found.Nothing found.Nothing r q w = refused-with 29 (omega arith) (omega arith)
+      commit-entry-kind f after None None r q w = refused-with 29 (omega arith) (omega arith)
 
       with-kind : (r : Read Update) → fields_of c t now form body ≡ r → Kind c t u (done c t.entries (with_fields c body now r))
       unfolding with_fields fields_then refusal done goes_to

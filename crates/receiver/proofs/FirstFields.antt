@@ -1,4 +1,5 @@
 -- The first field of a body, seen from the whole message.
+use Rattle.std.specs.Prelude.{Err, None, Ok, Option, Result, Some}
 use Prim.Native.Nat.{ℕ, ◌+◌, ◌-◌, ◌≤◌}
 use native.Mathlib.Omega.{arith}
 use mathlib.Core.Path.{◌≡◌, refl, sym, ap, subst, ◌∙◌}
@@ -8,23 +9,26 @@ use lib.ListN.{length, take, drop, get_or, take-append-drop}
 use lib.Seq.{length-take-le}
 use lib.Dec.{ltb}
 use Rattle.lists.proofs.Cases.{by-test, cond-true}
-use Rattle.wire.specs.declared.Int.{Int}
-use Rattle.wire.specs.declared.Int.TheVariants as int
-use Rattle.wire.specs.declared.fixed.FourBytes.{FourBytes}
-use Rattle.wire.specs.declared.fixed.FourBytes.TheVariants as number
+use Rattle.frame.specs.declared.Header.{Header}
+use Rattle.wire.specs.declared.IntError.{IntError}
+use Rattle.wire.specs.declared.IntError.TheVariants as int
 use Rattle.wire.specs.Integer.{read_int}
 use Rattle.wire.specs.Number.{read_number}
 use Rattle.wire.proofs.Behind.{int-value-behind, moved_int, int-moved, number-value-behind, moved_number, number-moved}
 use Rattle.store.specs.declared.Table.{Table}
-use Rattle.frame.specs.declared.Header.{Header}
+use Rattle.store.specs.Limits.{name_max}
 use Rattle.frame.specs.declared.Header.TheVariants as header
 use Rattle.frame.specs.declared.Frame.{Frame}
 use Rattle.frame.specs.declared.Frame.TheVariants as frame
 use Rattle.frame.specs.Frame.{header_of, with_length, with_header, judge_frame}
-use Rattle.body.specs.Fields.{Read, got, failed, and_then, integer_of, number_read, number4}
-use Rattle.body.specs.Bodies.{Named, named_fields, shape_fields, times_fields, Definition, rest_fields, definition_fields, switch_fields, Time, Update, number_or, time_mark, timed_fields, update_fields}
+use Rattle.body.specs.Fields.{Read, got, failed, and_then, integer, between, integer_of, number_read, number4}
+use Rattle.body.specs.declared.definition.Named.{Named}
+use Rattle.body.specs.declared.definition.Definition.{Definition}
+use Rattle.body.specs.declared.update.Time.{Time}
+use Rattle.body.specs.declared.update.Update.{Update}
+use Rattle.body.specs.Bodies.{name_field, named_fields, shape_fields, times_fields, rest_fields, definition_fields, switch_fields, number_or, time_mark, timed_fields, update_fields}
 use Rattle.body.specs.declared.update.Form.{Form}
-use Rattle.body.proofs.Holds.{held}
+use Rattle.body.proofs.Holds.{held, then-got}
 use Rattle.body.proofs.Taken.{Taken, integer-value}
 use Rattle.body.proofs.Within.{EntryWithin, entry-holds}
 use Rattle.receiver.specs.Ledger.{after_int, body_start, value_of, table_id, number_value, explicit_id}
@@ -38,19 +42,19 @@ Starts n (frame.Error type) = Unit {0}
 Starts n (frame.Body kind start end) = n ≡ start
 Starts n (frame.Refused k) = Unit {0}
 
-length-starts : (kind : ℕ) (u : List ℕ) (r : Int) → Starts (after_int r) (with_length kind u r)
+length-starts : (kind : ℕ) (u : List ℕ) (r : (Result (ℕ × ℕ) IntError)) → Starts (after_int r) (with_length kind u r)
 unfolding Starts after_int with_length
-length-starts kind u (int.Short k) = tt
-length-starts kind u (int.Overflow k) = tt
-length-starts kind u (int.Value n start) =
+length-starts kind u (Err (int.Short k)) = tt
+length-starts kind u (Err (int.Overflow k)) = tt
+length-starts kind u (Ok (n, start)) =
     by-test (ltb 1024 n) (λ a. rw a tt) (λ a. rw a (by-test (ltb (length u) (start + n)) (λ b. rw b tt) (λ b. rw b refl)))
 
-header-starts : (u : List ℕ) (h : Header) → Starts (after_int (read_int u 2)) (with_header u h)
+header-starts : (u : List ℕ) (h : (Option Header)) → Starts (after_int (read_int u 2)) (with_header u h)
 unfolding with_header
-header-starts u (header.Control type) = unfold Starts in tt
-header-starts u (header.Error type) = unfold Starts in tt
-header-starts u (header.StickTable type) = length-starts type u (read_int u 2)
-header-starts u header.Unknown = unfold Starts in tt
+header-starts u (Some (header.Control type)) = unfold Starts in tt
+header-starts u (Some (header.Error type)) = unfold Starts in tt
+header-starts u (Some (header.StickTable type)) = length-starts type u (read_int u 2)
+header-starts u None = unfold Starts in tt
 
 frame-starts : (u : List ℕ) → Starts (after_int (read_int u 2)) (judge_frame u)
 unfolding judge_frame
@@ -72,43 +76,36 @@ module _ (u : List ℕ) (start n : ℕ) (h : start ≤ length u) where
   whole : take start u ++ (take n (drop start u) ++ drop n (drop start u)) ≡ u
   whole = ap (λ (l : List ℕ). take start u ++ l) (take-append-drop n (drop start u)) ∙ take-append-drop start u
 
-  pub int-there : (v next : ℕ) → read_int (take n (drop start u)) 0 ≡ int.Value v next → read_int u start ≡ int.Value v (start + next)
+  pub int-there : (v next : ℕ) → read_int (take n (drop start u)) 0 ≡ Ok (v, next) → read_int u start ≡ Ok (v, (start + next))
   int-there v next e =
       let p = take start u in
       let b = int-value-behind (take n (drop start u)) (drop n (drop start u)) 0 v next e in
       let m = int-moved p (take n (drop start u) ++ drop n (drop start u)) 0 in
       let k : length p + 0 ≡ start = omega (arith, size) in
-      let q : read_int (p ++ (take n (drop start u) ++ drop n (drop start u))) start ≡ int.Value v (start + next) =
-      subst (λ (x : ℕ). read_int (p ++ (take n (drop start u) ++ drop n (drop start u))) x ≡ int.Value v (start + next)) k
-      (m ∙ (ap (moved_int (length p)) b ∙ (unfold moved_int in ap (λ (x : ℕ). int.Value v (x + next)) size))) in
-      subst (λ (l : List ℕ). read_int l start ≡ int.Value v (start + next)) whole q
+      let q : read_int (p ++ (take n (drop start u) ++ drop n (drop start u))) start ≡ Ok (v, (start + next)) =
+      subst (λ (x : ℕ). read_int (p ++ (take n (drop start u) ++ drop n (drop start u))) x ≡ Ok (v, (start + next))) k
+      (m ∙ (ap (moved_int (length p)) b ∙ (unfold moved_int in ap (λ (x : ℕ). Ok (v, (x + next))) size))) in
+      subst (λ (l : List ℕ). read_int l start ≡ Ok (v, (start + next))) whole q
 
-  pub number-there : (v next : ℕ) → read_number (take n (drop start u)) 0 ≡ number.Value v next → read_number u start ≡ number.Value v (start + next)
+  pub number-there : (v next : ℕ) → read_number (take n (drop start u)) 0 ≡ Some (v, next) → read_number u start ≡ Some (v, (start + next))
   number-there v next e =
       let p = take start u in
       let b = number-value-behind (take n (drop start u)) (drop n (drop start u)) 0 v next e in
       let m = number-moved p (take n (drop start u) ++ drop n (drop start u)) 0 in
       let k : length p + 0 ≡ start = omega (arith, size) in
-      let q : read_number (p ++ (take n (drop start u) ++ drop n (drop start u))) start ≡ number.Value v (start + next) =
-      subst (λ (x : ℕ). read_number (p ++ (take n (drop start u) ++ drop n (drop start u))) x ≡ number.Value v (start + next)) k
-      (m ∙ (ap (moved_number (length p)) b ∙ (unfold moved_number in ap (λ (x : ℕ). number.Value v (x + next)) size))) in
-      subst (λ (l : List ℕ). read_number l start ≡ number.Value v (start + next)) whole q
+      let q : read_number (p ++ (take n (drop start u) ++ drop n (drop start u))) start ≡ Some (v, (start + next)) =
+      subst (λ (x : ℕ). read_number (p ++ (take n (drop start u) ++ drop n (drop start u))) x ≡ Some (v, (start + next))) k
+      (m ∙ (ap (moved_number (length p)) b ∙ (unfold moved_number in ap (λ (x : ℕ). Some (v, (x + next))) size))) in
+      subst (λ (l : List ℕ). read_number l start ≡ Some (v, (start + next))) whole q
 
 -- ---- the first field of a body
 
--- a field that was read, and what came after it
-then-got : {A B : Type 0} (x : Read A) (f : A → ℕ → Read B) (b : B) (n : ℕ) → and_then x f ≡ got b n
-    → (a : A) × (k : ℕ) × (x ≡ got a k) × (f a k ≡ got b n)
-unfolding and_then
-then-got (got a k) f b n e = (a, k, refl, e)
-then-got (failed g) f b n e = absurd (let z : ◌≡◌ {A = ℕ} 0 1 = cc in omega arith)
-
-named-id : (body : List ℕ) (m : Named) (k : ℕ) → named_fields body 0 ≡ got m k → (n : ℕ) × (read_int body 0 ≡ int.Value m.id n)
+named-id : (body : List ℕ) (m : Named) (k : ℕ) → named_fields body 0 ≡ got m k → (n : ℕ) × (read_int body 0 ≡ Ok (m.id, n))
 unfolding named_fields integer_of
 named-id body m k e =
     let a = then-got (integer_of 32 body 0) _ m k e in
-    let b = then-got _ _ m k a.3 in
-    let c = then-got _ _ m k b.3 in
+    let b = then-got (integer (between 1 name_max) body a.1) _ m k a.3 in
+    let c = then-got (name_field b.0 body b.1) _ m k b.3 in
     let q : m.id ≡ a.0 = sym (ap (read_named a.0) c.3) in
     (a.1, integer-value _ body 0 m.id a.1 (a.2 ∙ ap (λ (x : ℕ). got x a.1) (sym q)))
   where
@@ -146,10 +143,10 @@ switch-id u kind start end id next e h g =
     let body = take (end - start) (drop start u) in
     ap value_of (ap (read_int u) (body-starts u kind start end e) ∙ int-there u start (end - start) h id next (integer-value _ body 0 id next g))
 
-number-got : (at : ℕ) (r : FourBytes) (v n : ℕ) → number_read at r ≡ got v n → r ≡ number.Value v n
+number-got : (at : ℕ) (r : (Option (ℕ × ℕ))) (v n : ℕ) → number_read at r ≡ got v n → r ≡ Some (v, n)
 unfolding number_read
-number-got at (number.Value w k) v n e = cc
-number-got at number.Short v n e = absurd (let z : ◌≡◌ {A = ℕ} 0 1 = cc in omega arith)
+number-got at (Some (w, k)) v n e = cc
+number-got at None v n e = absurd (let z : ◌≡◌ {A = ℕ} 0 1 = cc in omega arith)
 
 -- the ID of an update that has one is the number that its body begins with
 pub update-explicit : (u : List ℕ) (kind start end : ℕ) (form : Form) (t : Table) (following : ℕ) (x : Update) (next : ℕ)

@@ -24,7 +24,8 @@ use Rattle.session.proofs.answers.Refusals.{of-refusal}
 use Rattle.session.specs.Session.{binding_at, no_binding, is_bound, is_updated, bound_to, closed_with, establish, make_current, with_tables, bind, bind_to, unbind, committed, commit_to}
 use Rattle.session.proofs.CurrentTable.{current-within}
 use Rattle.session.proofs.Bindings.{bound-here, bound-lost, bound-kept, bind-cases, commit-cases, committed-here, committed-other}
-use Rattle.message.specs.Effects.{Effect, refuse_with, note, peer_error, control, control_answer, control_reply, define_at, commit_at, acknowledge}
+use Rattle.message.specs.declared.Effect.{Effect}
+use Rattle.message.specs.Effects.{refuse_with, note, peer_error, control, control_answer, control_reply, define_at, commit_at, acknowledge}
 use Rattle.streams.specs.Model.{Ended}
 use Rattle.receiver.specs.Ledger.{Ledger, start_ledger, post, defines, switches, commits, without, at, table_id, update_id, is_acknowledgement, Carried, RightReply, NoAcknowledgement}
 

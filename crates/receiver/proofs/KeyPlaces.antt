@@ -1,10 +1,10 @@
 -- Where the entry of an update goes, by its table and key.
+use Rattle.std.specs.Prelude.{Option}
 use Prim.Native.Nat.{ℕ, ◌≤◌}
 use mathlib.Core.Path.{◌≡◌, refl, subst}
 use mathlib.Core.Bool.{true}
 use mathlib.Core.List.{List}
 use lib.ListN.{length}
-use Rattle.lists.specs.declared.Found.{Found}
 use Rattle.lists.specs.Lists.{first_place}
 use Rattle.store.specs.declared.Table.{Table}
 use Rattle.store.specs.declared.Entry.{Entry}
@@ -15,7 +15,7 @@ use Rattle.store.proofs.Facts.{TableFacts, key-most}
 use Rattle.store.proofs.Ruled.{made-key}
 use Rattle.session.specs.declared.Commit.{Commit}
 use Rattle.body.specs.Fields.{span_in}
-use Rattle.body.specs.Bodies.{Update}
+use Rattle.body.specs.declared.update.Update.{Update}
 use Rattle.body.proofs.Spans.{span-length}
 use Rattle.body.proofs.Within.{UpdateWithin}
 use Rattle.message.specs.Effects.{updated_entry}
@@ -45,7 +45,7 @@ pub went-by-key : (t : Store) (table : ℕ) (body : List ℕ) (u : Update) (plac
 unfolding updated_entry make_entry find_entry free_entry
 went-by-key t table body u place how l w =
     let key = span_in body u.key in
-    subst (λ (f : Found). EntryWent how place f (first_place entry_free t.entries))
+    subst (λ (f : (Option ℕ)). EntryWent how place f (first_place entry_free t.entries))
     (held-by-key t.entries (updated_entry body table u) table key l refl
     (made-key table key u.server u.time.timed u.time.remaining u.values l))
     w

@@ -22,7 +22,7 @@ use Rattle.session_soundness.proofs.Facts.{SoundConnection}
 use Rattle.session_soundness.proofs.Keeping.{sending-keeps}
 use Rattle.session_soundness.proofs.Records.{sound-store, sound-session, sound-both, nothing-sent-ok, holding-sound, empty-sound, open-facts}
 use Rattle.message.specs.Changes.{changed}
-use Rattle.message.specs.Effects.{Effect}
+use Rattle.message.specs.declared.Effect.{Effect}
 use Rattle.message.proofs.Kept.{Held, Kept}
 use Rattle.streams.specs.Model.{Fed, quiet, answered, state_of, ended_by}
 use Rattle.streams.specs.Claim.{Lawful}

@@ -1,16 +1,16 @@
 -- What every answer of the byte model has from a sound record and store: its reply is short, record and store stay sound, and the ledger
 -- follows.
+use Rattle.std.specs.Prelude.{None, Some}
 use Prim.Native.Nat.{ℕ, zero, suc, ◌+◌, ◌-◌, ◌^◌, ◌≤◌, ◌<◌}
 use native.Mathlib.Omega.{arith}
 use mathlib.Core.Path.{◌≡◌, refl, sym, ap, subst, ◌∙◌}
 use mathlib.Core.List.{List, [], ◌∷◌}
 use mathlib.Core.Bool.{true, false, cond, ◌&&◌, ◌||◌}
 use mathlib.Core.Option.{Option, some, none}
+use Rattle.std.specs.Prelude as std
 use lib.ListN.{length, take, drop, get_or}
 use lib.Dec.{eqb, leb, lit<}
 use borrow.Author.Tests.{ne_eqb, eqb-false, le-leb, lt-leb}
-use Rattle.lists.specs.declared.Found.{Found}
-use Rattle.lists.specs.declared.Found.TheVariants as found
 use Rattle.lists.specs.Lists.{first_place}
 use Rattle.lists.proofs.Places.{first-at}
 use Rattle.wire.specs.Value.{Bytes}
@@ -45,12 +45,14 @@ use Rattle.session_soundness.proofs.Keeping.{establish-keeps}
 use Rattle.session.proofs.Shapes.{establish-shape}
 use Rattle.body.specs.declared.Fault.{Fault}
 use Rattle.body.specs.Fields.{Read, got, failed, span_in}
-use Rattle.body.specs.Bodies.{definition_fields, switch_fields, acknowledgement_fields, Update, update_fields, form_of}
+use Rattle.body.specs.declared.update.Update.{Update}
+use Rattle.body.specs.Bodies.{definition_fields, switch_fields, acknowledgement_fields, update_fields, form_of}
 use Rattle.body.specs.declared.update.Form.{Form}
 use Rattle.body.proofs.Within.{UpdateRead, update-within}
 use Rattle.message.specs.Targets.{goes_to}
 use Rattle.session.specs.Answers.{refusal_of}
-use Rattle.message.specs.Effects.{Effect, refuse_with, refuse, refusal, failure_number, refuse_body, note, fields_then, control, control_answer, control_reply, peer_error, define_at, define_new, define_named, agrees, definition, switch_to, switch, acknowledgement, skipped, commit_at, commit_entry, with_fields, following_id, update_of, update, other_message, by_form, defined_table, updated_entry, stick_table, done}
+use Rattle.message.specs.declared.Effect.{Effect}
+use Rattle.message.specs.Effects.{refuse_with, refuse, refusal, failure_number, refuse_body, note, fields_then, control, control_answer, control_reply, peer_error, define_at, define_new, define_named, agrees, definition, switch_to, switch, acknowledgement, skipped, commit_at, commit_entry, with_fields, following_id, update_of, update, other_message, by_form, defined_table, updated_entry, stick_table, done}
 use Rattle.message.proofs.Acknowledging.{acknowledge-short}
 use Rattle.message.proofs.Kept.{Held, Kept, failure-least, failure-most, stays-kept, refuse-with-kept, error-kept, note-kept, switch_kept, definition-kept, update-kept}
 use Rattle.receiver.specs.Ledger.{Ledger, table_id, id_by, update_id, at, kind_of, next_id, explicit_id}
@@ -189,16 +191,16 @@ module _ (c : Connection) (s : Store) (h : Held c s) (m : List ℕ) where
   skipped-right kind = noted (answer.Skipped kind) (skipped-follow c kind m)
 
   -- a switch, whose ID is the ledger's
-  switch-to-right : (id : ℕ) → table_id m ≡ id → (f : Found) → find_bound c id ≡ f → Right c s m (switch_to c f)
-  switch-to-right id q (found.At p) e =
+  switch-to-right : (id : ℕ) → table_id m ≡ id → (f : std.Option ℕ) → find_bound c id ≡ f → Right c s m (switch_to c f)
+  switch-to-right id q (Some p) e =
       let b = found-bound c id p e in
       let l : p < 8 = omega (arith, b.0, h.connection_shape.places) in
       record {
         short = unfold switch_to note in omega arith;
-        kept = switch_kept c s h id (found.At p) e;
+        kept = switch_kept c s h id (Some p) e;
         follow = unfold switch_to in switch-follow c id p m l b.1 q;
       }
-  switch-to-right id q found.Nothing e = unfold switch_to in message-refused 27 (omega arith) (omega arith)
+  switch-to-right id q None e = unfold switch_to in message-refused 27 (omega arith) (omega arith)
 
   -- a definition, whose ID is the ledger's
   define-at-right : (id : ℕ) (t : Table) (p : ℕ) → table_id m ≡ id → p < length s.tables → Kept s (define_at c id t p) → Right c s m (define_at c id t p)
@@ -208,22 +210,22 @@ module _ (c : Connection) (s : Store) (h : Held c s) (m : List ℕ) where
     follow = define-follow c id t p m (omega (arith, h.store_shape.tables)) h.connection_shape.places e;
   }
 
-  define-new-right : (id : ℕ) (t : Table) → table_id m ≡ id → (f : Found) → first_place table_free s.tables ≡ f → Kept s (define_new c id t f) → Right c s m (define_new c id t f)
+  define-new-right : (id : ℕ) (t : Table) → table_id m ≡ id → (f : std.Option ℕ) → first_place table_free s.tables ≡ f → Kept s (define_new c id t f) → Right c s m (define_new c id t f)
   unfolding define_new
-  define-new-right id t e (found.At p) q k = define-at-right id t p e (first-at table_free s.tables p q).inside k
-  define-new-right id t e found.Nothing q k = message-refused 26 (omega arith) (omega arith)
+  define-new-right id t e (Some p) q k = define-at-right id t p e (first-at table_free s.tables p q).inside k
+  define-new-right id t e None q k = message-refused 26 (omega arith) (omega arith)
 
-  define-right : (id : ℕ) (t : Table) (name : List ℕ) → table_id m ≡ id → (f : Found) → first_place (table_named name) s.tables ≡ f
+  define-right : (id : ℕ) (t : Table) (name : List ℕ) → table_id m ≡ id → (f : std.Option ℕ) → first_place (table_named name) s.tables ≡ f
       → Kept s (define_named c s.tables id t f) → Right c s m (define_named c s.tables id t f)
   unfolding define_named
-  define-right id t name e (found.At p) q k =
+  define-right id t name e (Some p) q k =
       let x = agrees (get_or s.tables p no_table) t in
       by-test x
       (λ a.
       let w = cond-true x (define_at c id t p) (refuse c 25) a in
       rw w (define-at-right id t p e (first-at (table_named name) s.tables p q).inside (subst (Kept s) w k)))
       (λ a. rw (cond-false x (define_at c id t p) (refuse c 25) a) (message-refused 25 (omega arith) (omega arith)))
-  define-right id t name e found.Nothing q k = define-new-right id t e (first_place table_free s.tables) refl k
+  define-right id t name e None q k = define-new-right id t e (first_place table_free s.tables) refl k
 
   -- ---- updates
 

@@ -13,7 +13,7 @@ use Rattle.session.specs.declared.Answer.{Answer}
 use Rattle.session.specs.declared.Answer.TheVariants as answer
 use Rattle.session.specs.Session.{unfinished, is_closed}
 use Rattle.session_soundness.specs.Sound.{sound}
-use Rattle.message.specs.Effects.{Effect}
+use Rattle.message.specs.declared.Effect.{Effect}
 use Rattle.streams.specs.Model.{Ended}
 use Rattle.streams.specs.Calls.{Call}
 use Rattle.receiver.specs.Model.{ends_refused, State, held_by, ends}

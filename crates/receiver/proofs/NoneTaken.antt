@@ -81,11 +81,11 @@ none-taken (suc n) [] l h = absurd (omega arith)
 none-taken (suc n) (x ∷ xs) l h = absurd (let z = ap length h in omega arith)
 
 -- the bytes of a call's part of the timeline, and of the rest
-taken_in : (m : Made) (cs : List Called) → bytes_in (taken_by (reads m ∷ cs)) ≡ take m.outcome.taken m.piece ++ bytes_in (taken_by cs)
+pub taken_in : (m : Made) (cs : List Called) → bytes_in (taken_by (reads m ∷ cs)) ≡ take m.outcome.taken m.piece ++ bytes_in (taken_by cs)
 unfolding taken_by
 taken_in m cs = bytes_in-bytes (take m.outcome.taken m.piece) (taken_by cs)
 
-passed-in : (p : Passed) (cs : List Called) → bytes_in (taken_by (passes p ∷ cs)) ≡ bytes_in (taken_by cs)
+pub passed-in : (p : Passed) (cs : List Called) → bytes_in (taken_by (passes p ∷ cs)) ≡ bytes_in (taken_by cs)
 unfolding taken_by bytes_in
 passed-in p cs = refl
 

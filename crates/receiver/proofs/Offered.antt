@@ -18,7 +18,8 @@ use Rattle.session.proofs.Shapes.{holding-shape}
 use Rattle.streams.specs.Model.{Item, bytes}
 use Rattle.streams.specs.Calls.{Step, reading, happening, read_call, Offers, on_step, reads_in, Part, piece, moment, on_part, timeline, without, WithinCuts, reachable}
 use Rattle.streams.specs.Claim.{Lawful}
-use Rattle.streams.proofs.Basics.{every-nil, every-cons, every-both, every_drop}
+use Rattle.lists.proofs.Every.{every-nil}
+use Rattle.streams.proofs.Basics.{every-cons, every-both, every_drop}
 use Rattle.streams.proofs.Theorem.{call-good}
 use Rattle.streams.proofs.Offering.{within_has, offering}
 use Rattle.receiver.specs.Model.{State, Event, held_by, is_byte, is_time, peers, reply_room}

@@ -22,7 +22,7 @@ use Rattle.session.specs.declared.Session.{Session}
 use Rattle.session.specs.Session.{is_closed, local_name, remote_name}
 use Rattle.session_soundness.specs.Sound.{waits, hello_waits, status_waits, frame_waits}
 use Rattle.message.specs.Changes.{changed}
-use Rattle.message.specs.Effects.{Effect}
+use Rattle.message.specs.declared.Effect.{Effect}
 use Rattle.streams.specs.Model.{quiet, answered}
 use Rattle.streams.specs.Calls.{scan, onward}
 use Rattle.streams.proofs.OneCall.{scan-nil, scan-quiet, scan-answered}

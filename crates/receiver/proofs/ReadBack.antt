@@ -1,4 +1,5 @@
 -- An acknowledgement, read as a message, says its ID and its update ID.
+use Rattle.std.specs.Prelude.{Ok, Some}
 use Prim.Native.Nat.{ℕ, ◌+◌, ◌-◌, ◌<◌, ◌^◌}
 use native.Mathlib.Omega.{arith}
 use mathlib.Core.Path.{◌≡◌, refl, sym, ap, ◌∙◌}
@@ -7,8 +8,6 @@ use mathlib.Core.List.{List, [], ◌∷◌, ◌++◌, append-nil}
 use lib.ListN.{length, take, drop, length-append}
 use lib.Seq.{take_all}
 use borrow.Author.Tests.{lt-ltb, le-ltb}
-use Rattle.wire.specs.declared.Int.TheVariants as int
-use Rattle.wire.specs.declared.fixed.FourBytes.TheVariants as number
 use Rattle.wire.specs.Integer.{read_int, encode_int}
 use Rattle.wire.specs.Number.{read_number, encode_number}
 use Rattle.wire.proofs.Write.{int_alone}
@@ -17,7 +16,7 @@ use Rattle.wire.proofs.RoundTrip.{round_trip}
 use Rattle.wire.proofs.Numbers.{number-length, number-trip}
 use Rattle.frame.specs.declared.Frame.TheVariants as frame
 use Rattle.frame.specs.Frame.{judge_frame, with_header, with_length, header_of}
-use Rattle.body.specs.Fields.{got, and_then, tested, integer, integer_of, number_read, number4}
+use Rattle.body.specs.Fields.{got, tested, integer, integer_of, number_read, number4}
 use Rattle.body.specs.Bodies.{acknowledgement_fields}
 use Rattle.message.specs.Effects.{acknowledge}
 use Rattle.receiver.specs.Ledger.{is_acknowledgement}
@@ -37,12 +36,12 @@ module _ (id update : ℕ) (l : id < 2 ^ 32) (m : update < 2 ^ 32) where
   unfolding acknowledge
   written = rw (int_alone (length body) body-small)
 
-  length-read : read_int (0x0A ∷ 0x84 ∷ length body ∷ body) 2 ≡ int.Value (length body) 3
+  length-read : read_int (0x0A ∷ 0x84 ∷ length body ∷ body) 2 ≡ Ok ((length body), 3)
   length-read =
       let e : 2 + 1 ≡ 3 = refl in
       let r = round_trip (0x0A ∷ 0x84 ∷ []) body (length body) (omega (arith, body-small)) in
       let k = int_alone (length body) body-small in
-      sym (ap (λ (x : List ℕ). read_int (0x0A ∷ 0x84 ∷ (x ++ body)) 2) k) ∙ (r ∙ ap (λ (x : List ℕ). int.Value (length body) (2 + length x)) k)
+      sym (ap (λ (x : List ℕ). read_int (0x0A ∷ 0x84 ∷ (x ++ body)) 2) k) ∙ (r ∙ ap (λ (x : List ℕ). Ok ((length body), (2 + length x))) k)
 
   framed : judge_frame (0x0A ∷ 0x84 ∷ length body ∷ body) ≡ frame.Body 132 3 (3 + length body)
   unfolding judge_frame with_header with_length header_of
@@ -51,15 +50,15 @@ module _ (id update : ℕ) (l : id < 2 ^ 32) (m : update < 2 ^ 32) where
       rw
       (length-read, le-ltb 1024 (length body) (omega (arith, body-small)), h, le-ltb (3 + length body) 2 (omega arith), le-ltb (3 + length body) (3 + length body) (omega arith))
 
-  id-read : read_int body 0 ≡ int.Value id (length (encode_int id))
-  id-read = let e : 0 + length (encode_int id) ≡ length (encode_int id) = omega arith in round_trip [] (encode_number update) id (omega (arith, l)) ∙ ap (int.Value id) e
+  id-read : read_int body 0 ≡ Ok (id, (length (encode_int id)))
+  id-read = let e : 0 + length (encode_int id) ≡ length (encode_int id) = omega arith in round_trip [] (encode_number update) id (omega (arith, l)) ∙ ap (λ (n : ℕ). Ok (id, n)) e
 
-  update-read : read_number body (length (encode_int id)) ≡ number.Value update (length (encode_int id) + 4)
+  update-read : read_number body (length (encode_int id)) ≡ Some (update, (length (encode_int id) + 4))
   update-read =
       sym (ap (λ (x : List ℕ). read_number (encode_int id ++ x) (length (encode_int id))) (append-nil (encode_number update))) ∙ number-trip (encode_int id) [] update m
 
   fields : acknowledgement_fields body ≡ got (record { id = id; update = update }) (length body)
-  unfolding acknowledgement_fields integer_of integer tested and_then number4 number_read
+  unfolding acknowledgement_fields integer_of integer tested number4 number_read
   fields = rw (id-read, lt-ltb id (2 ^ 32) l, update-read, body-length)
 
   told : is_acknowledgement (acknowledge id update) ≡ true

@@ -17,7 +17,8 @@ use Rattle.session.specs.Answers.{refusal_of, answer_number, answer_values}
 use Rattle.session.specs.Session.{is_closed}
 use Rattle.session.proofs.answers.Refusals.{no_number, same_number, refused-is}
 use Rattle.session_soundness.specs.Sound.{sound}
-use Rattle.message.specs.Effects.{Effect, refuse_with}
+use Rattle.message.specs.declared.Effect.{Effect}
+use Rattle.message.specs.Effects.{refuse_with}
 use Rattle.streams.specs.Calls.{Call, stay}
 use Rattle.receiver.specs.Model.{State, held_by}
 use Rattle.receiver.specs.Promise.{Made, ReadPromise, call_of}

@@ -22,12 +22,15 @@ use Rattle.session.specs.Session.{bind, binding_at, is_updated}
 use Rattle.session_soundness.proofs.Facts.{held_at}
 use Rattle.session_soundness.proofs.Keeping.{put-held}
 use Rattle.body.specs.Fields.{got, span_in}
-use Rattle.body.specs.Bodies.{Definition, Update, definition_fields, form_of}
+use Rattle.body.specs.declared.definition.Definition.{Definition}
+use Rattle.body.specs.declared.update.Update.{Update}
+use Rattle.body.specs.Bodies.{definition_fields, form_of}
 use Rattle.body.specs.declared.update.Form.{Form}
 use Rattle.message.specs.Changes.{no_change, table_change, entry_change, changed}
 use Rattle.session.specs.Answers.{refusal_of, answer_values}
 use Rattle.session.proofs.answers.Refusals.{of-refusal, no_number, same_number}
-use Rattle.message.specs.Effects.{Effect, refuse_with, note, peer_error, defined_table, define_at, acknowledge, updated_entry, commit_at}
+use Rattle.message.specs.declared.Effect.{Effect}
+use Rattle.message.specs.Effects.{refuse_with, note, peer_error, defined_table, define_at, acknowledge, updated_entry, commit_at}
 use Rattle.reassembly.specs.Judge.{settled, judge}
 use Rattle.receiver.specs.Model.{ends_refused, ends}
 use Rattle.receiver.specs.Corollaries.{TableWent, closes, fields_of, OffsetGiven}

@@ -17,7 +17,7 @@ use Rattle.session.specs.declared.Outcome.{Outcome}
 use Rattle.session.specs.Session.{unfinished, is_closed, holding}
 use Rattle.session_soundness.specs.Sound.{sound, waits}
 use Rattle.message.specs.Changes.{changed}
-use Rattle.message.specs.Effects.{Effect}
+use Rattle.message.specs.declared.Effect.{Effect}
 use Rattle.reassembly.specs.Judge.{settled, judge}
 use Rattle.reassembly.specs.Pieces.{Part, take_piece}
 use Rattle.reassembly.proofs.Taking.{part_bytes, part_none, part-ended}

@@ -1,9 +1,7 @@
 -- What follows from the promise and from demand 3, in the auditor's words.
-use Rattle.std.specs.Prelude.{ℕ, ◌+◌, ◌-◌, ◌≤◌, ◌<◌, ◌^◌, ◌≡◌, ◌⊎◌, Bool, true, false, cond, ◌&&◌, ◌||◌, length, take, drop, get_or, eqb, leb, ltb}
+use Rattle.std.specs.Prelude.{ℕ, ◌+◌, ◌-◌, ◌≤◌, ◌<◌, ◌^◌, ◌≡◌, ◌⊎◌, Bool, true, false, cond, ◌&&◌, ◌||◌, length, take, drop, get_or, eqb, leb, ltb, None, Option, Some}
 use mathlib.Core.List.{List, [], ◌∷◌, ◌++◌, map, flatten}
 use Rattle.std.proofs.Math.Option.{some}
-use Rattle.lists.specs.declared.Found.{Found}
-use Rattle.lists.specs.declared.Found.TheVariants as found
 use Rattle.lists.specs.Lists.{every}
 use Rattle.store.specs.declared.Table.{Table}
 use Rattle.store.specs.declared.Store.{Store}
@@ -26,7 +24,8 @@ use Rattle.opening.specs.Opening.{Role, refused_opening, «open», open_room}
 use Rattle.body.specs.declared.update.Form.{Form}
 use Rattle.body.specs.declared.Fault.{Fault}
 use Rattle.body.specs.Fields.{Read, got, failed, span_in}
-use Rattle.body.specs.Bodies.{Update, update_fields, form_of, definition_fields, switch_fields, acknowledgement_fields}
+use Rattle.body.specs.declared.update.Update.{Update}
+use Rattle.body.specs.Bodies.{update_fields, form_of, definition_fields, switch_fields, acknowledgement_fields}
 use Rattle.body.specs.Breaks.{Sized, none_sized, definition_sized, acknowledgement_sized, update_sized, Broke}
 use Rattle.message.specs.Effects.{acknowledge, agrees, following_id, failure_number}
 use Rattle.streams.specs.Model.{Item, bytes}
@@ -92,9 +91,9 @@ fields_of c t table form body = update_fields form (get_or t.tables table no_tab
 
 -- "A known table and key has its values replaced. Otherwise the entry takes the lowest free place.": in the store that came, `held` is the first
 -- place with this table and key, and `free` the lowest free one
-unfoldable pub EntryWent : Commit → (place : ℕ) (held free : Found) → Type 0
-EntryWent commit.Replaced place held free = held ≡ found.At place
-EntryWent commit.New place held free = (held ≡ found.Nothing) × (free ≡ found.At place)
+unfoldable pub EntryWent : Commit → (place : ℕ) (held free : (Option ℕ)) → Type 0
+EntryWent commit.Replaced place held free = held ≡ Some place
+EntryWent commit.New place held free = (held ≡ None) × (free ≡ Some place)
 
 -- the store that the call left holds the entry with the message's key and values and its remaining time, and else what it held before, with
 -- the counts of its entries; the entry replaced the one that was held with its table and key, or took the lowest free place; the reply is the
@@ -145,8 +144,8 @@ AcknowledgementReadBack = (id update : ℕ) → id < 2 ^ 32 → update < 2 ^ 32 
 
 -- "A name not held takes the lowest free of 8 table places. A held name must agree in key type, key length and data types": in the store that came
 pub data TableWent (t : Store) (name : List ℕ) (new : Table) (place : ℕ) : Type 0 where
-  held_name : find_table t name ≡ found.At place → agrees (get_or t.tables place no_table) new ≡ true → TableWent t name new place
-  new_name : find_table t name ≡ found.Nothing → free_table t ≡ found.At place → TableWent t name new place
+  held_name : find_table t name ≡ Some place → agrees (get_or t.tables place no_table) new ≡ true → TableWent t name new place
+  new_name : find_table t name ≡ None → free_table t ≡ Some place → TableWent t name new place
 
 -- ---- any refused call, on any record and store, sound or not, leaves the store and the room past the reply as they were
 

@@ -1,13 +1,12 @@
 -- The ledger of update IDs: "A table's last committed update ID is that of its latest accepted update of any kind, the one acknowledged
 -- included; before any, the start record's previous ID, if it has one." It is folded over the messages that ended, from the start record,
 -- and looks at no later record.
-use Rattle.std.specs.Prelude.{ℕ, ◌+◌, ◌-◌, ◌%◌, ◌^◌, ◌≤◌, ◌<◌, ◌≡◌, List, Bool, false, cond, ◌&&◌, length, get_or, eqb}
+use Rattle.std.specs.Prelude.{ℕ, ◌+◌, ◌-◌, ◌%◌, ◌^◌, ◌≤◌, ◌<◌, ◌≡◌, List, Bool, false, cond, ◌&&◌, length, get_or, eqb, Result, Ok, Err, Some, None}
+use Rattle.std.specs.Prelude as std
 use Rattle.std.proofs.Math.Option.{Option, some, none}
 use Rattle.frame.specs.Frame.{stick_table_class, acknowledgement_type}
-use Rattle.wire.specs.declared.Int.{Int}
-use Rattle.wire.specs.declared.Int.TheVariants as int
-use Rattle.wire.specs.declared.fixed.FourBytes.{FourBytes}
-use Rattle.wire.specs.declared.fixed.FourBytes.TheVariants as number
+use Rattle.wire.specs.declared.IntError.{IntError}
+use Rattle.wire.specs.declared.IntError.TheVariants as int
 use Rattle.wire.specs.Integer.{read_int}
 use Rattle.wire.specs.Number.{read_number}
 use Rattle.session.specs.declared.Connection.{Connection}
@@ -39,26 +38,26 @@ start_ledger c = record {
 unfoldable pub kind_of : List ℕ → ℕ
 kind_of message = get_or message 1 0
 
-unfoldable pub after_int : Int → ℕ
-after_int (int.Value v next) = next
-after_int (int.Short looked) = 0
-after_int (int.Overflow looked) = 0
+unfoldable pub after_int : Result (ℕ × ℕ) IntError → ℕ
+after_int (Ok (v, next)) = next
+after_int (Err (int.Short looked)) = 0
+after_int (Err (int.Overflow looked)) = 0
 
 unfoldable pub body_start : List ℕ → ℕ
 body_start message = after_int (read_int message 2)
 
-unfoldable pub value_of : Int → ℕ
-value_of (int.Value v next) = v
-value_of (int.Short looked) = 0
-value_of (int.Overflow looked) = 0
+unfoldable pub value_of : Result (ℕ × ℕ) IntError → ℕ
+value_of (Ok (v, next)) = v
+value_of (Err (int.Short looked)) = 0
+value_of (Err (int.Overflow looked)) = 0
 
 -- the sender's table ID that the body of a definition or of a switch begins with
 unfoldable pub table_id : List ℕ → ℕ
 table_id message = value_of (read_int message (body_start message))
 
-unfoldable pub number_value : FourBytes → ℕ
-number_value (number.Value v next) = v
-number_value number.Short = 0
+unfoldable pub number_value : std.Option (ℕ × ℕ) → ℕ
+number_value (Some (v, next)) = v
+number_value None = 0
 
 -- the 4-byte update ID of an update
 unfoldable pub explicit_id : List ℕ → ℕ

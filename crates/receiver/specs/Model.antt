@@ -9,7 +9,7 @@ use Rattle.session.specs.declared.Answer.TheVariants as answer
 use Rattle.session.specs.Session.{unfinished, is_closed, holding, nothing_sent}
 use Rattle.session_soundness.specs.Sound.{sound}
 use Rattle.message.specs.Changes.{changed}
-use Rattle.message.specs.Effects.{Effect}
+use Rattle.message.specs.declared.Effect.{Effect}
 use Rattle.reassembly.specs.Judge.{Judged, waiting, settled, judge}
 use Rattle.streams.specs.Model.{Fed, quiet, answered, Receiver}
 

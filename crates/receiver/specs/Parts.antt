@@ -5,7 +5,7 @@ use Rattle.session.specs.declared.Connection.{Connection}
 use Rattle.session.specs.declared.Answer.{Answer}
 use Rattle.session.specs.declared.Answer.TheVariants as answer
 use Rattle.message.specs.Changes.{changed}
-use Rattle.message.specs.Effects.{Effect}
+use Rattle.message.specs.declared.Effect.{Effect}
 use Rattle.reassembly.specs.Judge.{Judged, waiting, settled, judge}
 use Rattle.reassembly.specs.Pieces.{Part}
 use Rattle.streams.specs.Calls.{Call}

@@ -1,5 +1,5 @@
 -- What a sending call leaves as it was, and types that read back as their forms.
-use Rattle.std.proofs.Common.{◌≡◌, ℕ, ◌+◌, ◌-◌, Bool, true, false, eqb, leb, length, take, drop, sym, refl, ap, ◌∙◌, subst, arith, eqb-true, le-leb}
+use Rattle.std.proofs.Common.{◌≡◌, ℕ, ◌+◌, ◌-◌, Bool, true, false, eqb, leb, length, take, drop, sym, refl, ap, ◌∙◌, subst, arith, eqb-true, le-leb, Result, Ok, Err}
 use mathlib.Core.Option.{some}
 use Rattle.lists.specs.Lists.{front}
 use Rattle.lists.proofs.Bytes.{front-take, front-drop}
@@ -15,8 +15,6 @@ use Rattle.session.specs.Session.{with_sending}
 use Rattle.session_soundness.specs.Sound.{defined_ok, sending_ok, sound}
 use Rattle.session_soundness.proofs.Records.{sound-store, sound-session, sound-both, open-facts, sending-sound}
 use Rattle.body.specs.Bodies.{form_of}
-use Rattle.sending.specs.declared.Sent.{Sent}
-use Rattle.sending.specs.declared.Sent.TheVariants as sent
 use Rattle.sending.specs.Sending.{Message, Asked, definition, entry, number_for, definition_message, entry_message, can_send, message_for, type_of, sent_as, session_after, room_after, SendMade, SendPromise}
 use Rattle.sending.specs.Leaves.{SentLeaves, RefusedLeaves, SentRoom, SentSound, TypesReadBack}
 use Rattle.sending.proofs.plans.Numbers.{Sends, sends}
@@ -24,12 +22,12 @@ use Rattle.sending.proofs.finish.Ending.{held_place}
 
 -- ---- a call was refused, or it sent its message
 pub record WasRefused (s : Session) (m : SendMade) (n : ℕ) : Type 0 where
-  pub result : m.result ≡ sent.Refused n
+  pub result : m.result ≡ Err n
   pub session : m.session ≡ s
   pub final : m.final ≡ m.room
 
 pub record WasSent (s : Session) (t : Store) (m : SendMade) (message : Message) : Type 0 where
-  pub result : m.result ≡ sent.Sent (length message.bytes)
+  pub result : m.result ≡ Ok (length message.bytes)
   pub session : m.session ≡ with_sending s message.sending
   pub final : m.final ≡ front message.bytes m.room
   pub sends : Sends (sound s t) s (length m.room) (can_send t s.sending m.asked)
@@ -52,15 +50,15 @@ module _ (s : Session) (t : Store) (m : SendMade) (p : SendPromise s t m) where
   }
 
 -- ---- which of the two, by the result
-is_refused : Sent → Bool
-is_refused (sent.Sent n) = false
-is_refused (sent.Refused n) = true
+is_refused : Result ℕ ℕ → Bool
+is_refused (Ok n) = false
+is_refused (Err n) = true
 
-length_in : Sent → ℕ
-length_in (sent.Sent n) = n
-length_in (sent.Refused n) = 0
+length_in : Result ℕ ℕ → ℕ
+length_in (Ok n) = n
+length_in (Err n) = 0
 
-refused-one : (s : Session) (t : Store) (m : SendMade) (n : ℕ) → SendPromise s t m → m.result ≡ sent.Refused n → WasRefused s m (number s t m)
+refused-one : (s : Session) (t : Store) (m : SendMade) (n : ℕ) → SendPromise s t m → m.result ≡ Err n → WasRefused s m (number s t m)
 unfolding is_refused
 refused-one s t m n p e =
     by-test (eqb (number s t m) 0)
@@ -72,7 +70,7 @@ pub record SentAs (s : Session) (t : Store) (m : SendMade) (len : ℕ) : Type 0 
   pub long : len ≡ length (message_for t s.sending m.asked).bytes
   pub was : WasSent s t m (message_for t s.sending m.asked)
 
-sent-one : (s : Session) (t : Store) (m : SendMade) (len : ℕ) → SendPromise s t m → m.result ≡ sent.Sent len → SentAs s t m len
+sent-one : (s : Session) (t : Store) (m : SendMade) (len : ℕ) → SendPromise s t m → m.result ≡ Ok len → SentAs s t m len
 unfolding is_refused length_in
 sent-one s t m len p e =
     by-test (eqb (number s t m) 0)

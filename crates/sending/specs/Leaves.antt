@@ -1,5 +1,5 @@
 -- What a sending call leaves as it was, and types that read back as their forms.
-use Rattle.std.specs.Prelude.{◌≡◌, ℕ, true, take, drop}
+use Rattle.std.specs.Prelude.{◌≡◌, ℕ, true, take, drop, Ok, Err}
 use Rattle.std.proofs.Math.Option.{some}
 use Rattle.store.specs.declared.Store.{Store}
 use Rattle.session.specs.declared.Session.{Session}
@@ -7,7 +7,6 @@ use Rattle.session.specs.Session.{with_sending}
 use Rattle.session_soundness.specs.Sound.{sound}
 use Rattle.body.specs.declared.update.Form.{Form}
 use Rattle.body.specs.Bodies.{form_of}
-use Rattle.sending.specs.declared.Sent.TheVariants as sent
 use Rattle.sending.specs.Sending.{type_of, message_for, SendMade, SendPromise}
 
 -- "A sending call leaves the store, and all of the record that reading uses, as it was": with the sending state as before, the record is the one that
@@ -17,12 +16,12 @@ SentLeaves = (s : Session) (t : Store) (m : SendMade) → SendPromise s t m → 
 
 -- "nothing written" by a refused call, and nothing changed
 abbrev pub RefusedLeaves : Type 0
-RefusedLeaves = (s : Session) (t : Store) (m : SendMade) (n : ℕ) → SendPromise s t m → m.result ≡ sent.Refused n → (m.session ≡ s) × (m.final ≡ m.room)
+RefusedLeaves = (s : Session) (t : Store) (m : SendMade) (n : ℕ) → SendPromise s t m → m.result ≡ Err n → (m.session ≡ s) × (m.final ≡ m.room)
 
 -- the message stands at the front, and the room past it is as it came
 abbrev pub SentRoom : Type 0
 SentRoom =
-    (s : Session) (t : Store) (m : SendMade) (len : ℕ) → SendPromise s t m → m.result ≡ sent.Sent len
+    (s : Session) (t : Store) (m : SendMade) (len : ℕ) → SendPromise s t m → m.result ≡ Ok len
     → (take len m.final ≡ (message_for t s.sending m.asked).bytes) × (drop len m.final ≡ drop len m.room)
 
 -- a sound record stays sound with the store

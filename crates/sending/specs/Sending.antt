@@ -1,5 +1,5 @@
 -- Request 3, "The sending half": what one sending call writes, and what it leaves.
-use Rattle.std.specs.Prelude.{◌≡◌, ℕ, ◌+◌, ◌^◌, ◌<◌, Bool, cond, not, ◌&&◌, List, length, ◌==◌, nat_lt}
+use Rattle.std.specs.Prelude.{◌≡◌, ℕ, ◌+◌, ◌^◌, ◌<◌, Bool, cond, not, ◌&&◌, List, length, ◌==◌, nat_lt, Result, Ok, Err}
 use Rattle.lists.specs.Lists.{front}
 use Rattle.frame.specs.Frame.{update_type, incremental_type, definition_type, timed_type, timed_incremental_type}
 use Rattle.store.specs.declared.Entry.{Entry}
@@ -15,8 +15,6 @@ use Rattle.session_soundness.specs.Sound.{sound}
 use Rattle.body.specs.declared.update.Form.{Form}
 use Rattle.body.specs.Encodings.{message_bytes, definition_bytes, update_bytes}
 use Rattle.message.specs.Effects.{following_id}
-use Rattle.sending.specs.declared.Sent.{Sent}
-use Rattle.sending.specs.declared.Sent.TheVariants as sent
 
 -- ---- refusals
 
@@ -35,6 +33,10 @@ send_number allowed s room there =
     (cond there 0 32)
     34)))
     4
+
+-- the refusal with this number, where 0 is none
+unfoldable pub refused_as : ℕ → Result Unit ℕ
+refused_as number = cond (number == 0) (Ok tt) (Err number)
 
 -- ---- messages
 
@@ -99,8 +101,8 @@ unfoldable pub number_for : Session → Store → ℕ → Asked → ℕ
 number_for s t room asked = send_number (sound s t) s room (can_send t s.sending asked)
 
 -- the length of the message, or the refusal
-unfoldable pub sent_as : ℕ → Message → Sent
-sent_as number m = cond (number == 0) (sent.Sent (length m.bytes)) (sent.Refused number)
+unfoldable pub sent_as : ℕ → Message → Result ℕ ℕ
+sent_as number m = cond (number == 0) (Ok (length m.bytes)) (Err number)
 
 -- "A sending call leaves the store, and all of the record that reading uses, as it was"; a refused one changes nothing
 unfoldable pub session_after : ℕ → Session → Message → Session
@@ -114,7 +116,7 @@ room_after number m room = cond (number == 0) (front m.bytes room) room
 pub record SendMade : Type 0 where
   pub asked : Asked
   pub room : List ℕ
-  pub result : Sent
+  pub result : Result ℕ ℕ
   pub session : Session
   pub final : List ℕ
 

@@ -1,4 +1,5 @@
 -- What stands at a place after a change of the bindings.
+use Rattle.std.specs.Prelude.{Some}
 use Prim.Native.Nat.{ℕ, zero, suc, ◌+◌, ◌≤◌, ◌<◌}
 use native.Mathlib.Omega.{arith}
 use mathlib.Core.Path.{◌≡◌, refl, sym, ap, ◌∙◌, subst}
@@ -7,7 +8,6 @@ use mathlib.Core.Bool.{true, false}
 use mathlib.Core.List.{List, [], ◌∷◌}
 use lib.ListN.{length, get_or, length-set, get_or-eq_default}
 use lib.Seq.{get_or-set_same, get_or-set_other}
-use Rattle.lists.specs.declared.Found.TheVariants.{At}
 use Rattle.lists.proofs.Cases.{by-test, never, lt-or-le, eq-or-ne}
 use Rattle.lists.proofs.Every.{get_d_any}
 use Rattle.lists.proofs.Places.{first-at}
@@ -109,7 +109,7 @@ module _ (c : Connection) (place id : ℕ) where
 -- ---- the table that an ID leads to
 
 -- it is bound to the ID, and stands at one of the places
-pub found-bound : (c : Connection) (id place : ℕ) → find_bound c id ≡ At place → (place < length c.bindings) × (bound_to id (binding_at c place) ≡ true)
+pub found-bound : (c : Connection) (id place : ℕ) → find_bound c id ≡ Some place → (place < length c.bindings) × (bound_to id (binding_at c place) ≡ true)
 unfolding find_bound binding_at
 found-bound c id place e = let f = first-at (bound_to id) c.bindings place e in (f.inside, f.passes no_binding)
 

@@ -10,8 +10,7 @@ use Rattle.store.proofs.Kept.{pad-cells}
 use Rattle.session.specs.declared.Binding.{Binding}
 use Rattle.session.specs.declared.Connection.{Connection}
 use Rattle.session.specs.declared.Sending.{Sending}
-use Rattle.session.specs.declared.Session.{Session}
-use Rattle.session.specs.Session.{no_binding, binding_at, holding, closed_with, establish, with_state, with_tables, nothing_sent, with_sending, current_of, make_current, unbind, bind_to, bind, commit_to, committed}
+use Rattle.session.specs.Session.{no_binding, binding_at, holding, closed_with, establish, with_state, with_tables, nothing_sent, current_of, make_current, unbind, bind_to, bind, commit_to, committed}
 use Rattle.session.specs.Shape.{BindingShape, ConnectionShape, SendingShape, SessionShape}
 use Rattle.session.proofs.CurrentTable.{current-within, current-past-last}
 use Rattle.session.proofs.Bindings.{bind-length, bind-cases, commit-length, commit-cases}
@@ -122,7 +121,3 @@ module _ {c : Connection} (h : ConnectionShape c) where
 pub nothing-shape : SendingShape nothing_sent
 unfolding nothing_sent
 nothing-shape = record { defined = omega arith; sent = omega arith; last = omega arith }
-
-pub sending-kept : {s : Session} → SessionShape s → {x : Sending} → SendingShape x → SessionShape (with_sending s x)
-unfolding with_sending
-sending-kept h k = record { connection = h.connection; len = h.len; buffer = h.buffer; sending = k }

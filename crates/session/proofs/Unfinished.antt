@@ -1,11 +1,10 @@
 -- The unfinished bytes of a record, and how many they are.
-use Prim.Native.Nat.{ℕ, ◌≤◌, ◌<◌, min}
+use Prim.Native.Nat.{ℕ, ◌≤◌, min}
 use native.Mathlib.Omega.{arith}
 use mathlib.Core.Path.{◌≡◌, sym, ap, ◌∙◌}
 use mathlib.Core.List.{List}
 use lib.ListN.{length, take}
 use lib.Seq.{length-take-le}
-use borrow.Author.Rules.{rules}
 use Rattle.lists.specs.Lists.{pad_to}
 use Rattle.session.specs.declared.Session.{Session}
 use Rattle.session.specs.Session.{unfinished}
@@ -16,12 +15,9 @@ unfolding unfinished
 unfinished-within s l = let e : min s.len 1027 ≡ s.len = omega arith in ap (λ (n : ℕ). take n s.buffer) e
 
 module _ (s : Session) (e : length s.buffer ≡ 1032) where
-  pub all-unfinished : 1027 < s.len → 1027 ≡ length (unfinished s)
+  pub how-many : (n : ℕ) → n ≡ min s.len 1027 → (n ≡ length (unfinished s)) × (n ≤ 1027)
   unfolding unfinished
-  all-unfinished l = sym (length-take-le (min s.len 1027) s.buffer (omega (arith, e)) ∙ omega arith)
-
-  pub some-unfinished : s.len ≤ 1027 → s.len ≡ length (unfinished s)
-  some-unfinished l = sym (ap length (unfinished-within s l) ∙ length-take-le s.len s.buffer (omega arith))
+  how-many n p = (p ∙ sym (length-take-le (min s.len 1027) s.buffer (omega (arith, e))), omega arith)
 
   -- they are the buffer's first bytes
   pub first-unfinished : (n : ℕ) → n ≡ length (unfinished s) → take n s.buffer ≡ unfinished s
@@ -30,8 +26,6 @@ module _ (s : Session) (e : length s.buffer ≡ 1032) where
 
   pub buffer-padded : (n m : ℕ) (bytes : List ℕ) → n ≡ length (unfinished s) → bytes ≡ pad_to m (take n s.buffer) → bytes ≡ pad_to m (unfinished s)
   buffer-padded n m bytes p q = q ∙ ap (pad_to m) (first-unfinished n p)
-
-pub ruleset counting-unfinished = (rules, all-unfinished, some-unfinished)
 
 -- the limit is within the buffer
 module _ (xs : List ℕ) (n : ℕ) (e : length xs ≡ 1032) (h : n ≤ 1027) where

@@ -4,7 +4,7 @@ use Rattle.std.proofs.Math.Option.{Option, some, none}
 use Rattle.lists.specs.Lists.{pad_to}
 use Rattle.handshake.specs.Handshake.{refusal_line}
 use Rattle.session.specs.declared.Values.{Values}
-use Rattle.session.specs.declared.Reply.{Reply}
+use Rattle.lists.specs.declared.inline.Bytes.{Bytes}
 use Rattle.session.specs.declared.Commit.{Commit}
 use Rattle.session.specs.declared.Commit.TheVariants as commit
 use Rattle.session.specs.declared.Answer.{Answer}
@@ -90,6 +90,6 @@ is_protocol_error n = eqb n 20 || (eqb n 21 || (eqb n 23 || (eqb n 24 || (eqb n 
 unfoldable pub refusal_reply : ℕ → List ℕ
 refusal_reply n = cond (is_size_limit n) (0x01 ∷ 0x01 ∷ []) (cond (is_protocol_error n) (0x01 ∷ 0x00 ∷ []) (refusal_line n))
 
--- bytes of a reply in an array of twelve, zeros after them
-unfoldable pub reply_of : List ℕ → Reply
-reply_of bytes = record { bytes = pad_to 12 bytes; len = length bytes }
+-- bytes of a reply, at most twelve
+abbrev pub reply_of : List ℕ → Bytes 12
+reply_of bytes = bytes

@@ -1,6 +1,5 @@
 -- The session record: what it says, and how a refusal or an accepted handshake changes it.
-use Rattle.std.specs.Prelude.{ℕ, ◌+◌, min, List, [], ◌∷◌, Bool, cond, ◌&&◌, length, take, get_or, set, eqb, ltb}
-use Rattle.lists.specs.declared.Found.{Found}
+use Rattle.std.specs.Prelude.{ℕ, ◌+◌, min, List, [], ◌∷◌, Bool, cond, ◌&&◌, length, take, get_or, set, eqb, ltb, Option}
 use Rattle.lists.specs.Lists.{pad_to, first_place}
 use Rattle.store.specs.Limits.{table_places}
 use Rattle.session.specs.declared.Binding.{Binding}
@@ -48,7 +47,7 @@ unfoldable pub bound_to : ℕ → Binding → Bool
 bound_to id b = is_bound b && eqb b.id id
 
 -- "the table bound to it"
-unfoldable pub find_bound : Connection → ℕ → Found
+unfoldable pub find_bound : Connection → ℕ → Option ℕ
 find_bound c id = first_place (bound_to id) c.bindings
 
 -- ---- request 3: the sending state

@@ -1,19 +1,18 @@
 // The number and the values of an answer, as they go to hosts in C.
-ghost use Rattle.std.specs.Prelude.{◌≡◌, [], ◌∷◌};
+ghost use Rattle.std.specs.Prelude.{◌≡◌, ◌≤◌, length};
+ghost use Rattle.lists.specs.Lists.{pad_to};
 ghost use Rattle.session.specs.Answers.{answer_number, commit_number, values_of};
 
 use crate::{Answer, Commit, Values};
 
 // An answer's number: a refusal's own, and from 256 on for the others.
+#[tactic(auto, unfolding(crate::specs::Answers::answer_number))]
 pub fn answer_number(a: Answer) -> u32
     ensures { result ≡ answer_number a }
 {
     match a {
         Answer::More => 256,
-        Answer::Hello {
-            process: _,
-            relative: _,
-        } => 257,
+        Answer::Hello { .. } => 257,
         Answer::Status => 258,
         Answer::Request => 259,
         Answer::Finished => 260,
@@ -23,90 +22,54 @@ pub fn answer_number(a: Answer) -> u32
         Answer::Error(_) => 264,
         Answer::Table(_) => 265,
         Answer::Switch(_) => 266,
-        Answer::Update {
-            table: _,
-            id: _,
-            entry: _,
-            commit: _,
-        } => 267,
-        Answer::Acknowledgement { id: _, update: _ } => 268,
+        Answer::Update { .. } => 267,
+        Answer::Acknowledgement { .. } => 268,
         Answer::Skipped(_) => 269,
-        Answer::Refused(number) => number as u32,
-        Answer::RefusedAt { number, offset: _ } => number as u32,
+        Answer::Refused(number) | Answer::RefusedAt { number, .. } => u32::from(number),
     }
 }
 
-fn commit_number(how: Commit) -> u64
-    ensures { result ≡ commit_number how }
-{
-    match how {
-        Commit::New => 0,
-        Commit::Replaced => 1,
+impl From<Commit> for u64 {
+    ghost from_gives = { λ how r. r ≡ commit_number how };
+
+    fn from(how: Commit) -> u64 {
+        match how {
+            Commit::New => 0,
+            Commit::Replaced => 1,
+        }
     }
 }
 
-fn no_values() -> Values
-    ensures { result ≡ record { numbers = 0 ∷ 0 ∷ 0 ∷ 0 ∷ []; count = 0 } }
+// At most four values, and zeros after them.
+fn values(given: &[u64]) -> Values
+    requires { length given.now ≤ 4 }
+    ensures { result ≡ record { numbers = pad_to 4 given.now; count = length given.now } }
 {
+    let mut numbers = [0; 4];
+    numbers[..given.len()].copy_from_slice(given);
     Values {
-        numbers: [0u64; 4],
-        count: 0,
-    }
-}
-
-fn one_value(v: u64) -> Values
-    ensures { result ≡ record { numbers = v ∷ 0 ∷ 0 ∷ 0 ∷ []; count = 1 } }
-{
-    Values {
-        numbers: [v, 0, 0, 0],
-        count: 1,
-    }
-}
-
-fn two_values(v: u32, w: u32) -> Values
-    ensures { result ≡ record { numbers = v ∷ w ∷ 0 ∷ 0 ∷ []; count = 2 } }
-{
-    Values {
-        numbers: [v as u64, w as u64, 0, 0],
-        count: 2,
-    }
-}
-
-fn update_values(table: usize, id: u32, entry: usize, how: Commit) -> Values
-    ensures { result ≡ record { numbers = table ∷ id ∷ entry ∷ commit_number how ∷ []; count = 4 } }
-{
-    let number = commit_number(how);
-    Values {
-        numbers: [table as u64, id as u64, entry as u64, number],
-        count: 4,
+        numbers,
+        count: given.len() as u32,
     }
 }
 
 // An answer's values, in the order of its line of the listing.
+#[tactic(auto, unfolding(lists::specs::Lists::pad_to, crate::specs::Answers::values_of, crate::specs::Answers::answer_values))]
 pub fn answer_values(a: Answer) -> Values
     ensures { result ≡ values_of a }
 {
     match a {
-        Answer::More => no_values(),
-        Answer::Hello { process, relative } => two_values(process, relative),
-        Answer::Status => no_values(),
-        Answer::Request => no_values(),
-        Answer::Finished => no_values(),
-        Answer::Partial => no_values(),
-        Answer::Confirmed => no_values(),
-        Answer::Heartbeat => no_values(),
-        Answer::Error(kind) => one_value(kind as u64),
-        Answer::Table(place) => one_value(place as u64),
-        Answer::Switch(place) => one_value(place as u64),
+        Answer::Hello { process, relative } => values(&[u64::from(process), u64::from(relative)]),
+        Answer::Error(kind) | Answer::Skipped(kind) => values(&[u64::from(kind)]),
+        Answer::Table(place) | Answer::Switch(place) => values(&[place as u64]),
         Answer::Update {
             table,
             id,
             entry,
             commit,
-        } => update_values(table, id, entry, commit),
-        Answer::Acknowledgement { id, update } => two_values(id, update),
-        Answer::Skipped(kind) => one_value(kind as u64),
-        Answer::Refused(_) => no_values(),
-        Answer::RefusedAt { number: _, offset } => one_value(offset as u64),
+        } => values(&[table as u64, u64::from(id), entry as u64, u64::from(commit)]),
+        Answer::Acknowledgement { id, update } => values(&[u64::from(id), u64::from(update)]),
+        Answer::RefusedAt { offset, .. } => values(&[offset as u64]),
+        _ => values(&[]),
     }
 }

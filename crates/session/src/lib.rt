@@ -12,6 +12,7 @@ ghost use Rattle.std.specs.Prelude.{◌≡◌, ◌≤◌, length};
 ghost use Rattle.session.specs.Session.{unfinished_max, unfinished, closed_with, establish, current_of, make_current, nothing_sent};
 
 use handshake::PEER_NAME_MAX;
+use lists::inline::Bytes;
 use store::TABLES;
 
 // ---- limits
@@ -22,17 +23,19 @@ pub const UNFINISHED_MAX: usize = 1027;
 // The bytes of a record's buffer: five more, so that the record has no padding.
 pub const BUFFER: usize = 1032;
 
-// The phases of a session: a hello is awaited, a status is awaited, the handshake is done.
+// The phases of a session: a hello is awaited, a status is awaited, the handshake is done (numbers for the C interface).
 pub const AWAITING_HELLO: u32 = 0;
 
 pub const AWAITING_STATUS: u32 = 1;
 
 pub const ESTABLISHED: u32 = 2;
 
+// ---- the records, as C holds them: flags, places plus 1 and arrays with a length beside (the C interface)
+
 // What the session knows of the table at a place: the ID that the sender bound to it, where `bound` is 1, and the ID of its last
 // committed update, where `updated` is 1.
 #[repr(C)]
-#[derive(Clone, Copy)]
+#[derive(Clone, Copy, PartialEq, Eq, Default)]
 pub struct Binding {
     pub bound: u32,
     pub updated: u32,
@@ -59,7 +62,7 @@ pub struct Connection {
 // The sending state between two calls. `defined` is 0 where no table was defined to the peer, else the place of the one defined last plus 1.
 // `sent` is 1 where an entry was sent since that definition, and `last` is then the update ID of the last one.
 #[repr(C)]
-#[derive(Clone, Copy)]
+#[derive(Clone, Copy, PartialEq, Eq, Default)]
 pub struct Sending {
     pub defined: usize,
     pub sent: u32,
@@ -86,7 +89,7 @@ pub enum Commit {
 }
 
 // What a call answers: more bytes are wanted, a message of some kind with its fields, or a refusal with its number and, where a body can't
-// be read, the offset in the body at which the failing field starts.
+// be read, the offset in the body at which the failing field starts. A refusal's number is the document's, as the theorems and C have it.
 #[derive(Clone, Copy)]
 pub enum Answer {
     More,
@@ -129,31 +132,24 @@ pub struct Outcome {
     pub answer: Answer,
 }
 
-// An answer's values: the first `count` of `numbers`, zeros after them.
+// An answer's values: the first `count` of `numbers`, zeros after them, as the C record of an outcome holds them (the C interface).
 #[derive(Clone, Copy)]
 pub struct Values {
     pub numbers: [u64; 4],
     pub count: u32,
 }
 
-// A reply: the first `len` of `bytes`, zeros after them. No reply of a call is longer than twelve bytes.
-#[derive(Clone, Copy)]
-pub struct Reply {
-    pub bytes: [u8; 12],
-    pub len: usize,
-}
+// A reply: no reply of a call is longer than twelve bytes.
+pub type Reply = Bytes<12>;
 
 // ---- the sending state
 
 // No table was defined, and no entry sent.
+#[tactic(auto, unfolding(crate::specs::Session::nothing_sent))]
 pub fn nothing_sent() -> Sending
     ensures { result ≡ nothing_sent }
 {
-    Sending {
-        defined: 0,
-        sent: 0,
-        last: 0,
-    }
+    Sending::default()
 }
 
 // ---- the unfinished bytes
@@ -162,35 +158,36 @@ pub fn nothing_sent() -> Sending
 pub fn unfinished_len(session: Session) -> usize
     ensures { (result ≡ length (unfinished session)) × (result ≤ unfinished_max) }
 {
-    let len = session.len;
-    if UNFINISHED_MAX < len {
-        return UNFINISHED_MAX;
-    }
-    len
+    session.len.min(UNFINISHED_MAX)
 }
 
 // ---- changes of a connection
 
 // The connection closed with a number; all else stays.
+#[tactic(auto, unfolding(crate::specs::Session::closed_with))]
 pub fn close_connection(c: Connection, number: u8) -> Connection
     ensures { result ≡ closed_with c number }
 {
-    let mut d = c;
-    d.closed = 1;
-    d.number = number as u32;
-    d
+    Connection {
+        closed: 1,
+        number: u32::from(number),
+        ..c
+    }
 }
 
 // The connection after an accepted hello or status.
+#[tactic(auto, unfolding(crate::specs::Session::establish))]
 pub fn establish_connection(c: Connection) -> Connection
     ensures { result ≡ establish c }
 {
-    let mut d = c;
-    d.phase = ESTABLISHED;
-    d
+    Connection {
+        phase: ESTABLISHED,
+        ..c
+    }
 }
 
 // What `current` holds for the table at a place: its place plus 1, and 0 past the last place.
+#[tactic(auto, unfolding(crate::specs::Session::current_of))]
 pub fn current_of(place: usize) -> u32
     ensures { result ≡ current_of place }
 {
@@ -202,10 +199,12 @@ pub fn current_of(place: usize) -> u32
 }
 
 // The connection with the table at a place as its current one.
+#[tactic(auto, unfolding(crate::specs::Session::make_current, crate::specs::Session::with_tables))]
 pub fn make_current(c: Connection, place: usize) -> Connection
     ensures { result ≡ make_current c place }
 {
-    let mut d = c;
-    d.current = current_of(place);
-    d
+    Connection {
+        current: current_of(place),
+        ..c
+    }
 }

@@ -1,8 +1,6 @@
-pub mod ArrayParts
-pub mod EachBinding
+pub mod Closing
 pub mod Facts
 pub mod Keeping
 pub mod Records
 pub mod RecordTests
-pub mod TestsInOrder
 pub mod Waiting

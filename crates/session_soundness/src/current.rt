@@ -5,22 +5,12 @@ ghost use Rattle.session_soundness.specs.Sound.{current_ok};
 use session::Connection;
 use store::{TABLES, Table};
 
+#[tactic(auto, unfolding(crate::specs::Sound::current_ok, store::specs::Store::table_held, session::specs::Session::is_bound, session::specs::Session::binding_at))]
 pub fn current_ok(tables: [Table; TABLES], c: Connection) -> bool
     ensures { result ≡ current_ok tables c }
 {
-    let plus_one = c.current as usize;
-    if plus_one == 0 {
-        return true;
+    match (c.current as usize).checked_sub(1) {
+        None => true,
+        Some(place) => place < TABLES && tables[place].held == 1 && c.bindings[place].bound == 1,
     }
-    if TABLES < plus_one {
-        return false;
-    }
-    let place = plus_one - 1;
-    let t = tables[place];
-    if t.held != 1 {
-        return false;
-    }
-    let bindings = c.bindings;
-    let b = bindings[place];
-    b.bound == 1
 }

@@ -21,45 +21,32 @@ use crate::unfinished::bytes_wait;
 use session::{Connection, Session, UNFINISHED_MAX};
 use store::{TABLES, Table};
 
+#[tactic(auto, unfolding(lists::specs::Lists::all_of, crate::specs::Sound::sound_connection))]
 fn connection_ok(tables: [Table; TABLES], c: Connection) -> bool
     ensures { result ≡ sound_connection tables c }
 {
-    if !fields_ok(c) {
-        return false;
-    }
-    bindings_ok(tables, c)
+    fields_ok(c) && bindings_ok(tables, c)
 }
 
 // Tests the whole only: where it waits, each first part of it does.
+#[tactic(auto, using(crate::proofs::RecordTests::parts_wait), unfolding(crate::specs::Sound::unfinished_ok, session::specs::Session::is_closed))]
 fn unfinished_ok(s: Session) -> bool
     ensures { result ≡ unfinished_ok s }
 {
-    let len = s.len;
-    if UNFINISHED_MAX < len {
-        return false;
+    if UNFINISHED_MAX < s.len {
+        false
+    } else if s.connection.closed == 1 {
+        s.len == 0
+    } else {
+        bytes_wait(s.connection, &s.buffer[..s.len])
     }
-    let c = s.connection;
-    if c.closed == 1 {
-        return len == 0;
-    }
-    let buffer = s.buffer;
-    bytes_wait(c, &buffer[..len])
 }
 
 // Whether the rules allow the record with a store that has these tables: refusal 4 is given where they don't.
+#[tactic(auto, unfolding(crate::specs::Sound::sound_session))]
 pub fn session_ok(tables: [Table; TABLES], s: Session) -> bool
     ensures { result ≡ sound_session tables s }
 {
-    if is_refused_opening(s) {
-        return true;
-    }
-    let c = s.connection;
-    if !connection_ok(tables, c) {
-        return false;
-    }
-    if !unfinished_ok(s) {
-        return false;
-    }
-    let sending = s.sending;
-    sending_ok(tables, sending)
+    is_refused_opening(s)
+        || connection_ok(tables, s.connection) && unfinished_ok(s) && sending_ok(tables, s.sending)
 }

@@ -9,95 +9,50 @@ use lists::all_zero;
 use session::{Binding, Connection, Session};
 use store::TABLES;
 
+#[tactic(auto, unfolding(crate::specs::Sound::empty_binding, lists::specs::Lists::all_of))]
 fn is_empty(b: Binding) -> bool
     ensures { result ≡ empty_binding b }
 {
-    if b.bound != 0 {
-        return false;
-    }
-    if b.updated != 0 {
-        return false;
-    }
-    if b.id != 0 {
-        return false;
-    }
-    b.previous == 0
+    b == Binding::default()
 }
 
+#[tactic(auto, unfolding(lists::specs::Lists::every))]
 fn all_empty(bindings: [Binding; TABLES]) -> bool
     ensures { result ≡ every empty_binding bindings }
 {
-    let mut i = 0;
-    while i < TABLES {
-        let b = bindings[i];
-        if !is_empty(b) {
-            return false;
-        }
-        i += 1;
-    }
-    true
+    bindings.iter().all(|b| is_empty(*b))
 }
 
+#[tactic(auto, unfolding(lists::specs::Lists::all_of))]
 fn no_names(c: Connection) -> bool
     ensures { result ≡ all_of (name_zeros c) }
 {
-    if c.local_len != 0 {
-        return false;
-    }
-    if c.remote_len != 0 {
-        return false;
-    }
-    let local = c.local;
-    if !all_zero(&local) {
-        return false;
-    }
-    let remote = c.remote;
-    all_zero(&remote)
+    c.local_len == 0 && c.remote_len == 0 && all_zero(&c.local) && all_zero(&c.remote)
 }
 
+#[tactic(auto, unfolding(lists::specs::Lists::all_of))]
 fn empty_connection(c: Connection) -> bool
     ensures { result ≡ all_of (connection_zeros c) }
 {
-    if c.phase != 0 {
-        return false;
-    }
-    if c.current != 0 {
-        return false;
-    }
-    if !no_names(c) {
-        return false;
-    }
-    let bindings = c.bindings;
-    all_empty(bindings)
+    c.phase == 0 && c.current == 0 && no_names(c) && all_empty(c.bindings)
 }
 
+#[tactic(auto, unfolding(crate::specs::Sound::empty_buffer))]
 fn empty_buffer(s: Session) -> bool
     ensures { result ≡ empty_buffer s }
 {
-    if s.len != 0 {
-        return false;
-    }
-    let buffer = s.buffer;
-    all_zero(&buffer)
+    s.len == 0 && all_zero(&s.buffer)
 }
 
 // Whether a record is the one that a refused opening returns.
+#[tactic(auto, unfolding(lists::specs::Lists::all_of, crate::specs::Sound::is_refused_opening))]
 pub fn is_refused_opening(s: Session) -> bool
     ensures { result ≡ is_refused_opening s }
 {
     let c = s.connection;
-    if c.closed != 1 {
-        return false;
-    }
-    if !refuses_opening(c.number) {
-        return false;
-    }
-    let sending = s.sending;
-    if !sent_nothing(sending) {
-        return false;
-    }
-    if !empty_buffer(s) {
-        return false;
-    }
-    empty_connection(c)
+    c.closed == 1
+        && refuses_opening(c.number)
+        && sent_nothing(s.sending)
+        && empty_buffer(s)
+        && empty_connection(c)
 }

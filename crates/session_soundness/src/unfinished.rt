@@ -12,74 +12,49 @@ use handshake::{Hello, PEER_NAME_MAX, Status};
 use session::{AWAITING_HELLO, AWAITING_STATUS, Connection};
 
 // How many bytes of a name's array are the name: the whole array, where the length is past it.
+#[tactic(auto, unfolding(crate::specs::Sound::name_length))]
 fn name_len(n: usize) -> usize
     ensures { (result ≡ name_length n) × (result ≤ peer_name_max) }
 {
-    if PEER_NAME_MAX < n {
-        return PEER_NAME_MAX;
-    }
-    n
+    n.min(PEER_NAME_MAX)
 }
 
 // A hello's bytes judged with the names of a connection.
+#[tactic(auto, using(crate::proofs::RecordTests::name_taken), unfolding(session::specs::Session::local_name, session::specs::Session::remote_name))]
 pub fn hello_of(c: Connection, u: &[u8]) -> Hello
     ensures { result ≡ judge_hello (local_name c) (remote_name c) u.now }
 {
-    let local = c.local;
-    let remote = c.remote;
     let n = name_len(c.local_len);
     let m = name_len(c.remote_len);
-    judge_hello(u, &local[..n], &remote[..m])
+    judge_hello(u, &c.local[..n], &c.remote[..m])
 }
 
 fn hello_waits(c: Connection, u: &[u8]) -> bool
     ensures { result ≡ hello_waits (judge_hello (local_name c) (remote_name c) u.now) }
 {
-    match hello_of(c, u) {
-        Hello::Waiting => true,
-        Hello::Accepted {
-            process: _,
-            relative: _,
-        } => false,
-        Hello::Refused(_) => false,
-    }
+    matches!(hello_of(c, u), Hello::Waiting)
 }
 
 fn status_waits(u: &[u8]) -> bool
     ensures { result ≡ status_waits (judge_status u.now) }
 {
-    match judge_status(u) {
-        Status::Waiting => true,
-        Status::Accepted => false,
-        Status::Refused(_) => false,
-    }
+    matches!(judge_status(u), Status::Waiting)
 }
 
 fn frame_waits(u: &[u8]) -> bool
     ensures { result ≡ frame_waits (judge_frame u.now) }
 {
-    match judge_frame(u) {
-        Frame::Waiting => true,
-        Frame::Control(_) => false,
-        Frame::Error(_) => false,
-        Frame::Body {
-            kind: _,
-            start: _,
-            end: _,
-        } => false,
-        Frame::Refused(_) => false,
-    }
+    matches!(judge_frame(u), Frame::Waiting)
 }
 
 // Whether bytes end nothing and show no refusal.
+#[tactic(auto, unfolding(crate::specs::Sound::waits))]
 pub fn bytes_wait(c: Connection, u: &[u8]) -> bool
     ensures { result ≡ waits c u.now }
 {
-    if c.phase == AWAITING_HELLO {
-        return hello_waits(c, u);
+    match c.phase {
+        AWAITING_HELLO => hello_waits(c, u),
+        AWAITING_STATUS => status_waits(u),
+        _ => frame_waits(u),
     }
-    if c.phase == AWAITING_STATUS {
-        return status_waits(u);
-    }
-    frame_waits(u)
 }

@@ -1,13 +1,11 @@
--- Counts: what a place holds of each table, the counts of a list with another element, and the loop that counts.
-use Rattle.std.proofs.Common.{◌≡◌, ℕ, zero, suc, ◌+◌, ◌-◌, ◌%◌, ◌^◌, ◌<◌, ◌≤◌, Bool, true, false, cond, eqb, List, [], ◌∷◌, ◌++◌, length, get_or, take, set, sym, refl, ap, ◌∙◌, subst, ⊎_elim, le_of_suc-le-suc, not-suc-le-zero, mod-eq_of_lt, arith, length-set, length-take-le, take_all, get_or-set_other, take-suc, get_or-set_same, ext_get_or, rules, eq-eqb, ne_eqb, eqb-true}
+-- Counts: what a place holds of each table, and the counts of a list with another element.
+use Rattle.std.proofs.Common.{◌≡◌, ℕ, zero, suc, ◌+◌, ◌-◌, ◌%◌, ◌^◌, ◌<◌, ◌≤◌, Bool, true, false, cond, eqb, List, [], ◌∷◌, ◌++◌, length, get_or, take, set, sym, refl, ap, ◌∙◌, subst, ⊎_elim, le_of_suc-le-suc, not-suc-le-zero, mod-eq_of_lt, arith, length-set, length-take-le, take_all, get_or-set_other, take-suc, get_or-set_same, ext_get_or, eq-eqb, ne_eqb, eqb-true}
 use lib.ListN.{length-map, get_or-eq_default}
-use lib.Seq.{set_out}
-use Rattle.lists.specs.Lists.{every, up_to, eq_bytes}
+use Rattle.lists.specs.Lists.{every, up_to}
 use Rattle.lists.proofs.Cases.{by-test, and_intro, and-false, and-false-second, and-true, cond-true, cond-false, eq-or-ne, lt-or-le}
 use Rattle.lists.proofs.Every.{every-at, up-length, up_at}
 use Rattle.lists.proofs.Maps.{mapped_at}
 use Rattle.lists.proofs.Bytes.{eq-bytes, bytes_eq}
-use Rattle.lists.proofs.Comparing.{Comparing, compare-start, compare-stop, compare-next, compare-end}
 use Rattle.store.specs.declared.Entry.{Entry}
 use Rattle.store.specs.declared.Store.{Store}
 use Rattle.store.specs.Store.{entry_held, owned_by, count_of, counts_of, raised, counted, no_entry}
@@ -168,29 +166,9 @@ raised-other : (table k : ℕ) (cs : List ℕ) → (k ≡ table → ⊥) → get
 unfolding raised
 raised-other table k cs f = get_or-set_other cs table k ((get_or cs table 0 + 1) % 2 ^ 32) 0 f
 
-pub raised-past : (table : ℕ) (cs : List ℕ) → length cs ≤ table → raised table cs ≡ cs
-unfolding raised
-raised-past table cs l = set_out cs table ((get_or cs table 0 + 1) % 2 ^ 32) l
-
--- in the form of the code
-pub raise-past : (table : ℕ) (cs : List ℕ) → length cs ≡ 8 → 8 ≤ table → cs ≡ raised table cs
-raise-past table cs n l = sym (raised-past table cs (omega (arith, n)))
-
-pub raise-own : (table r : ℕ) (cs : List ℕ) → r ≡ (get_or cs table 0 + 1) % 2 ^ 32 → set cs table r ≡ raised table cs
-unfolding raised
-raise-own table r cs q = ap (set cs table) q
-
-pub ruleset raising = (rules, raise-past, raise-own)
-
 pub count_none : (held table : ℕ) (cs : List ℕ) → (held ≡ 1 → ⊥) → cs ≡ counted held table cs
 unfolding counted
 count_none held table cs f = sym (cond-false (eqb held 1) (raised table cs) cs (ne_eqb held 1 f))
-
-pub count_held : (held table : ℕ) (cs r : List ℕ) → held ≡ 1 → r ≡ raised table cs → r ≡ counted held table cs
-unfolding counted
-count_held held table cs r h q = q ∙ sym (cond-true (eqb held 1) (raised table cs) cs (eq-eqb held 1 h))
-
-pub ruleset counting = (rules, count_none, count_held)
 
 -- one more at the table of an entry: the counts of a list with one entry more of it
 raised-counts : (xs ys : List Entry) (e : Entry) → length xs < 2 ^ 32 - 1 → entry_held e ≡ true
@@ -260,20 +238,3 @@ counted-free es i l m h =
 
 pub counted-all : (es : List Entry) (n : ℕ) → length es ≡ n → counts_of (take n es) ≡ counts_of es
 counted-all es n e = ap counts_of (take_all n es (omega (arith, e)))
-
--- ---- the loop that compares counts
-
-pub compare-none : (xs ys : List ℕ) → length xs ≡ 8 → length ys ≡ 8 → Comparing xs ys 0
-compare-none xs ys m n = compare-start (m ∙ sym n)
-
-module _ {xs ys : List ℕ} {i : ℕ} (r : Comparing xs ys i) (n : length xs ≡ 8) where
-  pub counts-differ : i < 8 → (get_or xs i 0 ≡ get_or ys i 0 → ⊥) → false ≡ eq_bytes xs ys
-  counts-differ l f = compare-stop r (omega (arith, n)) f
-
-  pub counts-agree : i < 8 → get_or xs i 0 ≡ get_or ys i 0 → Comparing xs ys (i + 1)
-  counts-agree l e = compare-next r (omega (arith, n)) e
-
-  pub counts_same : 8 ≤ i → true ≡ eq_bytes xs ys
-  counts_same l = compare-end r (omega (arith, n))
-
-pub ruleset comparing = (rules, compare-none, counts-differ, counts-agree, counts_same)

@@ -1,9 +1,8 @@
 -- Lookup in a sound store, and that putting a table or an entry by the rules keeps a store sound and every other lookup.
-use Rattle.std.proofs.Common.{◌≡◌, ℕ, ◌^◌, ◌<◌, ◌≤◌, true, false, eqb, List, length, get_or, set, replicate, ℤ, sym, ◌∙◌, subst, ⊎_elim, arith, lit<, length-set, eqb-true}
+use Rattle.std.proofs.Common.{◌≡◌, ℕ, ◌^◌, ◌<◌, ◌≤◌, true, false, eqb, List, length, get_or, set, replicate, ℤ, sym, ◌∙◌, subst, ⊎_elim, arith, lit<, length-set, eqb-true, None, Some}
 use lib.ListN.{get_or-replicate, length-replicate, get_or-eq_default}
 use lib.Signed.{mag}
 use native.Mathlib.Nat.{pow-le-pow_right}
-use Rattle.lists.specs.declared.Found.TheVariants.{At, Nothing}
 use Rattle.lists.specs.Lists.{pad_to}
 use Rattle.lists.proofs.Cases.{by-test, and_intro, cond-true, cond-false, lt-or-le}
 use Rattle.lists.proofs.Places.{First, first-at, first-nothing, first-only}
@@ -22,30 +21,30 @@ use Rattle.store.proofs.Facts.{SoundStore, named-facts, keyed-facts}
 
 -- ---- what lookup and the search for a free place say
 
-pub table-found : (s : Store) (name : List ℕ) (i : ℕ) → find_table s name ≡ At i → First (table_named name) s.tables i
+pub table-found : (s : Store) (name : List ℕ) (i : ℕ) → find_table s name ≡ Some i → First (table_named name) s.tables i
 unfolding find_table
 table-found s name i e = first-at (table_named name) s.tables i e
 
-pub table-missing : (s : Store) (name : List ℕ) → find_table s name ≡ Nothing → (j : ℕ) (d : Table) → j < length s.tables
+pub table-missing : (s : Store) (name : List ℕ) → find_table s name ≡ None → (j : ℕ) (d : Table) → j < length s.tables
     → table_named name (get_or s.tables j d) ≡ false
 unfolding find_table
 table-missing s name e = first-nothing (table_named name) s.tables e
 
-pub entry_found : (s : Store) (table : ℕ) (key : List ℕ) (i : ℕ) → find_entry s table key ≡ At i → First (entry_keyed table key) s.entries i
+pub entry_found : (s : Store) (table : ℕ) (key : List ℕ) (i : ℕ) → find_entry s table key ≡ Some i → First (entry_keyed table key) s.entries i
 unfolding find_entry
 entry_found s table key i e = first-at (entry_keyed table key) s.entries i e
 
-pub entry-missing : (s : Store) (table : ℕ) (key : List ℕ) → find_entry s table key ≡ Nothing → (j : ℕ) (d : Entry) → j < length s.entries
+pub entry-missing : (s : Store) (table : ℕ) (key : List ℕ) → find_entry s table key ≡ None → (j : ℕ) (d : Entry) → j < length s.entries
     → entry_keyed table key (get_or s.entries j d) ≡ false
 unfolding find_entry
 entry-missing s table key e = first-nothing (entry_keyed table key) s.entries e
 
 -- the lowest free place is free, and no lower one is
-pub table-place : (s : Store) (i : ℕ) → free_table s ≡ At i → First table_free s.tables i
+pub table-place : (s : Store) (i : ℕ) → free_table s ≡ Some i → First table_free s.tables i
 unfolding free_table
 table-place s i e = first-at table_free s.tables i e
 
-pub entry_place : (s : Store) (i : ℕ) → free_entry s ≡ At i → First entry_free s.entries i
+pub entry_place : (s : Store) (i : ℕ) → free_entry s ≡ Some i → First entry_free s.entries i
 unfolding free_entry
 entry_place s i e = first-at entry_free s.entries i e
 
@@ -69,11 +68,11 @@ equal-keys table key e f h k =
     (subst (λ (n : ℕ). entry_keyed n (key_of e) f ≡ true) (sym p.owner) (subst (λ (l : List ℕ). entry_keyed table l f ≡ true) (sym p.bytes) k))
 
 -- lookup finds the only one
-pub only-table : (s : Store) (name : List ℕ) (i : ℕ) → SoundStore s → find_table s name ≡ At i → (j : ℕ) → j < length s.tables → (j ≡ i → ⊥)
+pub only-table : (s : Store) (name : List ℕ) (i : ℕ) → SoundStore s → find_table s name ≡ Some i → (j : ℕ) → j < length s.tables → (j ≡ i → ⊥)
     → table_named name (get_or s.tables j no_table) ≡ false
 only-table s name i r e = first-only (table_named name) same_name s.tables no_table i (table-found s name i e) (equal-names name) r.names
 
-pub only-entry : (s : Store) (table : ℕ) (key : List ℕ) (i : ℕ) → SoundStore s → find_entry s table key ≡ At i → (j : ℕ) → j < length s.entries → (j ≡ i → ⊥)
+pub only-entry : (s : Store) (table : ℕ) (key : List ℕ) (i : ℕ) → SoundStore s → find_entry s table key ≡ Some i → (j : ℕ) → j < length s.entries → (j ≡ i → ⊥)
     → entry_keyed table key (get_or s.entries j no_entry) ≡ false
 only-entry s table key i r e = first-only (entry_keyed table key) same_key s.entries no_entry i (entry_found s table key i e) (equal-keys table key) r.keys
 

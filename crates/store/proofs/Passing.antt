@@ -1,8 +1,8 @@
 -- Time that passes: of one entry, one time after another, and that a store keeps its shape and stays sound.
-use Rattle.std.proofs.Common.{◌≡◌, ℕ, ◌+◌, ◌-◌, ◌^◌, ◌<◌, ◌≤◌, true, false, cond, ◌&&◌, eqb, leb, List, [], ◌∷◌, map, length, get_or, sym, refl, ap, ◌∙◌, subst, ⊎_elim, arith, rules, eq-eqb, ne_eqb, le-leb}
+use Rattle.std.proofs.Common.{◌≡◌, ℕ, ◌+◌, ◌-◌, ◌<◌, ◌≤◌, true, false, cond, eqb, leb, List, [], ◌∷◌, map, length, get_or, sym, refl, ap, ◌∙◌, subst, ⊎_elim, arith, ne_eqb, le-leb}
 use lib.ListN.{length-map, get_or-map}
 use borrow.Author.Tests.{lt-leb}
-use Rattle.lists.proofs.Cases.{by-test, never, and_intro, and-false, and-false-second, cond-true, cond-false, lt-or-le}
+use Rattle.lists.proofs.Cases.{by-test, never, and-false, and-false-second, cond-true, cond-false, lt-or-le}
 use Rattle.lists.proofs.Maps.{mapped_at}
 use Rattle.store.specs.declared.Table.{Table}
 use Rattle.store.specs.declared.Entry.{Entry}
@@ -51,36 +51,6 @@ module _ (e : ℕ) (x : Entry) where
   pub flag-stays : (x.held ≡ 1 → ⊥) → x ≡ pass_entry e x
   unfolding entry_timed entry_held
   flag-stays f = sym (pass-stays e x (and-false (eqb x.held 1) (eqb x.timed 1) (ne_eqb x.held 1 f)))
-
-  pub mark-stays : (x.timed ≡ 1 → ⊥) → x ≡ pass_entry e x
-  unfolding entry_timed
-  mark-stays f = sym (pass-stays e x (and-false-second (entry_held x) (eqb x.timed 1) (ne_eqb x.timed 1 f)))
-
-  module _ (h : x.held ≡ 1) (t : x.timed ≡ 1) where
-    is-timed : entry_timed x ≡ true
-    unfolding entry_timed entry_held
-    is-timed = and_intro (eqb x.held 1) (eqb x.timed 1) (eq-eqb x.held 1 h) (eq-eqb x.timed 1 t)
-
-    pub time-removes : (r : Entry) → r ≡ no_entry → x.remaining ≤ e → r ≡ pass_entry e x
-    time-removes r q l = q ∙ sym (pass-removes e x is-timed l)
-
-    pub time-lowers : e < x.remaining
-        → ◌≡◌ {A = Entry}
-        (record {
-          held = x.held;
-          server_id = x.server_id;
-          timed = x.timed;
-          remaining = x.remaining - e;
-          table = x.table;
-          key_len = x.key_len;
-          key = x.key;
-          values = x.values;
-        })
-        (pass_entry e x)
-    unfolding lowered
-    time-lowers l = sym (pass-lowers e x is-timed l)
-
-pub ruleset passing = (rules, flag-stays, mark-stays, time-removes, time-lowers)
 
 -- ---- "Passing a and then b leaves what passing a + b leaves"
 

@@ -1,28 +1,29 @@
 -- The rules of key types and data types: one law for each case.
-use Rattle.std.proofs.Common.{◌≡◌, ℕ, ◌/◌, ◌%◌, ◌^◌, ◌<◌, ◌≤◌, Bool, true, false, ◌&&◌, eqb, leb, List, [], ◌∷◌, length, get_or, sym, refl, ap, ◌∙◌, subst, arith, lit<, ne_eqb, eqb-true, le-leb, leb-true}
+use Rattle.std.proofs.Common.{◌≡◌, ℕ, ◌/◌, ◌%◌, ◌^◌, ◌<◌, ◌≤◌, Bool, true, false, eqb, leb, List, [], ◌∷◌, length, get_or, sym, refl, ap, ◌∙◌, subst, arith, lit<, eqb-true, leb-true, None, Option, Some}
 use native.Mathlib.Nat.{div-eq_of_lt, pow-le-pow_right}
 use lib.ListN.{get_or-eq_default}
-use borrow.Author.Tests.{lt-leb}
+use borrow.Author.Tests.{ne_eqb}
 use Rattle.lists.specs.Lists.{every, up_to, among}
-use Rattle.lists.proofs.Cases.{by-test, never, and_second, and-true, and-false}
+use Rattle.lists.proofs.Cases.{by-test, never, and_second}
 use Rattle.lists.proofs.Every.{every-at, up_at, up-length}
 use Rattle.store.specs.declared.types.KeyKind.{KeyKind}
-use Rattle.store.specs.declared.types.KeyKind.TheVariants.{Integer, Ipv4, Ipv6, Str, Binary, Unknown}
+use Rattle.store.specs.declared.types.KeyKind.TheVariants.{Integer, Ipv4, Ipv6, Str, Binary}
 use Rattle.store.specs.Limits.{key_max, key_kind, key_type_of, is_known, key_length_fits, key_length_ok, present, is_rate, rate_types, slot_types, slots_for, integers_of}
 
-pub kind-unknown : (n : ℕ) → (n ≡ 2 → ⊥) → (n ≡ 4 → ⊥) → (n ≡ 5 → ⊥) → (n ≡ 6 → ⊥) → (n ≡ 7 → ⊥) → Unknown ≡ key_kind n
+-- a number that is none of these has no kind
+pub kind-unknown : (n : ℕ) → (n ≡ 2 → ⊥) → (n ≡ 4 → ⊥) → (n ≡ 5 → ⊥) → (n ≡ 6 → ⊥) → (n ≡ 7 → ⊥) → None ≡ key_kind n
 unfolding key_kind
 kind-unknown n a b c d e = rw (ne_eqb n 2 a, ne_eqb n 4 b, ne_eqb n 5 c, ne_eqb n 6 d, ne_eqb n 7 e)
 
 -- the number of a kind is of that kind, and a known kind has one number
-pub kind-of-number : (k : KeyKind) → key_kind (key_type_of k) ≡ k
+pub kind-of-number : (k : (Option KeyKind)) → key_kind (key_type_of k) ≡ k
 unfolding key_kind key_type_of
-kind-of-number Integer = refl
-kind-of-number Ipv4 = refl
-kind-of-number Ipv6 = refl
-kind-of-number Str = refl
-kind-of-number Binary = refl
-kind-of-number Unknown = refl
+kind-of-number (Some Integer) = refl
+kind-of-number (Some Ipv4) = refl
+kind-of-number (Some Ipv6) = refl
+kind-of-number (Some Str) = refl
+kind-of-number (Some Binary) = refl
+kind-of-number None = refl
 
 number_at : (n m : ℕ) → key_type_of (key_kind m) ≡ m → eqb n m ≡ true → n ≡ key_type_of (key_kind n)
 number_at n m q h = let e = eqb-true n m h in e ∙ sym q ∙ ap (λ (k : ℕ). key_type_of (key_kind k)) (sym e)
@@ -36,32 +37,32 @@ number-of-kind n h =
     by-test (eqb n 6) (number_at n 6 refl) λ d.
     by-test (eqb n 7) (number_at n 7 refl) λ e. never h (rw (a, b, c, d, e) refl)
 
-number_small : (k : KeyKind) → key_type_of k < 8
+number_small : (k : (Option KeyKind)) → key_type_of k < 8
 unfolding key_type_of
-number_small Integer = omega arith
-number_small Ipv4 = omega arith
-number_small Ipv6 = omega arith
-number_small Str = omega arith
-number_small Binary = omega arith
-number_small Unknown = omega arith
+number_small (Some Integer) = omega arith
+number_small (Some Ipv4) = omega arith
+number_small (Some Ipv6) = omega arith
+number_small (Some Str) = omega arith
+number_small (Some Binary) = omega arith
+number_small None = omega arith
 
 pub known_small : (n : ℕ) → is_known (key_kind n) ≡ true → n < 8
 known_small n h = omega (arith, number-of-kind n h, number_small (key_kind n))
 
 -- a right key length fits the key's bytes
-fits-most : (kind : KeyKind) (n : ℕ) → key_length_fits key_max kind n ≡ true → n ≤ key_max
-fits-most Integer n h = omega (arith, eqb-true n 4 h)
-fits-most Ipv4 n h = omega (arith, eqb-true n 4 h)
-fits-most Ipv6 n h = omega (arith, eqb-true n 16 h)
-fits-most Str n h = leb-true n key_max (and_second (leb 1 n) (leb n key_max) h)
-fits-most Binary n h = leb-true n key_max (and_second (leb 1 n) (leb n key_max) h)
-fits-most Unknown n h = never refl (sym h)
+fits-most : (kind : (Option KeyKind)) (n : ℕ) → key_length_fits key_max kind n ≡ true → n ≤ key_max
+fits-most (Some Integer) n h = omega (arith, eqb-true n 4 h)
+fits-most (Some Ipv4) n h = omega (arith, eqb-true n 4 h)
+fits-most (Some Ipv6) n h = omega (arith, eqb-true n 16 h)
+fits-most (Some Str) n h = leb-true n key_max (and_second (leb 1 n) (leb n key_max) h)
+fits-most (Some Binary) n h = leb-true n key_max (and_second (leb 1 n) (leb n key_max) h)
+fits-most None n h = never refl (sym h)
 
 pub key-length-most : (key_type n : ℕ) → key_length_ok key_type n ≡ true → n ≤ 64
 unfolding key_length_ok
 key-length-most key_type n h = fits-most (key_kind key_type) n h
 
--- ---- tables of the code
+-- ---- data types
 
 unfoldable pub powers : List ℕ
 powers =
@@ -104,15 +105,6 @@ rate-count = refl
 
 pub slot-past : (slot : ℕ) → 34 ≤ slot → 0 ≡ get_or slot_types slot 0
 slot-past slot h = sym (get_or-eq_default slot_types 0 (omega (arith, slot-count)))
-
-pub rate-past : (period : ℕ) → 8 ≤ period → 0 ≡ get_or rate_types period 0
-rate-past period h = sym (get_or-eq_default rate_types 0 (omega (arith, rate-count)))
-
-pub below-least : (least n most : ℕ) → n < least → false ≡ (leb least n && leb n most)
-below-least least n most h = sym (and-false (leb least n) (leb n most) (lt-leb least n h))
-
-pub from-least : (least n most : ℕ) → least ≤ n → leb n most ≡ (leb least n && leb n most)
-from-least least n most h = sym (and-true (leb least n) (leb n most) (le-leb least n h))
 
 pub power_pos : (t : ℕ) → t < 32 → 0 < get_or powers t 0
 power_pos t h = omega (arith, power_at t h, pow-le-pow_right {n = 2} (lit< tt) (omega_zero t))

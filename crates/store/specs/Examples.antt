@@ -1,9 +1,9 @@
 -- The layout and the tests at worked examples.
-use Rattle.std.specs.Prelude.{◌≡◌, ℕ, ◌+◌, ◌^◌, true, false, List, [], ◌∷◌, map, replicate, pos, slice_index, slice_index_or, refl}
+use Rattle.std.specs.Prelude.{◌≡◌, ℕ, ◌+◌, ◌^◌, true, false, List, [], ◌∷◌, map, replicate, pos, slice_index, slice_index_or, refl, None, Some}
 use Rattle.lists.specs.Lists.{all_of, every, among}
 use Rattle.store.specs.declared.Table.{Table}
 use Rattle.store.specs.declared.Entry.{Entry}
-use Rattle.store.specs.declared.types.KeyKind.TheVariants.{Integer, Ipv4, Ipv6, Str, Binary, Unknown}
+use Rattle.store.specs.declared.types.KeyKind.TheVariants.{Integer, Ipv4, Ipv6, Str, Binary}
 use Rattle.store.specs.Limits.{is_plain, plain_name, slot_types, slots_for, integers_of, is_rate, rate_types, key_length_ok, key_kind, data_types_ok}
 use Rattle.store.specs.Store.{table_held, entry_held, name_of}
 use Rattle.store.specs.Sound.{name_length_ok, name_plain, key_type_ok, table_key_length_ok, table_types_ok, timed_ok, sound_table, entry_table_ok, entry_timed_ok, entry_key_length_ok, key_rest_zero, slots_ok, values_ok, sound_entry}
@@ -15,7 +15,7 @@ bytes-out = refl
 
 -- each side of the known numbers
 kinds : key_kind 0 ∷ key_kind 1 ∷ key_kind 2 ∷ key_kind 3 ∷ key_kind 4 ∷ key_kind 5 ∷ key_kind 6 ∷ key_kind 7 ∷ key_kind 8 ∷ key_kind (2 ^ 32 + 2) ∷ []
-    ≡ Unknown ∷ Unknown ∷ Integer ∷ Unknown ∷ Ipv4 ∷ Ipv6 ∷ Str ∷ Binary ∷ Unknown ∷ Unknown ∷ []
+    ≡ None ∷ None ∷ (Some Integer) ∷ None ∷ (Some Ipv4) ∷ (Some Ipv6) ∷ (Some Str) ∷ (Some Binary) ∷ None ∷ None ∷ []
 unfolding key_kind
 kinds = refl
 

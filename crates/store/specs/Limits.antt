@@ -1,8 +1,8 @@
 -- The numbers of document 01, and of requests 1 and 8 of document 02, that concern tables and entries, and the layout of an entry's values.
-use Rattle.std.specs.Prelude.{ℕ, ◌/◌, ◌%◌, ◌^◌, Bool, true, false, cond, ◌&&◌, ◌||◌, List, [], ◌∷◌, ◌++◌, replicate, ◌==◌, nat_le, nat_lt}
+use Rattle.std.specs.Prelude.{ℕ, ◌/◌, ◌%◌, ◌^◌, Bool, true, false, cond, ◌&&◌, ◌||◌, List, [], ◌∷◌, ◌++◌, replicate, ◌==◌, nat_le, nat_lt, None, Option, Some}
 use Rattle.lists.specs.Lists.{every, among}
 use Rattle.store.specs.declared.types.KeyKind.{KeyKind}
-use Rattle.store.specs.declared.types.KeyKind.TheVariants.{Integer, Ipv4, Ipv6, Str, Binary, Unknown}
+use Rattle.store.specs.declared.types.KeyKind.TheVariants.{Integer, Ipv4, Ipv6, Str, Binary}
 
 -- "the lowest free of 8 table places"; "The store holds the tables and 128 entries"
 abbrev pub table_places : ℕ
@@ -39,47 +39,47 @@ plain_name name = every is_plain name
 -- ---- key types
 
 -- request 1: "send 2 for integer, 4 for IPv4, 5 for IPv6, 6 for string and 7 for binary"; "0, 1, 3 and all above 7 are 24"
-unfoldable pub key_kind : ℕ → KeyKind
+unfoldable pub key_kind : ℕ → Option KeyKind
 key_kind n =
-    cond (n == 2) Integer
-    (cond (n == 4) Ipv4
-    (cond (n == 5) Ipv6
-    (cond (n == 6) Str
-    (cond (n == 7) Binary Unknown))))
+    cond (n == 2) (Some Integer)
+    (cond (n == 4) (Some Ipv4)
+    (cond (n == 5) (Some Ipv6)
+    (cond (n == 6) (Some Str)
+    (cond (n == 7) (Some Binary) None))))
 
--- the number of a kind; Unknown has 0, which is no key type
-unfoldable pub key_type_of : KeyKind → ℕ
-key_type_of Integer = 2
-key_type_of Ipv4 = 4
-key_type_of Ipv6 = 5
-key_type_of Str = 6
-key_type_of Binary = 7
-key_type_of Unknown = 0
+-- the number of a kind; 0, which is no key type, where there is none
+unfoldable pub key_type_of : Option KeyKind → ℕ
+key_type_of (Some Integer) = 2
+key_type_of (Some Ipv4) = 4
+key_type_of (Some Ipv6) = 5
+key_type_of (Some Str) = 6
+key_type_of (Some Binary) = 7
+key_type_of None = 0
 
-abbrev pub is_known : KeyKind → Bool
-is_known Integer = true
-is_known Ipv4 = true
-is_known Ipv6 = true
-is_known Str = true
-is_known Binary = true
-is_known Unknown = false
+abbrev pub is_known : Option KeyKind → Bool
+is_known (Some Integer) = true
+is_known (Some Ipv4) = true
+is_known (Some Ipv6) = true
+is_known (Some Str) = true
+is_known (Some Binary) = true
+is_known None = false
 
-abbrev pub is_string : KeyKind → Bool
-is_string Integer = false
-is_string Ipv4 = false
-is_string Ipv6 = false
-is_string Str = true
-is_string Binary = false
-is_string Unknown = false
+abbrev pub is_string : Option KeyKind → Bool
+is_string (Some Integer) = false
+is_string (Some Ipv4) = false
+is_string (Some Ipv6) = false
+is_string (Some Str) = true
+is_string (Some Binary) = false
+is_string None = false
 
 -- "Key length is 4 for" integers and IPv4, "16 for" IPv6, "and 1 to 64 for" strings and binary keys, where the longest key has `most` bytes
-abbrev pub key_length_fits : ℕ → KeyKind → ℕ → Bool
-key_length_fits most Integer n = n == 4
-key_length_fits most Ipv4 n = n == 4
-key_length_fits most Ipv6 n = n == 16
-key_length_fits most Str n = nat_le 1 n && nat_le n most
-key_length_fits most Binary n = nat_le 1 n && nat_le n most
-key_length_fits most Unknown n = false
+abbrev pub key_length_fits : ℕ → Option KeyKind → ℕ → Bool
+key_length_fits most (Some Integer) n = n == 4
+key_length_fits most (Some Ipv4) n = n == 4
+key_length_fits most (Some Ipv6) n = n == 16
+key_length_fits most (Some Str) n = nat_le 1 n && nat_le n most
+key_length_fits most (Some Binary) n = nat_le 1 n && nat_le n most
+key_length_fits most None n = false
 
 unfoldable pub key_length_ok : ℕ → ℕ → Bool
 key_length_ok key_type n = key_length_fits key_max (key_kind key_type) n

@@ -1,6 +1,5 @@
 -- Tables, counts and entries: what is held, lookup, the lowest free place, how many entries each table has, and what putting one makes.
-use Rattle.std.specs.Prelude.{ℕ, ◌+◌, ◌%◌, ◌^◌, Bool, cond, ◌&&◌, List, [], ◌∷◌, map, length, take, replicate, ℤ, pos, ◌==◌, slice_index, slice_set}
-use Rattle.lists.specs.declared.Found.{Found}
+use Rattle.std.specs.Prelude.{ℕ, ◌+◌, ◌%◌, ◌^◌, Bool, cond, ◌&&◌, List, [], ◌∷◌, map, length, take, replicate, ℤ, pos, ◌==◌, slice_index, slice_set, Option}
 use Rattle.lists.specs.Lists.{first_place, up_to, eq_bytes, pad_to}
 use Rattle.store.specs.declared.Table.{Table}
 use Rattle.store.specs.declared.Entry.{Entry}
@@ -44,18 +43,18 @@ unfoldable pub entry_keyed : ℕ → List ℕ → Entry → Bool
 entry_keyed table key e = entry_of table (length key) e && eq_bytes (key_of e) key
 
 -- the first held table of this name
-unfoldable pub find_table : Store → List ℕ → Found
+unfoldable pub find_table : Store → List ℕ → Option ℕ
 find_table s name = first_place (table_named name) s.tables
 
 -- "Lookup goes over the held entries and over key bytes, and leaves both at the first equal key"
-unfoldable pub find_entry : Store → ℕ → List ℕ → Found
+unfoldable pub find_entry : Store → ℕ → List ℕ → Option ℕ
 find_entry s table key = first_place (entry_keyed table key) s.entries
 
 -- "A name not held takes the lowest free of 8 table places"; "Otherwise the entry takes the lowest free place"
-unfoldable pub free_table : Store → Found
+unfoldable pub free_table : Store → Option ℕ
 free_table s = first_place table_free s.tables
 
-unfoldable pub free_entry : Store → Found
+unfoldable pub free_entry : Store → Option ℕ
 free_entry s = first_place entry_free s.entries
 
 -- ---- request 9: the number of entries of each table

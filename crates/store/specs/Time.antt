@@ -1,6 +1,5 @@
 -- Request 2: time that passes, in milliseconds.
-use Rattle.std.specs.Prelude.{◌≡◌, ℕ, ◌+◌, ◌-◌, ◌^◌, ◌<◌, Bool, true, cond, ◌&&◌, [], ◌∷◌, map, pos, ◌==◌, nat_le, refl}
-use Rattle.lists.specs.declared.Found.TheVariants as found
+use Rattle.std.specs.Prelude.{◌≡◌, ℕ, ◌+◌, ◌-◌, ◌^◌, ◌<◌, Bool, true, cond, ◌&&◌, [], ◌∷◌, map, pos, ◌==◌, nat_le, refl, Some}
 use Rattle.lists.specs.Lists.{first_place, first_from, pad_to}
 use Rattle.store.specs.declared.Entry.{Entry}
 use Rattle.store.specs.declared.Store.{Store}
@@ -87,7 +86,7 @@ unfolding pass_entry entry_timed entry_held make_entry time_left pad_to
 no-time = refl
 
 -- "removed places are cleared and used again as the lowest free"
-lowest-free : first_place entry_free (map (pass_entry 5) (timeless ∷ lasting 6 ∷ lasting 5 ∷ lasting 4 ∷ [])) ≡ found.At 2
+lowest-free : first_place entry_free (map (pass_entry 5) (timeless ∷ lasting 6 ∷ lasting 5 ∷ lasting 4 ∷ [])) ≡ Some 2
 unfolding pass_entry entry_timed entry_held entry_free make_entry time_left lowered no_entry pad_to first_place first_from
 lowest-free = refl
 

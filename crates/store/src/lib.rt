@@ -73,16 +73,16 @@ pub struct Store {
 // ---- putting a table or an entry
 
 // The remaining time that is written: 0 where there is none.
+#[tactic(auto, unfolding(crate::specs::Store::time_left))]
 fn time_left(timed: u32, remaining: u32) -> u32
     ensures { result ≡ time_left timed remaining }
 {
-    if timed == 0 {
-        return 0;
-    }
-    remaining
+    if timed == 0 { 0 } else { remaining }
 }
 
-// A held entry, with a remaining time where `timed` isn't 0. Key bytes past the longest key are left out.
+// A held entry, with a remaining time where `timed` isn't 0. Key bytes past the longest key are left out. The mark stays beside the number, and
+// isn't an Option: what docs/CLAIMS.md says of make_entry holds of any mark, also of one above 1.
+#[tactic(auto, unfolding(crate::specs::Store::make_entry))]
 pub fn make_entry(
     table: usize,
     key: &[u8],
@@ -108,7 +108,7 @@ pub fn make_entry(
     }
 }
 
-// What a definition says of its table besides the name.
+// What a definition says of its table besides the name. Mark, expiry and periods stand as in a Table, for any mark, as make_table promises.
 #[derive(Clone, Copy)]
 pub struct Definition {
     pub key_type: u32,
@@ -120,6 +120,7 @@ pub struct Definition {
 }
 
 // A held table. Name bytes past the longest name are left out.
+#[tactic(auto, unfolding(crate::specs::Store::make_table))]
 pub fn make_table(name: &[u8], definition: Definition) -> Table
     ensures { result ≡ make_table name.now definition }
 {
@@ -139,7 +140,8 @@ pub fn make_table(name: &[u8], definition: Definition) -> Table
     }
 }
 
-// What a table place of the empty store holds.
+// What a table place of the empty store holds. Arrays of these lengths have no Default.
+#[tactic(auto, unfolding(crate::specs::Store::no_table))]
 pub fn no_table() -> Table
     ensures { result ≡ no_table }
 {
@@ -157,6 +159,7 @@ pub fn no_table() -> Table
 }
 
 // What an entry place of the empty store holds.
+#[tactic(auto, unfolding(crate::specs::Store::no_entry))]
 pub fn no_entry() -> Entry
     ensures { result ≡ no_entry }
 {
@@ -173,6 +176,7 @@ pub fn no_entry() -> Entry
 }
 
 // A store without tables and entries.
+#[tactic(auto, unfolding(crate::specs::Store::empty_store))]
 pub fn empty_store() -> Store
     ensures { result ≡ empty_store }
 {

@@ -1,15 +1,14 @@
 -- The lookup of an entry: the loops over entries and key bytes.
+use Rattle.std.specs.Prelude.{None, Some}
 use Prim.Native.Nat.{ℕ, ◌+◌, ◌≤◌, ◌<◌}
 use native.Mathlib.Omega.{arith}
-use mathlib.Core.Path.{◌≡◌, refl, sym, ap, ◌∙◌}
-use mathlib.Core.Bool.{Bool, true, false, ◌&&◌}
+use mathlib.Core.Path.{◌≡◌, sym, ap, ◌∙◌}
+use mathlib.Core.Bool.{true, false, ◌&&◌}
 use mathlib.Core.List.{List}
 use lib.ListN.{length, get_or, drop, length-take}
 use lib.Seq.{get_or-take}
 use lib.Dec.{eqb, leb}
-use borrow.Author.Rules.{rules}
-use borrow.Author.Tests.{eqb-true, leb-true, le-leb, lt-leb}
-use Rattle.lists.specs.declared.Found.TheVariants as found
+use borrow.Author.Tests.{eqb-true, leb-true}
 use Rattle.lists.specs.Lists.{first_place, eq_bytes}
 use Rattle.lists.proofs.Cases.{by-test, not-passed, and_first, and_second, and-true, and-false}
 use Rattle.lists.proofs.Bytes.{bytes-stop, bytes_next, bytes-end}
@@ -24,14 +23,6 @@ use Rattle.store_scan.specs.Scan.{may_equal, Coded}
 -- ---- what is compared besides the bytes
 
 module _ (entry e : Entry) where
-  pub long-other : 64 < entry.key_len → false ≡ may_equal entry e
-  unfolding may_equal
-  long-other l = sym (and-false (leb entry.key_len 64) _ (lt-leb entry.key_len 64 l))
-
-  pub short-as : {b : Bool} → entry.key_len ≤ 64 → b ≡ entry_of entry.table entry.key_len e → b ≡ may_equal entry e
-  unfolding may_equal
-  short-as l q = q ∙ sym (and-true (leb entry.key_len 64) _ (le-leb entry.key_len 64 l))
-
   pub may-short : may_equal entry e ≡ true → entry.key_len ≤ 64
   unfolding may_equal
   may-short h = leb-true entry.key_len 64 (and_first (leb entry.key_len 64) (entry_of entry.table entry.key_len e) h)
@@ -44,8 +35,6 @@ module _ (entry e : Entry) where
       (and_second (entry_held e) (eqb e.table entry.table && eqb e.key_len entry.key_len)
       (and_second (leb entry.key_len 64) (entry_of entry.table entry.key_len e) h)))
 
-pub ruleset keying = (rules, long-other, short-as)
-
 -- ---- the loop over the key's bytes: those of `entry`, and those of an entry e of the store
 
 module _ (entry e : Entry) where
@@ -54,9 +43,6 @@ module _ (entry e : Entry) where
     pub may : may_equal entry e ≡ true
     pub within : j ≤ entry.key_len
     pub rest : eq_bytes (key_of e) (key_of entry) ≡ eq_bytes (drop j (key_of e)) (drop j (key_of entry))
-
-  pub match-start : may_equal entry e ≡ true → Matching 0
-  match-start h = record { may = h; within = omega arith; rest = refl }
 
   pub byte-within : {j : ℕ} → Matching j → j < entry.key_len → j < 64
   byte-within r l = omega (arith, may-short entry e r.may)
@@ -141,8 +127,8 @@ module _ (entry : Entry) (hash : ℕ) (codes : List ℕ) (entries : List Entry) 
   pub look-past : (i : ℕ) → i < 128 → Looking i → (get_or codes i 0 ≡ hash → ⊥) → Looking (i + 1)
   look-past i l r f c = search-next (r c) no_entry l (not-passed (keyed_as entry (get_or entries i no_entry)) (λ t. f (c i l t)))
 
-  pub look-here : (i : ℕ) (d : Entry) → i < 128 → Looking i → keyed_as entry (get_or entries i d) ≡ true → Coded entry hash codes entries → found.At i ≡ first_place (keyed_as entry) entries
+  pub look-here : (i : ℕ) (d : Entry) → i < 128 → Looking i → keyed_as entry (get_or entries i d) ≡ true → Coded entry hash codes entries → Some i ≡ first_place (keyed_as entry) entries
   look-here i d l r t c = search-here (r c) d l t
 
-  pub look-end : (i : ℕ) → 128 ≤ i → Looking i → Coded entry hash codes entries → found.Nothing ≡ first_place (keyed_as entry) entries
+  pub look-end : (i : ℕ) → 128 ≤ i → Looking i → Coded entry hash codes entries → None ≡ first_place (keyed_as entry) entries
   look-end i l r c = search-end (r c) l

@@ -1,12 +1,13 @@
 -- A store's test in two parts: the tables, then the entries with their counts.
+use Rattle.std.specs.Prelude.{Option, is_some}
 use mathlib.Core.Path.{◌≡◌, refl, sym, ◌∙◌}
 use mathlib.Core.Bool.{Bool, true, false, ◌&&◌}
 use Rattle.lists.specs.Lists.{all_of, every, distinct}
 use Rattle.lists.proofs.Cases.{and-true, and-false}
 use Rattle.store.specs.declared.Entry.{Entry}
 use Rattle.store.specs.declared.Store.{Store}
+use Rattle.store.specs.declared.entries.Place.{Place}
 use Rattle.store.specs.Sound.{sound_table, sound_entry, same_name, same_key, counts_right, sound_store}
-use Rattle.store_scan.specs.declared.Scanned.{Scanned}
 use Rattle.store_scan.specs.Scan.{Scans}
 
 parted : (a b c d f : Bool) → (a && (b && (c && (d && (f && true))))) ≡ ((a && b) && (c && (d && f)))
@@ -32,5 +33,5 @@ module _ (s : Store) where
   tables-fail t p f = sym (and-false tables_sound entries_sound (sym p ∙ f)) ∙ in_parts
 
   -- the tables are sound, and all entries and the counts were tested
-  pub entries-tell : (t : Bool) → t ≡ tables_sound → t ≡ true → (e : Entry) (r : Scanned) → Scans (record { tables = s.tables; entry = e }) s r → r.sound ≡ sound_store s
+  pub entries-tell : (t : Bool) → t ≡ tables_sound → t ≡ true → (e : Entry) (r : (Option Place)) → Scans (record { tables = s.tables; entry = e }) s r → is_some r ≡ sound_store s
   entries-tell t p f e r q = q.sound ∙ sym (and-true tables_sound entries_sound (sym p ∙ f)) ∙ in_parts

@@ -9,9 +9,8 @@ ghost use Rattle.store.specs.Places.{free_of, place_of};
 ghost use Rattle.store.specs.Store.{no_entry};
 ghost use Rattle.store.specs.Sound.{sound_store};
 ghost use Rattle.message.specs.Targets.{keyed_as};
-ghost use Rattle.store_scan.specs.Scan.{Scans, Hashed, may_equal, Coded, ScansByHashes, ScansByKeys};
+ghost use Rattle.store_scan.specs.Scan.{Scans, may_equal, Coded, ScansByHashes, ScansByKeys};
 
-use lists::Found;
 use store::counts::count_entry;
 use store::entries::Place;
 use store::tables::entry_of;
@@ -28,28 +27,13 @@ pub struct Query {
     pub entry: Entry,
 }
 
-// Whether two hashes are equal, and the hash of the sought key.
-#[derive(Clone, Copy)]
-struct KeyHashes {
-    equal: bool,
-    sought: u32,
-}
-
-// Whether all entries are sound, no two have one table and key, and the counts are theirs; and if so, where the sought entry goes.
-#[derive(Clone, Copy)]
-pub struct Scanned {
-    pub sound: bool,
-    pub place: Place,
-}
-
 // The codes of all entries, which are counted in the same loop. The entry of a free place isn't copied.
 fn codes_of(store: &Store, tables: [Table; TABLES]) -> [u32; ENTRIES]
     ensures { result ≡ store_codes tables store.now }
 {
     let mut codes = [HASH_END; ENTRIES];
     let mut found = [0u32; TABLES];
-    let mut i = 0;
-    while i < ENTRIES {
+    for i in 0..ENTRIES {
         let held = store.entries[i].held;
         if held != 0 {
             let e = store.entries[i];
@@ -57,39 +41,24 @@ fn codes_of(store: &Store, tables: [Table; TABLES]) -> [u32; ENTRIES]
             found = counted;
             codes[i] = entry_code(tables, e);
         }
-        i += 1;
     }
     let counts = store.counts;
     counted_codes(codes, found, counts)
 }
 
-// Whether two hashes are equal, and the hash of the sought key.
-fn key_hashes(entry: Entry, codes: [u32; ENTRIES]) -> KeyHashes
-    ensures { Hashed entry codes result }
-{
-    let apart = hashes_distinct(codes);
-    let sought = held_hash(entry);
-    KeyHashes {
-        equal: !apart,
-        sought,
-    }
-}
-
 // Whether e is held with the table of an entry and with a key as long as its key.
+#[tactic(auto, unfolding(crate::specs::Scan::may_equal))]
 fn may_equal(entry: Entry, e: Entry) -> bool
     ensures { result ≡ may_equal entry e }
 {
     let n = entry.key_len;
-    if KEY_MAX < n {
-        return false;
-    }
-    entry_of(e, entry.table, n)
+    n <= KEY_MAX && entry_of(e, entry.table, n)
 }
 
 // The lowest place held with the table and the key of an entry. A place with another code than the key's hash is passed without a look
-// at its entry: each entry with the key has this code where the entries are sound. The first read, which is not used, is for the proof: what is
-// read tells that the store has all its places.
-fn held_place(store: &Store, entry: Entry, hash: u32, codes: [u32; ENTRIES]) -> Found
+// at its entry: each entry with the key has this code where the entries are sound. Lookup by labelled loops, left at the first equal key, is a
+// rule of docs/DECISIONS.md. The first read, which is not used, is for the proof: what is read tells that the store has all its places.
+fn held_place(store: &Store, entry: Entry, hash: u32, codes: [u32; ENTRIES]) -> Option<usize>
     ensures { Coded entry hash codes store.now.entries → result ≡ first_place (keyed_as entry) store.now.entries }
 {
     let _first = store.counts[0];
@@ -98,7 +67,7 @@ fn held_place(store: &Store, entry: Entry, hash: u32, codes: [u32; ENTRIES]) -> 
     let mut i = 0;
     'entries: loop {
         if ENTRIES <= i {
-            break 'entries Found::Nothing;
+            break 'entries None;
         }
         if codes[i] == hash {
             let e = store.entries[i];
@@ -107,7 +76,7 @@ fn held_place(store: &Store, entry: Entry, hash: u32, codes: [u32; ENTRIES]) -> 
                 let mut j = 0;
                 'bytes: loop {
                     if n <= j {
-                        break 'entries Found::At(i);
+                        break 'entries Some(i);
                     }
                     if bytes[j] != key[j] {
                         break 'bytes;
@@ -121,63 +90,63 @@ fn held_place(store: &Store, entry: Entry, hash: u32, codes: [u32; ENTRIES]) -> 
 }
 
 // The first place with the code of a free one.
+#[tactic(auto, unfolding(store::specs::Places::free_of))]
 fn lowest_free(codes: [u32; ENTRIES]) -> Place
     ensures { result ≡ free_of (first_place (is_code hash_end) codes) }
 {
     match code_place(codes, HASH_END) {
-        Found::At(place) => Place::Free(place),
-        Found::Nothing => Place::Full,
+        Some(place) => Place::Free(place),
+        None => Place::Full,
     }
 }
 
 // Where the sought entry goes, which is found among the held ones or not.
-fn place_from(found: Found, codes: [u32; ENTRIES]) -> Place
+#[tactic(auto, unfolding(store::specs::Places::place_of))]
+fn place_from(found: Option<usize>, codes: [u32; ENTRIES]) -> Place
     ensures { result ≡ place_of found (first_place (is_code hash_end) codes) }
 {
     match found {
-        Found::At(i) => Place::Held(i),
-        Found::Nothing => lowest_free(codes),
+        Some(i) => Place::Held(i),
+        None => lowest_free(codes),
     }
 }
 
 // Where no two hashes are equal, no two keys are.
-fn by_hashes(codes: [u32; ENTRIES], found: Found) -> Scanned
+fn by_hashes(codes: [u32; ENTRIES], found: Option<usize>) -> Option<Place>
     ensures { ScansByHashes codes found result }
 {
-    let sound = all_sound(codes);
-    let place = place_from(found, codes);
-    Scanned { sound, place }
+    if all_sound(codes) {
+        Some(place_from(found, codes))
+    } else {
+        None
+    }
 }
 
 // Where two hashes are equal, all keys are compared.
-fn by_keys(codes: [u32; ENTRIES], found: Found, entries: [Entry; ENTRIES]) -> Scanned
+fn by_keys(codes: [u32; ENTRIES], found: Option<usize>, entries: [Entry; ENTRIES]) -> Option<Place>
     ensures { ScansByKeys codes found entries result }
 {
-    let place = place_from(found, codes);
-    if !all_sound(codes) {
-        return Scanned {
-            sound: false,
-            place,
-        };
+    if all_sound(codes) && keys_distinct(entries) {
+        Some(place_from(found, codes))
+    } else {
+        None
     }
-    let sound = keys_distinct(entries);
-    Scanned { sound, place }
 }
 
-// Tests all entries and the counts, and looks for the place of one.
-pub fn scan(store: &Store, query: Query) -> Scanned
+// Where the sought entry goes, if all entries are sound, no two have one table and key, and the counts are theirs.
+pub fn scan(store: &Store, query: Query) -> Option<Place>
     ensures { Scans query store.now result }
 {
     let tables = query.tables;
     let codes = codes_of(store, tables);
     let entry = query.entry;
-    let hashes = key_hashes(entry, codes);
-    let found = held_place(store, entry, hashes.sought, codes);
-    if hashes.equal {
+    let found = held_place(store, entry, held_hash(entry), codes);
+    if hashes_distinct(codes) {
+        by_hashes(codes, found)
+    } else {
         let entries = store.entries;
-        return by_keys(codes, found, entries);
+        by_keys(codes, found, entries)
     }
-    by_hashes(codes, found)
 }
 
 // Whether a store is sound. No entry is sought.
@@ -190,8 +159,7 @@ pub fn store_ok(store: &Store) -> bool
     }
     let entry = no_entry();
     let query = Query { tables, entry };
-    let scanned = scan(store, query);
-    scanned.sound
+    scan(store, query).is_some()
 }
 
 // The entry at a place; no_entry past the last place. The place may be any number.

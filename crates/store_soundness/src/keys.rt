@@ -1,49 +1,39 @@
 // Whether two entries of a store have one table and key.
-ghost use Rattle.std.specs.Prelude.{◌≡◌};
-ghost use Rattle.lists.specs.Lists.{distinct};
+ghost use Rattle.std.specs.Prelude.{◌≡◌, not};
+ghost use Rattle.lists.specs.Lists.{every, distinct};
 ghost use Rattle.store.specs.Store.{entry_keyed};
 ghost use Rattle.store.specs.Sound.{same_key};
 
-use lists::shorter;
-use store::tables::entry_of;
+use lists::all_distinct;
 use store::{ENTRIES, Entry, KEY_MAX};
 
 // Whether an entry is held by the table at this place with the key.
-pub fn entry_keyed(e: Entry, table: usize, key: &[u8]) -> bool
-    ensures { result ≡ entry_keyed table key.now e }
+#[tactic(auto, using(lists::proofs::Bytes::by_prefix), unfolding(lists::specs::Lists::eq_bytes, store::specs::Store::entry_keyed, store::specs::Store::entry_of, store::specs::Store::entry_held, store::specs::Store::key_of))]
+pub fn entry_keyed(e: &Entry, table: usize, key: &[u8]) -> bool
+    ensures { result ≡ entry_keyed table key.now e.now }
 {
-    let n = key.len();
-    if !entry_of(e, table, n) {
-        return false;
-    }
-    if KEY_MAX < n {
-        return false;
-    }
-    let bytes = e.key;
-    lists::same(&bytes[..n], key)
+    e.held == 1 && e.table == table && e.key_len == key.len() && e.key.starts_with(key)
+}
+
+// Whether no entry is held with the table and the key.
+#[tactic(auto, unfolding(lists::specs::Lists::every))]
+fn key_apart(entries: &[Entry], table: usize, key: &[u8]) -> bool
+    ensures { result ≡ every (λ e. not (entry_keyed table key.now e)) entries.now }
+{
+    entries.iter().all(|e| !entry_keyed(e, table, key))
+}
+
+// Whether none of the others has the table and key of an entry, if that is held.
+fn entry_apart(e: &Entry, others: &[Entry]) -> bool
+    ensures { result ≡ every (λ f. not (same_key e.now f)) others.now }
+{
+    let n = e.key_len.min(KEY_MAX);
+    e.held != 1 || key_apart(others, e.table, &e.key[..n])
 }
 
 // Whether no two held entries have one table and key.
 pub fn keys_distinct(entries: [Entry; ENTRIES]) -> bool
     ensures { result ≡ distinct same_key entries }
 {
-    let mut i = 0;
-    while i < ENTRIES {
-        let e = entries[i];
-        if e.held == 1 {
-            let key = e.key;
-            let table = e.table;
-            let n = shorter(e.key_len, KEY_MAX);
-            let mut j = i + 1;
-            while j < ENTRIES {
-                let f = entries[j];
-                if entry_keyed(f, table, &key[..n]) {
-                    return false;
-                }
-                j += 1;
-            }
-        }
-        i += 1;
-    }
-    true
+    all_distinct(&entries, |e, others| entry_apart(e, others))
 }

@@ -10,7 +10,7 @@ use Rattle.streams.specs.Model.{Fed, quiet, answered, state_of, Item, bytes_in, 
 use Rattle.streams.specs.Claim.{Lawful, EveryDivision, EveryOffering, OfferedReachable}
 use Rattle.streams.specs.Fold.{AllAlong, Folds}
 use Rattle.streams.specs.Toy.{Answer, Message, Event, shorter, closed_toy, begun, feed_toy, ends_toy, reply_toy, act_toy, toy, GoodToy}
-use Rattle.streams.proofs.Basics.{by-test, both_true}
+use Rattle.lists.proofs.Cases.{by-test, and_first, and_second}
 use Rattle.streams.proofs.Theorem.{every-division}
 use Rattle.streams.proofs.Offering.{offering}
 use Rattle.streams.proofs.Reachable.{offered-reachable}
@@ -63,9 +63,8 @@ act-keeps-closed : (e : Event) (s : ℕ) → closed_toy (act_toy e s) ≡ closed
 act-keeps-closed shorter s =
     by-test (leb 3 s && ltb s 20)
     (λ h.
-    let b = both_true (leb 3 s) (ltb s 20) h in
-    let m = leb-true 3 s b.0 in
-    let l = ltb-true s 20 b.1 in
+    let m = leb-true 3 s (and_first (leb 3 s) (ltb s 20) h) in
+    let l = ltb-true s 20 (and_second (leb 3 s) (ltb s 20) h) in
     rw h (between-open (s - 1) (omega arith) (omega arith) ∙ sym (between-open s (omega arith) l)))
     (λ h. rw h)
 

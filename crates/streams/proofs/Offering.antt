@@ -12,7 +12,9 @@ use Rattle.lists.specs.Lists.{every}
 use Rattle.streams.specs.Model.{Receiver, Item, byte, bytes, bytes_in}
 use Rattle.streams.specs.Calls.{Step, reading, happening, scan, read_call, Offers, on_step, of_bytes, reads_in, Part, piece, moment, on_part, timeline, begun, current, without, WithinCuts, reachable}
 use Rattle.streams.specs.Claim.{Lawful, Offering, EveryOffering}
-use Rattle.streams.proofs.Basics.{by-test, every-nil, every-cons, every-both, every_drop}
+use Rattle.lists.proofs.Cases.{by-test}
+use Rattle.lists.proofs.Every.{every-nil}
+use Rattle.streams.proofs.Basics.{every-cons, every-both, every_drop}
 use Rattle.streams.proofs.OneCall.{call-reads, as-model}
 use Rattle.streams.proofs.Theorem.{call-inside, call-good}
 use Rattle.streams.proofs.Reachable.{eventless-bytes, reached-closed, scan-reachable}

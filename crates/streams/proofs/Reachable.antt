@@ -8,7 +8,8 @@ use lib.ListN.{take}
 use Rattle.streams.specs.Model.{state_of, Receiver, Item, byte, event, bytes}
 use Rattle.streams.specs.Calls.{Call, reading, happening, scan, read_call, Offers, pieces, timeline, eventless, reachable}
 use Rattle.streams.specs.Claim.{Lawful, OfferedReachable, BytesReachable}
-use Rattle.streams.proofs.Basics.{by-test, by-fed}
+use Rattle.lists.proofs.Cases.{by-test}
+use Rattle.streams.proofs.Basics.{by-fed}
 use Rattle.streams.proofs.OneCall.{scan-nil, scan-quiet, scan-answered}
 use Rattle.streams.proofs.Theorem.{Called, stays, reads, called}
 

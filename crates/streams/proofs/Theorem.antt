@@ -13,7 +13,8 @@ use Rattle.streams.specs.Model.{Receiver, Item, byte, event, bytes, feed_all}
 use Rattle.streams.specs.Calls.{Call, Step, reading, happening, Result, stay, result_of, scan, read_call, respond, run_calls, taken_of, Offers, of_bytes}
 use Rattle.streams.specs.Claim.{Lawful, EachAsModel, EachSound, EveryDivision}
 use Rattle.streams.proofs.OneCall.{scan-nil, scan-quiet, scan-answered, scan-inside, call-short, call-unsound, call-closed, call-reads, as-model}
-use Rattle.streams.proofs.Basics.{by-test, by-fed, every-cons, fed-none, fed-quiet, fed-answered, fed-event}
+use Rattle.lists.proofs.Cases.{by-test}
+use Rattle.streams.proofs.Basics.{by-fed, every-cons, fed-none, fed-quiet, fed-answered, fed-event}
 
 bytes_take : {E : Type 0} (n : ℕ) (xs : List ℕ) → ◌≡◌ {A = List (Item E)} (bytes (take n xs)) (take n (bytes xs))
 bytes_take zero xs = refl

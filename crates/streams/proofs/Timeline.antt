@@ -12,7 +12,9 @@ use Rattle.streams.specs.Model.{quiet, answered, Receiver, Item, byte, event, by
 use Rattle.streams.specs.Calls.{Step, reading, happening, read_call, taken_of, of_bytes}
 use Rattle.streams.specs.Claim.{Lawful}
 use Rattle.streams.specs.Fold.{AllAlong, Folds}
-use Rattle.streams.proofs.Basics.{by-test, by-fed, every-nil, every-cons, every-both, every_append, every_take, fed-none, fed-quiet, fed-answered, fed-event}
+use Rattle.lists.proofs.Cases.{by-test}
+use Rattle.lists.proofs.Every.{every-nil}
+use Rattle.streams.proofs.Basics.{by-fed, every-cons, every-both, every_append, every_take, fed-none, fed-quiet, fed-answered, fed-event}
 
 pub bytes_in-bytes : {E : Type 0} (xs : List ℕ) (rest : List (Item E)) → bytes_in (bytes xs ++ rest) ≡ xs ++ bytes_in rest
 unfolding bytes_in

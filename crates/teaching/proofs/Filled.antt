@@ -1,4 +1,5 @@
 -- A list put over the first places of another.
+use Rattle.std.specs.Prelude.{None, Some}
 use Prim.Native.Nat.{ℕ, suc, ◌+◌, ◌-◌, ◌≤◌, ◌<◌}
 use native.Mathlib.Omega.{arith}
 use mathlib.Core.Path.{◌≡◌, refl, sym, ap, ◌∙◌}
@@ -7,7 +8,6 @@ use mathlib.Core.Bool.{Bool, true, false, not}
 use lib.ListN.{length, get_or, set, drop, length-append, get_or-append}
 use lib.Seq.{set-append_seam, get_or-append-add, get_or-drop}
 use borrow.Author.Tests.{not-true}
-use Rattle.lists.specs.declared.Found.TheVariants.{At, Nothing}
 use Rattle.lists.specs.Lists.{every, distinct, first_from, first_place}
 use Rattle.lists.proofs.Cases.{and_first, and_second, and_intro, cond-true, cond-false}
 use Rattle.lists.proofs.Every.{drop-step, every-at}
@@ -50,30 +50,30 @@ module _ {A : Type 0} where
   from-behind p i (x ∷ xs) ys h =
       let e : i + 1 + length xs ≡ i + suc (length xs) = omega arith in
       let n : p x ≡ false = not-true (p x) (and_first (not (p x)) (none p xs) h) in
-      cond-false (p x) (At i) (first_from (i + 1) p (xs ++ ys)) n
+      cond-false (p x) (Some i) (first_from (i + 1) p (xs ++ ys)) n
       ∙ (from-behind p (i + 1) xs ys (and_second (not (p x)) (none p xs) h) ∙ ap (λ (k : ℕ). first_from k p ys) e)
 
-  from-none : (p : A → Bool) (i : ℕ) (xs : List A) → none p xs ≡ true → first_from i p xs ≡ Nothing
+  from-none : (p : A → Bool) (i : ℕ) (xs : List A) → none p xs ≡ true → first_from i p xs ≡ None
   unfolding every first_from
   from-none p i [] h = refl
   from-none p i (x ∷ xs) h =
-      cond-false (p x) (At i) (first_from (i + 1) p xs) (not-true (p x) (and_first (not (p x)) (none p xs) h))
+      cond-false (p x) (Some i) (first_from (i + 1) p xs) (not-true (p x) (and_first (not (p x)) (none p xs) h))
       ∙ from-none p (i + 1) xs (and_second (not (p x)) (none p xs) h)
 
   -- the first place of the base that is left, where each of them passes the test
   pub filled-first : (p : A → Bool) (base : List A) (d : A) (xs : List A) → length xs < length base → none p xs ≡ true → every p base ≡ true
-      → first_place p (filled base xs) ≡ At (length xs)
+      → first_place p (filled base xs) ≡ Some (length xs)
   unfolding filled first_place first_from
   filled-first p base d xs l h t =
       let e : 0 + length xs ≡ length xs = omega arith in
       from-behind p 0 xs (drop (length xs) base) h
       ∙ (ap (first_from (0 + length xs) p) (drop-step base (length xs) d l)
-      ∙ (cond-true (p (get_or base (length xs) d)) (At (0 + length xs)) (first_from (0 + length xs + 1) p (drop (length xs + 1) base))
+      ∙ (cond-true (p (get_or base (length xs) d)) (Some (0 + length xs)) (first_from (0 + length xs + 1) p (drop (length xs + 1) base))
       (every-at p base d (length xs) t l)
-      ∙ ap At e))
+      ∙ ap Some e))
 
-  pub filled_none : (p : A → Bool) (base xs : List A) → none p xs ≡ true → none p base ≡ true → first_place p (filled base xs) ≡ Nothing
-  unfolding filled first_place
+  pub filled_none : (p : A → Bool) (base xs : List A) → none p xs ≡ true → none p base ≡ true → first_place p (filled base xs) ≡ None
+  unfolding filled first_place first_from
   filled_none p base xs h t =
       from-behind p 0 xs (drop (length xs) base) h
       ∙ from-none p (0 + length xs) (drop (length xs) base) (every_drop (λ x. not (p x)) (length xs) base t)

@@ -97,10 +97,6 @@ module _ {A : Type 0} where
   every-each p P (y ∷ ys) f h =
       (f y (inl refl) (and_first (p y) (every p ys) h), every-each p P ys (λ x m. f x (inr m)) (and_second (p y) (every p ys) h))
 
-  -- an element is alike to none of another list
-  none_alike : (alike : A → A → Bool) (x : A) (ys : List A) → ((y : A) → Member y ys → alike x y ≡ false) → every (λ y. not (alike x y)) ys ≡ true
-  none_alike alike x ys f = members-every (λ y. not (alike x y)) ys (λ y m. rw (f y m))
-
   pub distinct_append : (alike : A → A → Bool) (xs ys : List A) → distinct alike xs ≡ true → distinct alike ys ≡ true
       → ((x y : A) → Member x xs → Member y ys → alike x y ≡ false) → distinct alike (xs ++ ys) ≡ true
   unfolding distinct Member

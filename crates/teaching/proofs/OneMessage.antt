@@ -1,4 +1,5 @@
 -- What one definition and one update do to a reader that doesn't hold the table or the key: the next table or entry.
+use Rattle.std.specs.Prelude.{None, Some}
 use Prim.Native.Nat.{ℕ, ◌+◌, ◌-◌, ◌^◌, ◌<◌}
 use native.Mathlib.Omega.{arith}
 use mathlib.Core.Path.{◌≡◌, refl, sym, ap, ◌∙◌}
@@ -8,7 +9,6 @@ use lib.ListN.{length, get_or, length-take}
 use lib.Dec.{ltb, leb, eqb}
 use lib.IntN.{pos}
 use borrow.Author.Tests.{lt-ltb, eqb-true, ne_eqb, not-false}
-use Rattle.lists.specs.declared.Found.TheVariants as found
 use Rattle.lists.specs.Lists.{every, first_place}
 use Rattle.lists.proofs.Cases.{by-test, and_first, and_second, and-false-second, cond-true}
 use Rattle.lists.proofs.Bytes.{pad-take}
@@ -34,7 +34,8 @@ use Rattle.body.specs.ReadBack.{times_back, present_only, update_back, Definitio
 use Rattle.body.proofs.UpdateBack.{updates-read-back}
 use Rattle.message.specs.Changes.{changed, table_change, entry_change}
 use Rattle.message.specs.Targets.{keyed_as, goes_to}
-use Rattle.message.specs.Effects.{Effect, commits, fields_then, defined_table, define_at, define_new, define_named, definition, updated_entry, with_fields, following_id, update_of, update, other_message, by_form, stick_table, acknowledge, commit_at, commit_entry, done}
+use Rattle.message.specs.declared.Effect.{Effect}
+use Rattle.message.specs.Effects.{commits, fields_then, defined_table, define_at, define_new, define_named, definition, updated_entry, with_fields, following_id, update_of, update, other_message, by_form, stick_table, acknowledge, commit_at, commit_entry, done}
 use Rattle.session.specs.declared.Sending.{Sending}
 use Rattle.sending.specs.Sending.{follows, form_for, type_of}
 use Rattle.sending.proofs.Leaving.{types-read-back}
@@ -122,9 +123,9 @@ module _ (start : Store) (c : Connection) (s : Store) (ts : List Table) (es : Li
   pub defines : done c s.entries (stick_table c s.tables 130 (definition_bytes id t)) ≡ define_at c id (read_table t) (length ts)
   unfolding define_named define_new
   defines =
-      let a : first_place (table_named (name_of t)) s.tables ≡ found.Nothing =
+      let a : first_place (table_named (name_of t)) s.tables ≡ None =
       ap (first_place (table_named (name_of t))) r.tables ∙ filled_none (table_named (name_of t)) start.tables ts new (none_named (name_of t) start.tables r.free.tables-free) in
-      let b : first_place table_free s.tables ≡ found.At (length ts) =
+      let b : first_place table_free s.tables ≡ Some (length ts) =
       ap (first_place table_free) r.tables ∙ filled-first table_free start.tables no_table ts (omega (arith, r.free.tables)) held r.free.tables-free in
       is-definition c s.tables s.entries (definition_bytes id t)
       ∙ (definition-read c s.tables id t back ∙ rw (a, b))
@@ -243,9 +244,9 @@ module _ (start : Store) (c : Connection) (s : Store) (ts : List Table) (es : Li
   unfolding goes_to place_of free_of
   goes =
       let made = read_entry k t e in
-      let a : first_place (keyed_as made) s.entries ≡ found.Nothing =
+      let a : first_place (keyed_as made) s.entries ≡ None =
       ap (first_place (keyed_as made)) r.entries ∙ filled_none (keyed_as made) start.entries es new (none-keyed made start.entries r.free.entries-free) in
-      let b : first_place entry_free s.entries ≡ found.At (length es) =
+      let b : first_place entry_free s.entries ≡ Some (length es) =
       ap (first_place entry_free) r.entries ∙ filled-first entry_free start.entries no_entry es (omega (arith, r.free.entries)) held r.free.entries-free in
       rw (a, b)
 

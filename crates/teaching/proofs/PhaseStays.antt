@@ -1,4 +1,6 @@
 -- Past its handshake a session stays so: no message changes the phase.
+use Rattle.std.specs.Prelude.{Some, None}
+use Rattle.std.specs.Prelude as std
 use Prim.Native.Nat.{ℕ, ◌-◌}
 use native.Mathlib.Omega.{arith}
 use mathlib.Core.Path.{◌≡◌, sym, ap, ◌∙◌}
@@ -9,8 +11,6 @@ use lib.Dec.{ltb, eqb}
 use lib.ListN.{get_or}
 use borrow.Author.Tests.{ne_eqb}
 use Rattle.lists.proofs.Cases.{by-test}
-use Rattle.lists.specs.declared.Found.{Found}
-use Rattle.lists.specs.declared.Found.TheVariants as found
 use Rattle.lists.specs.Lists.{first_place}
 use Rattle.store.specs.declared.Table.{Table}
 use Rattle.store.specs.declared.Entry.{Entry}
@@ -28,8 +28,10 @@ use Rattle.session.specs.Session.{established, is_closed, holding, closed_with, 
 use Rattle.session_soundness.specs.Sound.{sound}
 use Rattle.body.specs.declared.update.Form.{Form}
 use Rattle.body.specs.Fields.{Read, got, failed}
-use Rattle.body.specs.Bodies.{Update, form_of}
-use Rattle.message.specs.Effects.{Effect, refuse_with, refuse, refusal, refuse_body, note, fields_then, control, peer_error, define_at, define_new, define_named, agrees, definition, switch_to, switch, acknowledgement, skipped, with_fields, update_of, update, other_message, by_form, stick_table, commit_at, commit_entry, done}
+use Rattle.body.specs.declared.update.Update.{Update}
+use Rattle.body.specs.Bodies.{form_of}
+use Rattle.message.specs.declared.Effect.{Effect}
+use Rattle.message.specs.Effects.{refuse_with, refuse, refusal, refuse_body, note, fields_then, control, peer_error, define_at, define_new, define_named, agrees, definition, switch_to, switch, acknowledgement, skipped, with_fields, update_of, update, other_message, by_form, stick_table, commit_at, commit_entry, done}
 use Rattle.reassembly.specs.Judge.{Judged, waiting, settled, judge, judge_bytes, frame_judged, done_of}
 use Rattle.streams.specs.Model.{Fed, state_of}
 use Rattle.streams.specs.Calls.{Call, scan}
@@ -61,23 +63,23 @@ module _ (c : Connection) (p : c.phase ≡ established) where
   unfolding define_at bind with_tables
   define-stays id t i = p
 
-  new-stays : (id : ℕ) (t : Table) (f : Found) → Stays (define_new c id t f)
+  new-stays : (id : ℕ) (t : Table) (f : std.Option ℕ) → Stays (define_new c id t f)
   unfolding define_new
-  new-stays id t (found.At i) = define-stays id t i
-  new-stays id t found.Nothing = refuse-stays 26
+  new-stays id t (Some i) = define-stays id t i
+  new-stays id t None = refuse-stays 26
 
-  named-stays : (tables : List Table) (id : ℕ) (t : Table) (f : Found) → Stays (define_named c tables id t f)
+  named-stays : (tables : List Table) (id : ℕ) (t : Table) (f : std.Option ℕ) → Stays (define_named c tables id t f)
   unfolding define_named
-  named-stays tables id t (found.At i) =
+  named-stays tables id t (Some i) =
       by-test (agrees (get_or tables i no_table) t)
       (λ a. rw a (define-stays id t i))
       (λ a. rw a (refuse-stays 25))
-  named-stays tables id t found.Nothing = new-stays id t (first_place table_free tables)
+  named-stays tables id t None = new-stays id t (first_place table_free tables)
 
-  switch-stays : (f : Found) → Stays (switch_to c f)
+  switch-stays : (f : std.Option ℕ) → Stays (switch_to c f)
   unfolding switch_to note make_current with_tables
-  switch-stays (found.At i) = p
-  switch-stays found.Nothing = refuse-stays 27
+  switch-stays (Some i) = p
+  switch-stays None = refuse-stays 27
 
   commit-stays : (id : ℕ) (e : Entry) (q : Place) → Stays (commit_entry c id e q)
   unfolding commit_entry commit_at committed with_tables

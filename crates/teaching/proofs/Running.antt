@@ -27,7 +27,8 @@ use Rattle.body.proofs.DefinitionBack.{definitions-read-back}
 use Rattle.body.proofs.Longest.{definitions-fit, updates-fit}
 use Rattle.message.specs.Changes.{changed}
 use Rattle.message.specs.Targets.{keyed_as}
-use Rattle.message.specs.Effects.{Effect, acknowledge, define_at, commit_at, stick_table, done}
+use Rattle.message.specs.declared.Effect.{Effect}
+use Rattle.message.specs.Effects.{acknowledge, define_at, commit_at, stick_table, done}
 use Rattle.session.specs.declared.Commit.TheVariants as commit
 use Rattle.streams.specs.Model.{byte, Item, bytes, Ended, Ran, ending, feed_all}
 use Rattle.streams.proofs.Basics.{fed-none}

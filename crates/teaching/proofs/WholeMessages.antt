@@ -1,5 +1,6 @@
 -- One whole message of class 10, fed to the model of an open session past its handshake: its first parts wait, and at its last byte it does what
 -- its body says.
+use Rattle.std.specs.Prelude.{Ok, Some}
 use Prim.Native.Nat.{ℕ, ◌+◌, ◌-◌, ◌≤◌}
 use native.Mathlib.Omega.{arith}
 use mathlib.Core.Path.{◌≡◌, refl, sym, ap, ◌∙◌}
@@ -9,7 +10,6 @@ use lib.ListN.{length, take, drop, get_or, length-append}
 use lib.Seq.{drop-append_seam, take_all}
 use borrow.Author.Tests.{ne_eqb}
 use Rattle.lists.proofs.Cases.{split}
-use Rattle.wire.specs.declared.Int.TheVariants as int
 use Rattle.wire.specs.Integer.{encode_int, read_int}
 use Rattle.wire.proofs.RoundTrip.{round_trip}
 use Rattle.frame.specs.declared.Frame.TheVariants as frame
@@ -26,7 +26,8 @@ use Rattle.session_soundness.specs.Sound.{waits, frame_waits}
 use Rattle.session_soundness.proofs.Waiting.{waits-frame}
 use Rattle.body.specs.Encodings.{message_bytes, body_start}
 use Rattle.message.specs.Changes.{changed}
-use Rattle.message.specs.Effects.{Effect, stick_table, done}
+use Rattle.message.specs.declared.Effect.{Effect}
+use Rattle.message.specs.Effects.{stick_table, done}
 use Rattle.reassembly.specs.Judge.{settled, judge, judge_bytes, frame_judged, done_of}
 use Rattle.streams.specs.Model.{answered, Item, bytes, Ended, ending, feed_all}
 use Rattle.streams.proofs.Basics.{fed-quiet, fed-answered}
@@ -41,7 +42,7 @@ module _ (kind : ℕ) (body : List ℕ) (high : 128 ≤ kind) (small : length bo
   unfolding message_bytes body_start
   whole_length = omega (arith, length-append (encode_int (length body)) body)
 
-  length-read : read_int whole 2 ≡ int.Value (length body) (body_start body)
+  length-read : read_int whole 2 ≡ Ok ((length body), (body_start body))
   unfolding message_bytes body_start
   length-read = round_trip (0x0A ∷ kind ∷ []) body (length body) (omega arith)
 
@@ -49,7 +50,7 @@ module _ (kind : ℕ) (body : List ℕ) (high : 128 ≤ kind) (small : length bo
   unfolding body_start
   starts-late = omega arith
 
-  class-is : header_of (get_or whole 0 0) (get_or whole 1 0) ≡ header.StickTable kind
+  class-is : header_of (get_or whole 0 0) (get_or whole 1 0) ≡ Some (header.StickTable kind)
   unfolding message_bytes
   class-is = sym (stick-table 10 kind refl high)
 

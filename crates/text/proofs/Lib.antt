@@ -1,3 +1,1 @@
 pub mod LineWords
-pub mod Prefixes
-pub mod Rooms

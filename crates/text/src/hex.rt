@@ -1,18 +1,16 @@
 // Bytes in hex.
 ghost use Rattle.std.specs.Prelude.{◌≡◌, ◌<◌, ◌/◌, ◌%◌, [], ◌∷◌};
 ghost use Rattle.text.specs.Text.{hex_digit, hex};
-ghost use Rattle.text.specs.Room.{Wrote};
+ghost use Rattle.wire.specs.Writing.{Writes};
 
-use crate::put;
+use wire::writer::Writer;
 
+#[tactic(auto, unfolding(crate::specs::Text::hex_digit))]
 fn hex_digit(d: u8) -> u8
     requires { d < 16 }
     ensures { result ≡ hex_digit d }
 {
-    if d < 10 {
-        return 48 + d;
-    }
-    55 + d
+    if d < 10 { b'0' + d } else { b'A' + (d - 10) }
 }
 
 fn hex_pair(b: u8) -> [u8; 2]
@@ -22,15 +20,10 @@ fn hex_pair(b: u8) -> [u8; 2]
 }
 
 // Each byte as two hex digits.
-pub fn put_hex(room: &mut [u8], at: usize, bytes: &[u8]) -> usize
-    ensures { Wrote room.old at (hex bytes.now) room.new result }
+pub fn put_hex(w: &mut Writer<'_>, bytes: &[u8])
+    ensures { Writes (hex bytes.now) w.old w.new }
 {
-    let mut next = at;
-    let mut i: usize = 0;
-    while i < bytes.len() {
-        let pair = hex_pair(bytes[i]);
-        next = put(room, next, &pair);
-        i += 1;
+    for b in bytes {
+        w.put(&hex_pair(*b));
     }
-    next
 }

@@ -1,5 +1,5 @@
-// Text in a lent room. Each function here and in the crates `listing` and `dump` that takes a room puts its text there from `at` on,
-// as far as the room reaches, and returns the position behind it.
+// Text in a lent room. Each function here and in the crates `listing` and `dump` that takes a `Writer` puts its text behind what that has,
+// as far as its room reaches.
 #![tactic(auto)]
 
 pub mod arguments;
@@ -9,5 +9,11 @@ pub mod input;
 pub mod output;
 pub mod spaced;
 
-// The bytes as they are.
-pub use wire::buffer::put;
+ghost use Rattle.std.specs.Prelude.{◌≡◌, take};
+
+// The first n bytes, or all of them where there are fewer.
+pub fn front(bytes: &[u8], n: usize) -> &[u8]
+    ensures { result.now ≡ take n bytes.now }
+{
+    &bytes[..n.min(bytes.len())]
+}

@@ -4,7 +4,8 @@ ghost use Rattle.std.specs.Prelude.{◌≡◌, true, length};
 ghost use Rattle.text.specs.Room.{fits_behind, place_for};
 ghost use Rattle.text.specs.System.{WrittenAfter, WrittenFor};
 
-// The position behind the text that isn't written yet, and whether all text before it was written.
+// The position behind the text that isn't written yet, and whether all text before it was written: a flag, since lines go on being put after a
+// failed write.
 #[derive(Clone, Copy)]
 pub struct Page {
     pub next: usize,
@@ -12,6 +13,7 @@ pub struct Page {
 }
 
 // Writes the first n bytes, and answers whether they were written.
+#[tactic(auto, unfolding(crate::specs::System::WrittenAfter))]
 pub fn write(rt: &(impl Print + Eprint), out: &[u8], n: usize) -> bool
     ensures { WrittenAfter (length out.now) n true result }
 {
@@ -28,23 +30,19 @@ pub fn write(rt: &(impl Print + Eprint), out: &[u8], n: usize) -> bool
 }
 
 // Whether so many bytes fit behind a position.
+#[tactic(auto, unfolding(crate::specs::Room::fits_behind))]
 fn fits_behind(size: usize, next: usize, most: usize) -> bool
     ensures { result ≡ fits_behind size next most }
 {
-    if size <= next {
-        return false;
-    }
-    most <= size - next
+    next < size && most <= size - next
 }
 
 // Whether all was written once the first n bytes are too. After a failed write none is tried.
+#[tactic(auto, unfolding(crate::specs::System::WrittenAfter))]
 fn write_more(rt: &(impl Print + Eprint), out: &[u8], n: usize, written: bool) -> bool
     ensures { WrittenAfter (length out.now) n written result }
 {
-    if written {
-        return write(rt, out, n);
-    }
-    false
+    written && write(rt, out, n)
 }
 
 // Writes what isn't written yet.
@@ -58,17 +56,13 @@ pub fn flush(rt: &(impl Print + Eprint), out: &[u8], page: Page) -> Page
 
 // The page with room for the next text, of at most so many bytes: as it is if there is room behind `next`, else from the start, and what
 // stands before `next` is written.
+#[tactic(auto, unfolding(crate::specs::Room::place_for, crate::specs::System::WrittenFor))]
 pub fn room_at(rt: &(impl Print + Eprint), out: &[u8], page: Page, most: usize) -> Page
     ensures next_value { result.next ≡ place_for (length out.now) page.next most }
     ensures written_for { WrittenFor (length out.now) page.next most page.written result.written }
 {
-    let next = page.next;
-    if fits_behind(out.len(), next, most) {
-        return Page {
-            next,
-            written: page.written,
-        };
+    if fits_behind(out.len(), page.next, most) {
+        return page;
     }
-    let written = write_more(rt, out, next, page.written);
-    Page { next: 0, written }
+    flush(rt, out, page)
 }

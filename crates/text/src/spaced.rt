@@ -2,50 +2,51 @@
 ghost use Rattle.std.specs.Prelude.{[], ◌∷◌};
 ghost use Rattle.handshake.specs.Bytes.{decimal};
 ghost use Rattle.text.specs.Text.{hex, hex_or_none, signed, spaced};
-ghost use Rattle.text.specs.Room.{Wrote};
+ghost use Rattle.wire.specs.Writing.{Writes};
 
 use crate::decimal::{put_decimal, put_integer};
 use crate::hex::put_hex;
-use crate::put;
+use wire::writer::Writer;
 
 // The bytes as they are.
-pub fn put_word(room: &mut [u8], at: usize, word: &[u8]) -> usize
-    ensures { Wrote room.old at (spaced (word.now ∷ [])) room.new result }
+pub fn put_word(w: &mut Writer<'_>, word: &[u8])
+    ensures { Writes (spaced (word.now ∷ [])) w.old w.new }
 {
-    let next = put(room, at, b" ");
-    put(room, next, word)
+    w.put(b" ");
+    w.put(word);
 }
 
 // The decimal digits of a number.
-pub fn put_decimal_word(room: &mut [u8], at: usize, n: u64) -> usize
-    ensures { Wrote room.old at (spaced (decimal n ∷ [])) room.new result }
+pub fn put_decimal_word(w: &mut Writer<'_>, n: u64)
+    ensures { Writes (spaced (decimal n ∷ [])) w.old w.new }
 {
-    let digits = put(room, at, b" ");
-    put_decimal(room, digits, n)
+    w.put(b" ");
+    put_decimal(w, n);
 }
 
 // Each byte as two hex digits.
-pub fn put_hex_word(room: &mut [u8], at: usize, bytes: &[u8]) -> usize
-    ensures { Wrote room.old at (spaced (hex bytes.now ∷ [])) room.new result }
+pub fn put_hex_word(w: &mut Writer<'_>, bytes: &[u8])
+    ensures { Writes (spaced (hex bytes.now ∷ [])) w.old w.new }
 {
-    let pairs = put(room, at, b" ");
-    put_hex(room, pairs, bytes)
+    w.put(b" ");
+    put_hex(w, bytes);
 }
 
 // The same, or a dash for no bytes.
-pub fn put_hex_or_none(room: &mut [u8], at: usize, bytes: &[u8]) -> usize
-    ensures { Wrote room.old at (spaced (hex_or_none bytes.now ∷ [])) room.new result }
+pub fn put_hex_or_none(w: &mut Writer<'_>, bytes: &[u8])
+    ensures { Writes (spaced (hex_or_none bytes.now ∷ [])) w.old w.new }
 {
     if bytes.len() == 0 {
-        return put_word(room, at, b"-");
+        put_word(w, b"-");
+    } else {
+        put_hex_word(w, bytes);
     }
-    put_hex_word(room, at, bytes)
 }
 
 // A signed number in decimal.
-pub fn put_signed_word(room: &mut [u8], at: usize, n: i32) -> usize
-    ensures { Wrote room.old at (spaced (signed n ∷ [])) room.new result }
+pub fn put_signed_word(w: &mut Writer<'_>, n: i32)
+    ensures { Writes (spaced (signed n ∷ [])) w.old w.new }
 {
-    let sign = put(room, at, b" ");
-    put_integer(room, sign, n)
+    w.put(b" ");
+    put_integer(w, n);
 }

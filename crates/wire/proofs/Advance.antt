@@ -1,13 +1,14 @@
 -- A value read takes at least one byte, at most ten and none past the end, and is below 2^64. Too few bytes are all looked at, and they are
 -- at most nine; of an overflow none past the end is looked at, and at most ten.
+use Rattle.std.specs.Prelude.{Err, Ok, Result}
 use Prim.Native.Nat.{ℕ, zero, suc, ◌+◌, ◌^◌, ◌≤◌, ◌<◌}
 use native.Mathlib.Omega.{arith}
 use mathlib.Core.Path.{◌≡◌, subst}
 use mathlib.Core.List.{List, [], ◌∷◌}
 use lib.ListN.{length, drop, length-drop}
 use borrow.Author.Tests.{lt-ltb, le-ltb}
-use Rattle.wire.specs.declared.Int.{Int}
-use Rattle.wire.specs.declared.Int.TheVariants.{Value, Short, Overflow}
+use Rattle.wire.specs.declared.IntError.{IntError}
+use Rattle.wire.specs.declared.IntError.TheVariants.{Short, Overflow}
 use Rattle.wire.specs.Integer.{Later, ended, cut, endless, before, later_bytes, weighted, with_later, read_first, read_int}
 use Rattle.lists.proofs.Cases.{lt-or-le, split}
 use Rattle.wire.proofs.Read.{fitting-value, fitting-over}
@@ -34,10 +35,10 @@ later-took (suc n) (b ∷ s) =
     (λ l. rw (le-ltb b 128 l) (took-before n (length s) b (later_bytes n s) (later-took n s)))
 
 -- of an integer at position at, where len bytes stand
-Within : ℕ → ℕ → Int → Type 0
-Within at len (Value v next) = (v < 2 ^ 64) × (at < next) × (next ≤ at + 10) × (next ≤ at + len)
-Within at len (Short k) = (k ≡ len) × (k ≤ 9)
-Within at len (Overflow k) = (0 < k) × (k ≤ 10) × (k ≤ len)
+Within : ℕ → ℕ → Result (ℕ × ℕ) IntError → Type 0
+Within at len (Ok (v, next)) = (v < 2 ^ 64) × (at < next) × (next ≤ at + 10) × (next ≤ at + len)
+Within at len (Err (Short k)) = (k ≡ len) × (k ≤ 9)
+Within at len (Err (Overflow k)) = (0 < k) × (k ≤ 10) × (k ≤ len)
 
 within-later : (at len b : ℕ) (l : Later) → Took 9 len l → Within at (suc len) (with_later at b l)
 unfolding Took Within with_later
@@ -56,11 +57,11 @@ first-within at (b ∷ s) =
     (λ l. rw (lt-ltb b 240 l) (omega arith))
     (λ l. rw (le-ltb b 240 l) (within-later at (length s) b (later_bytes 9 s) (later-took 9 s)))
 
-within : (s : List ℕ) (at : ℕ) (i : Int) → read_int s at ≡ i → Within at (length (drop at s)) i
+within : (s : List ℕ) (at : ℕ) (i : (Result (ℕ × ℕ) IntError)) → read_int s at ≡ i → Within at (length (drop at s)) i
 unfolding read_int
 within s at i e = subst (Within at (length (drop at s))) e (first-within at (drop at s))
 
-module _ (s : List ℕ) (at v next : ℕ) (e : read_int s at ≡ Value v next) where
+module _ (s : List ℕ) (at v next : ℕ) (e : read_int s at ≡ Ok (v, next)) where
   -- it takes at least one byte, and none past the end
   pub advance : (at < next) × (next ≤ length s)
   unfolding Within
@@ -77,11 +78,11 @@ module _ (s : List ℕ) (at v next : ℕ) (e : read_int s at ≡ Value v next) w
   value-small = (within s at _ e).0
 
 -- Of too few bytes all were looked at, and they are at most nine.
-pub short-looked : (s : List ℕ) (at k : ℕ) → at ≤ length s → read_int s at ≡ Short k → (at + k ≡ length s) × (k ≤ 9)
+pub short-looked : (s : List ℕ) (at k : ℕ) → at ≤ length s → read_int s at ≡ Err (Short k) → (at + k ≡ length s) × (k ≤ 9)
 unfolding Within
 short-looked s at k h e = let w = within s at _ e in omega (arith, length-drop at s)
 
 -- Of an overflow no byte past the end was looked at, and at most ten.
-pub overflow-inside : (s : List ℕ) (at k : ℕ) → read_int s at ≡ Overflow k → (at + k ≤ length s) × (k ≤ 10)
+pub overflow-inside : (s : List ℕ) (at k : ℕ) → read_int s at ≡ Err (Overflow k) → (at + k ≤ length s) × (k ≤ 10)
 unfolding Within
 overflow-inside s at k e = let w = within s at _ e in omega (arith, length-drop at s)

@@ -1,5 +1,6 @@
 -- More bytes behind, and the position: what was read stays as it was when more bytes follow, and depends only on the bytes from its
 -- position on. For the encoded integer, the 4-byte number, the value with a limit and the server ID.
+use Rattle.std.specs.Prelude.{Err, None, Ok, Option, Result, Some}
 use Prim.Native.Nat.{ℕ, zero, suc, ◌+◌, ◌-◌, ◌^◌, ◌≤◌}
 use native.Mathlib.Omega.{arith}
 use mathlib.Core.Logic.{◌⊎◌, inl, inr}
@@ -8,11 +9,9 @@ use mathlib.Core.List.{List, [], ◌∷◌, ◌++◌}
 use lib.ListN.{length, drop, length-append, length-drop, get_or-append}
 use lib.Seq.{drop-append-le, drop-append-add, get_or-append-add}
 use borrow.Author.Tests.{lt-ltb, le-ltb}
-use Rattle.wire.specs.declared.Int.{Int}
-use Rattle.wire.specs.declared.Int.TheVariants as int
-use Rattle.wire.specs.declared.fixed.FourBytes.{FourBytes}
-use Rattle.wire.specs.declared.fixed.FourBytes.TheVariants as number
-use Rattle.wire.specs.declared.values.ServerId.TheVariants as server
+use Rattle.wire.specs.declared.IntError.{IntError}
+use Rattle.wire.specs.declared.IntError.TheVariants as int
+use Rattle.wire.specs.declared.values.FieldError.TheVariants as server
 use Rattle.wire.specs.Integer.{Later, ended, cut, endless, before, later_bytes, weighted, with_later, read_first, read_int}
 use Rattle.wire.specs.Number.{read_number}
 use Rattle.wire.specs.Server.{server_of, read_server_id}
@@ -30,7 +29,7 @@ later-behind (suc n) (b ∷ s) t =
     (λ l. inr (rw (lt-ltb b 128 l)))
     (λ l. split (later-behind n s t) (λ e. inl (rw (le-ltb b 128 l, e))) (λ e. inr (rw (le-ltb b 128 l, e))))
 
-first-behind : (at : ℕ) (s t : List ℕ) → (read_first at s ≡ int.Short (length s)) ⊎ (read_first at (s ++ t) ≡ read_first at s)
+first-behind : (at : ℕ) (s t : List ℕ) → (read_first at s ≡ Err (int.Short (length s))) ⊎ (read_first at (s ++ t) ≡ read_first at s)
 unfolding read_first with_later
 first-behind at [] t = inl refl
 first-behind at (b ∷ s) t =
@@ -39,24 +38,24 @@ first-behind at (b ∷ s) t =
     (λ l. inr (rw (lt-ltb b 240 l)))
     (λ l. split (later-behind 9 s t) (λ e. inl (rw (le-ltb b 240 l, e, k))) (λ e. inr (rw (le-ltb b 240 l, e))))
 
-pub int-behind : (s t : List ℕ) (at : ℕ) → (read_int s at ≡ int.Short (length s - at)) ⊎ (read_int (s ++ t) at ≡ read_int s at)
+pub int-behind : (s t : List ℕ) (at : ℕ) → (read_int s at ≡ Err (int.Short (length s - at))) ⊎ (read_int (s ++ t) at ≡ read_int s at)
 unfolding read_int
 int-behind s t at =
     split (lt-or-le (length s) at)
     (λ l. let z : 0 ≡ length s - at = omega arith in inl (first-end s at (omega arith) ∙ rw z))
     (λ l. rw (drop-append-le at s t l, ← length-drop at s) (first-behind at (drop at s) t))
 
-pub int-value-behind : (s t : List ℕ) (at v next : ℕ) → read_int s at ≡ int.Value v next → read_int (s ++ t) at ≡ int.Value v next
+pub int-value-behind : (s t : List ℕ) (at v next : ℕ) → read_int s at ≡ Ok (v, next) → read_int (s ++ t) at ≡ Ok (v, next)
 int-value-behind s t at v next e = split (int-behind s t at) (λ q. cc) (λ q. q ∙ e)
 
-pub int-overflow-behind : (s t : List ℕ) (at k : ℕ) → read_int s at ≡ int.Overflow k → read_int (s ++ t) at ≡ int.Overflow k
+pub int-overflow-behind : (s t : List ℕ) (at k : ℕ) → read_int s at ≡ Err (int.Overflow k) → read_int (s ++ t) at ≡ Err (int.Overflow k)
 int-overflow-behind s t at k e = split (int-behind s t at) (λ q. cc) (λ q. q ∙ e)
 
 -- ---- the position: n bytes more before it move the next position by n
-unfoldable pub moved_int : ℕ → Int → Int
-moved_int n (int.Value v next) = int.Value v (n + next)
-moved_int n (int.Short k) = int.Short k
-moved_int n (int.Overflow k) = int.Overflow k
+unfoldable pub moved_int : ℕ → Result (ℕ × ℕ) IntError → Result (ℕ × ℕ) IntError
+moved_int n (Ok (v, next)) = Ok (v, (n + next))
+moved_int n (Err (int.Short k)) = Err (int.Short k)
+moved_int n (Err (int.Overflow k)) = Err (int.Overflow k)
 
 moved_later : (n at b : ℕ) (l : Later) → with_later (n + at) b l ≡ moved_int n (with_later at b l)
 unfolding with_later moved_int
@@ -81,7 +80,7 @@ unfolding read_int
 int-moved p s at = rw (drop-append-add p s at) (moved-first (length p) at (drop at s))
 
 -- ---- the 4-byte number
-pub number_behind : (s t : List ℕ) (at : ℕ) → (read_number s at ≡ number.Short) ⊎ (read_number (s ++ t) at ≡ read_number s at)
+pub number_behind : (s t : List ℕ) (at : ℕ) → (read_number s at ≡ None) ⊎ (read_number (s ++ t) at ≡ read_number s at)
 number_behind s t at =
     split (lt-or-le (length s) (at + 4))
     (λ l. inl (number_short s at l))
@@ -91,12 +90,12 @@ number_behind s t at =
     (number-value (s ++ t) at k
     ∙ rw (get_or-append s t 0 at (omega arith), get_or-append s t 0 (at + 1) (omega arith), get_or-append s t 0 (at + 2) (omega arith), get_or-append s t 0 (at + 3) (omega arith)) (sym (number-value s at l))))
 
-pub number-value-behind : (s t : List ℕ) (at v next : ℕ) → read_number s at ≡ number.Value v next → read_number (s ++ t) at ≡ number.Value v next
+pub number-value-behind : (s t : List ℕ) (at v next : ℕ) → read_number s at ≡ Some (v, next) → read_number (s ++ t) at ≡ Some (v, next)
 number-value-behind s t at v next e = split (number_behind s t at) (λ q. cc) (λ q. q ∙ e)
 
-unfoldable pub moved_number : ℕ → FourBytes → FourBytes
-moved_number n (number.Value v next) = number.Value v (n + next)
-moved_number n number.Short = number.Short
+unfoldable pub moved_number : ℕ → Option (ℕ × ℕ) → Option (ℕ × ℕ)
+moved_number n (Some (v, next)) = Some (v, (n + next))
+moved_number n None = None
 
 pub number-moved : (p s : List ℕ) (at : ℕ) → read_number (p ++ s) (length p + at) ≡ moved_number (length p) (read_number s at)
 unfolding moved_number
@@ -113,6 +112,6 @@ number-moved p s at =
     ∙ rw (e₁, e₂, e₃, e₄, get_or-append-add p s at 0, get_or-append-add p s (at + 1) 0, get_or-append-add p s (at + 2) 0, get_or-append-add p s (at + 3) 0, number-value s at l))
 
 -- ---- the server ID
-pub server-behind : (s t : List ℕ) (at : ℕ) → (read_server_id s at ≡ server.Short) ⊎ (read_server_id (s ++ t) at ≡ read_server_id s at)
+pub server-behind : (s t : List ℕ) (at : ℕ) → (read_server_id s at ≡ (Err server.Short)) ⊎ (read_server_id (s ++ t) at ≡ read_server_id s at)
 unfolding read_server_id server_of
 server-behind s t at = split (int-behind s t at) (λ e. inl (rw e)) (λ e. inr (rw e))

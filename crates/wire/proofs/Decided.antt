@@ -1,4 +1,5 @@
 -- The bytes that were looked at decide an integer: whatever stands behind them makes no difference.
+use Rattle.std.specs.Prelude.{Err, Ok, Result}
 use Prim.Native.Nat.{ℕ, zero, suc, ◌+◌, ◌^◌, ◌≤◌, ◌<◌}
 use native.Mathlib.Omega.{arith}
 use mathlib.Core.Logic.{◌⊎◌, inl, inr}
@@ -7,8 +8,8 @@ use mathlib.Core.List.{List, [], ◌∷◌, ◌++◌}
 use lib.ListN.{length, take, drop, length-drop, length-take, take-append-drop}
 use lib.Seq.{drop-append-le}
 use borrow.Author.Tests.{lt-ltb, le-ltb}
-use Rattle.wire.specs.declared.Int.{Int}
-use Rattle.wire.specs.declared.Int.TheVariants.{Value, Short, Overflow}
+use Rattle.wire.specs.declared.IntError.{IntError}
+use Rattle.wire.specs.declared.IntError.TheVariants.{Short, Overflow}
 use Rattle.wire.specs.Integer.{Later, ended, cut, endless, before, later_bytes, weighted, with_later, read_first, read_int}
 use Rattle.lists.proofs.Cases.{lt-or-le, split}
 use Rattle.wire.proofs.Read.{fitting-value, fitting-over}
@@ -54,10 +55,10 @@ later-past (suc n) (b ∷ s) t =
     (λ e. inr (rw (le-ltb b 128 l, e))))
 
 -- an integer at position at, if it isn't short, was looked at past position p
-unfoldable pub Past : ℕ → ℕ → Int → Type 0
-Past at p (Value v next) = p < next
-Past at p (Short k) = Unit {0}
-Past at p (Overflow k) = p < at + k
+unfoldable pub Past : ℕ → ℕ → Result (ℕ × ℕ) IntError → Type 0
+Past at p (Ok (v, next)) = p < next
+Past at p (Err (Short k)) = Unit {0}
+Past at p (Err (Overflow k)) = p < at + k
 
 past-later : (at k b : ℕ) (l : Later) → AtLeast 9 k l → Past at (at + k) (with_later at b l)
 unfolding AtLeast Past with_later
@@ -95,7 +96,7 @@ int-past s t at h =
     rw (drop-append-le at s t h, ← e) (first_past at (drop at s) t)
 
 -- ---- the first m bytes decide, where none past them was looked at
-module _ (s : List ℕ) (at m : ℕ) (i : Int) (e : read_int s at ≡ i) where
+module _ (s : List ℕ) (at m : ℕ) (i : (Result (ℕ × ℕ) IntError)) (e : read_int s at ≡ i) where
   first-bytes : at ≤ length (take m s) → (Past at (length (take m s)) i → ⊥) → read_int (take m s) at ≡ i
   first-bytes h never =
       let both : take m s ++ drop m s ≡ s = take-append-drop m s in
@@ -104,7 +105,7 @@ module _ (s : List ℕ) (at m : ℕ) (i : Int) (e : read_int s at ≡ i) where
       (λ q. sym q ∙ rw both e)
 
 -- A value is decided by the bytes before its next position.
-pub value-decided : (s t : List ℕ) (at v next m : ℕ) → next ≤ m → read_int s at ≡ Value v next → read_int (take m s ++ t) at ≡ Value v next
+pub value-decided : (s t : List ℕ) (at v next m : ℕ) → next ≤ m → read_int s at ≡ Ok (v, next) → read_int (take m s ++ t) at ≡ Ok (v, next)
 unfolding Past
 value-decided s t at v next m h e =
     let a = advance s at v next e in
@@ -112,7 +113,7 @@ value-decided s t at v next m h e =
     int-value-behind (take m s) t at v next (first-bytes s at m _ e (omega arith) (λ p. omega arith))
 
 -- An overflow is decided by the bytes that were looked at.
-pub overflow-decided : (s t : List ℕ) (at k m : ℕ) → at + k ≤ m → read_int s at ≡ Overflow k → read_int (take m s ++ t) at ≡ Overflow k
+pub overflow-decided : (s t : List ℕ) (at k m : ℕ) → at + k ≤ m → read_int s at ≡ Err (Overflow k) → read_int (take m s ++ t) at ≡ Err (Overflow k)
 unfolding Past
 overflow-decided s t at k m h e =
     let a = overflow-inside s at k e in

@@ -1,3 +1,4 @@
+pub mod Writing
 pub mod Read
 pub mod Reading
 pub mod Write

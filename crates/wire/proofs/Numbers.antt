@@ -1,43 +1,33 @@
 -- The 4-byte number: a law for each way through `read_number` and `write_number`, and the round trip both ways.
+use Rattle.std.specs.Prelude.{None, Option, Some}
 use Prim.Native.Nat.{ℕ, suc, ◌+◌, ◌*◌, ◌-◌, ◌/◌, ◌%◌, ◌^◌, ◌≤◌, ◌<◌}
 use native.Mathlib.Omega.{arith}
-use mathlib.Core.Path.{◌≡◌, refl, sym, subst, ◌∙◌}
+use mathlib.Core.Path.{◌≡◌, refl, sym, ap, subst, ◌∙◌}
 use mathlib.Core.List.{List, [], ◌∷◌, ◌++◌}
-use lib.ListN.{length, get_or, take, drop, length-append}
-use lib.Seq.{get_or-append-add, drop-cons}
+use lib.ListN.{length, get_or, take, drop, length-append, length-drop}
+use lib.Seq.{get_or-append-add, drop-cons, take_all}
 use borrow.Author.Rules.{rules}
 use borrow.Author.Tests.{le-leb, lt-leb}
-use Rattle.wire.specs.declared.fixed.FourBytes.{FourBytes}
-use Rattle.wire.specs.declared.fixed.FourBytes.TheVariants.{Value, Short}
 use Rattle.wire.specs.Number.{number_of, read_number, encode_number}
 use Rattle.wire.specs.Value.{Bytes}
 use Rattle.lists.proofs.Cases.{lt-or-le, split}
 
 module _ (s : List ℕ) (at : ℕ) where
-  pub number_short : length s < at + 4 → read_number s at ≡ Short
+  pub number_short : length s < at + 4 → read_number s at ≡ None
   unfolding read_number
   number_short h = rw (lt-leb (at + 4) (length s) h)
 
-  pub number-value : at + 4 ≤ length s → read_number s at ≡ Value (number_of (get_or s at 0) (get_or s (at + 1) 0) (get_or s (at + 2) 0) (get_or s (at + 3) 0)) (at + 4)
+  pub number-value : at + 4 ≤ length s → read_number s at ≡ Some ((number_of (get_or s at 0) (get_or s (at + 1) 0) (get_or s (at + 2) 0) (get_or s (at + 3) 0)), (at + 4))
   unfolding read_number
   number-value h = rw (le-leb (at + 4) (length s) h)
 
-  pub past : length s < at → Short ≡ read_number s at
-  past h = sym (number_short (omega arith))
+pub past : (s : List ℕ) (at : ℕ) → length s < at → None ≡ read_number s at
+past s at h = sym (number_short s at (omega arith))
 
-  pub few : length s - at < 4 → Short ≡ read_number s at
-  few h = sym (number_short (omega arith))
+pub few : (s part : List ℕ) (at : ℕ) → length part + at ≡ length s → length part < 4 → None ≡ read_number s at
+few s part at e h = sym (number_short s at (omega arith))
 
-  pub four : (a b c d : ℕ) → at ≤ length s → 4 ≤ length s - at → a ≡ get_or s at 0 → b ≡ get_or s (at + 1) 0 → c ≡ get_or s (at + 2) 0 → d ≡ get_or s (at + 3) 0
-      → Value (a * 0x1000000 + b * 0x10000 + c * 0x100 + d) (at + 4) ≡ read_number s at
-  unfolding number_of
-  four a b c d h l ea eb ec ed = sym (number-value (omega arith) ∙ rw (← ea, ← eb, ← ec, ← ed))
-
-pub number-bytes : (v : ℕ) → v / 0x1000000 % 256 ∷ v / 0x10000 % 256 ∷ v / 0x100 % 256 ∷ v % 256 ∷ [] ≡ encode_number v
-unfolding encode_number
-number-bytes v = refl
-
-pub ruleset numbers = (rules, past, few, four, number-bytes)
+pub ruleset numbers = (rules, past, few)
 
 pub number-length : (v : ℕ) → length (encode_number v) ≡ 4
 unfolding encode_number
@@ -53,7 +43,7 @@ decode-encode v h =
     omega arith
 
 -- Reading what was written gives the number and the position after it, whatever stands before and behind.
-pub number-trip : (p t : List ℕ) (v : ℕ) → v < 2 ^ 32 → read_number (p ++ (encode_number v ++ t)) (length p) ≡ Value v (length p + 4)
+pub number-trip : (p t : List ℕ) (v : ℕ) → v < 2 ^ 32 → read_number (p ++ (encode_number v ++ t)) (length p) ≡ Some (v, (length p + 4))
 unfolding encode_number
 number-trip p t v h =
     let q : List ℕ = encode_number v ++ t in
@@ -86,9 +76,19 @@ four-taken s at h =
     let e₃ : at + 3 ≡ suc (suc (suc at)) = omega arith in
     rw (e₁, e₂, e₃, drop-cons s at 0 (omega arith), drop-cons s (suc at) 0 (omega arith), drop-cons s (suc (suc at)) 0 (omega arith), drop-cons s (suc (suc (suc at))) 0 (omega arith))
 
-Own : ℕ → List ℕ → FourBytes → Type 0
-Own at s (Value v next) = (v < 2 ^ 32) × (next ≡ at + 4) × (next ≤ length s) × (take 4 (drop at s) ≡ encode_number v)
-Own at s Short = Unit {0}
+-- what `read_number` returns, of the first four bytes of those from `at` on
+pub four : (s part bytes : List ℕ) (at r : ℕ) → at ≤ length s → part ≡ take (length s - at) (drop at s) → 4 ≤ length part → bytes ≡ take 4 part
+    → r ≡ get_or bytes 0 0 * 0x1000000 + get_or bytes 1 0 * 0x10000 + get_or bytes 2 0 * 0x100 + get_or bytes 3 0 → Some (r, (at + 4)) ≡ read_number s at
+unfolding number_of
+four s part bytes at r h p l b e =
+    let q : part ≡ drop at s = p ∙ take_all (length s - at) (drop at s) (omega (arith, length-drop at s)) in
+    let k : at + 4 ≤ length s = omega (arith, ap length q, length-drop at s) in
+    let z = b ∙ ap (take 4) q ∙ four-taken s at k in
+    sym (number-value s at k ∙ rw (e, z))
+
+Own : ℕ → List ℕ → Option (ℕ × ℕ) → Type 0
+Own at s (Some (v, next)) = (v < 2 ^ 32) × (next ≡ at + 4) × (next ≤ length s) × (take 4 (drop at s) ≡ encode_number v)
+Own at s None = Unit {0}
 
 own : (s : List ℕ) (at : ℕ) → Bytes s → Own at s (read_number s at)
 unfolding Own
@@ -104,7 +104,7 @@ own s at h =
     ))
 
 -- Bytes that read as v are exactly the four bytes of v.
-pub number-own : (s : List ℕ) (at v next : ℕ) → Bytes s → read_number s at ≡ Value v next
+pub number-own : (s : List ℕ) (at v next : ℕ) → Bytes s → read_number s at ≡ Some (v, next)
     → (v < 2 ^ 32) × (next ≡ at + 4) × (next ≤ length s) × (take 4 (drop at s) ≡ encode_number v)
 unfolding Own
 number-own s at v next h e = subst (Own at s) e (own s at h)

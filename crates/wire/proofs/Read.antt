@@ -1,4 +1,5 @@
 -- Reading, case by case, at a position of a list.
+use Rattle.std.specs.Prelude.{Err, Ok, Result}
 use Prim.Native.Nat.{ℕ, suc, ◌+◌, ◌*◌, ◌-◌, ◌^◌, ◌≤◌, ◌<◌}
 use native.Mathlib.Omega.{arith}
 use native.Mathlib.Numerals.{add-one}
@@ -9,25 +10,25 @@ use lib.Dec.{lit<}
 use lib.ListN.{length, get_or, drop, drop_of_length-le}
 use lib.Seq.{drop-cons}
 use borrow.Author.Tests.{lt-ltb, le-ltb}
-use Rattle.wire.specs.declared.Int.{Int}
-use Rattle.wire.specs.declared.Int.TheVariants.{Value, Short, Overflow}
+use Rattle.wire.specs.declared.IntError.{IntError}
+use Rattle.wire.specs.declared.IntError.TheVariants.{Short, Overflow}
 use Rattle.wire.specs.Integer.{Later, ended, cut, endless, before, later_bytes, weighted, fitting, with_later, read_first, read_int, tenth_byte}
 use Rattle.lists.proofs.Cases.{lt-or-le, split}
 
 -- ---- a value fits, or not
-pub fitting-value : (v n next : ℕ) → v < 2 ^ 64 → fitting v n next ≡ Value v next
+pub fitting-value : (v n next : ℕ) → v < 2 ^ 64 → fitting v n next ≡ Ok (v, next)
 unfolding fitting
 fitting-value v n next h = let l : v ≤ 2 ^ 64 - 1 = omega arith in simp (le-ltb _ _ l)
 
-pub fitting-over : (v n next : ℕ) → 2 ^ 64 ≤ v → fitting v n next ≡ Overflow n
+pub fitting-over : (v n next : ℕ) → 2 ^ 64 ≤ v → fitting v n next ≡ Err (Overflow n)
 unfolding fitting
 fitting-over v n next h = let l : 2 ^ 64 - 1 < v = omega arith in simp (lt-ltb _ _ l)
 
 -- ---- the integer of which the k + 1 bytes below position i give acc, and the later bytes from number k on are these
-unfoldable pub whole : ℕ → ℕ → ℕ → Later → Int
+unfoldable pub whole : ℕ → ℕ → ℕ → Later → Result (ℕ × ℕ) IntError
 whole acc k i (ended bs) = fitting (acc + weighted k bs) (k + 1 + length bs) (i + length bs)
-whole acc k i (cut j) = Short (k + 1 + j)
-whole acc k i endless = Overflow 10
+whole acc k i (cut j) = Err (Short (k + 1 + j))
+whole acc k i endless = Err (Overflow 10)
 
 pub whole-first : (at first : ℕ) (l : Later) → with_later at first l ≡ whole first 0 (at + 1) l
 unfolding whole with_later
@@ -47,7 +48,7 @@ whole_before acc k i b endless = refl
 
 -- ---- at position i of s, where the byte is number k, of at most n
 module _ (s : List ℕ) (i n m acc k : ℕ) (e : n ≡ suc m) where
-  pub at-end : length s ≤ i → whole acc k i (later_bytes n (drop i s)) ≡ Short (k + 1)
+  pub at-end : length s ≤ i → whole acc k i (later_bytes n (drop i s)) ≡ Err (Short (k + 1))
   unfolding whole later_bytes
   at-end h = let z : k + 1 + 0 ≡ k + 1 = omega arith in rw (e, drop_of_length-le s h, z)
 
@@ -65,11 +66,11 @@ module _ (s : List ℕ) (i n m acc k : ℕ) (e : n ≡ suc m) where
     at_more l = rw (e, drop-cons s i 0 h, ← q, le-ltb b 128 l, add-one i) (rw (← add-one i) (whole_before acc k i b _))
 
 -- ---- the first byte
-pub first-end : (s : List ℕ) (at : ℕ) → length s ≤ at → read_int s at ≡ Short 0
+pub first-end : (s : List ℕ) (at : ℕ) → length s ≤ at → read_int s at ≡ Err (Short 0)
 unfolding read_int read_first
 first-end s at h = rw (drop_of_length-le s h)
 
-pub first_alone : (s : List ℕ) (at b : ℕ) → b ≡ get_or s at 0 → at < length s → b < 240 → read_int s at ≡ Value b (at + 1)
+pub first_alone : (s : List ℕ) (at b : ℕ) → b ≡ get_or s at 0 → at < length s → b < 240 → read_int s at ≡ Ok (b, (at + 1))
 unfolding read_int read_first
 first_alone s at b q h l = rw (drop-cons s at 0 h, ← q, lt-ltb b 240 l)
 
@@ -80,7 +81,7 @@ first_more s at b q h l = rw (drop-cons s at 0 h, ← q, le-ltb b 240 l, add-one
 
 -- ---- the tenth byte
 module _ (s : List ℕ) (i value : ℕ) where
-  pub tenth-end : length s ≤ i → tenth_byte value i (drop i s) ≡ Short 9
+  pub tenth-end : length s ≤ i → tenth_byte value i (drop i s) ≡ Err (Short 9)
   unfolding tenth_byte
   tenth-end h = rw (drop_of_length-le s h)
 
@@ -89,7 +90,7 @@ module _ (s : List ℕ) (i value : ℕ) where
     unfolding tenth_byte
     tenth-low l = rw (drop-cons s i 0 h, ← q, lt-ltb b 128 l)
 
-    pub tenth-high : 128 ≤ b → tenth_byte value i (drop i s) ≡ Overflow 10
+    pub tenth-high : 128 ≤ b → tenth_byte value i (drop i s) ≡ Err (Overflow 10)
     unfolding tenth_byte
     tenth-high l = rw (drop-cons s i 0 h, ← q, le-ltb b 128 l)
 

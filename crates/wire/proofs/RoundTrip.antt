@@ -1,4 +1,5 @@
 -- Reading what was written gives the value back, and only a value's encoding reads as it.
+use Rattle.std.specs.Prelude.{Err, Ok, Result}
 use Prim.Native.Nat.{ℕ, zero, suc, ◌+◌, ◌*◌, ◌-◌, ◌/◌, ◌%◌, ◌^◌, ◌≤◌, ◌<◌}
 use native.Mathlib.Omega.{arith}
 use native.Mathlib.Nat.{pow-suc}
@@ -7,8 +8,8 @@ use mathlib.Core.List.{List, [], ◌∷◌, ◌++◌}
 use lib.ListN.{length, take, drop}
 use lib.Seq.{drop-append_seam}
 use borrow.Author.Tests.{lt-ltb, le-ltb}
-use Rattle.wire.specs.declared.Int.{Int}
-use Rattle.wire.specs.declared.Int.TheVariants.{Value, Short, Overflow}
+use Rattle.wire.specs.declared.IntError.{IntError}
+use Rattle.wire.specs.declared.IntError.TheVariants.{Short, Overflow}
 use Rattle.wire.specs.Integer.{encode_rest, encode_int, Later, ended, cut, endless, before, later_bytes, weighted, with_later, read_first, read_int}
 use Rattle.wire.specs.Value.{Bytes}
 use Rattle.lists.proofs.Cases.{lt-or-le, split}
@@ -46,7 +47,7 @@ rest_ended (suc m) y t h =
     let b≥ : 128 ≤ 128 + y % 128 = omega arith in
     rw (rest_more (suc (suc m)) (suc m) y refl l, le-ltb (128 + y % 128) 128 b≥, rest_ended m ((y - 128) / 128) t (shrinks (suc (suc m)) (suc m) y refl h)))
 
-first-trip : (v at : ℕ) (t : List ℕ) → v < 2 ^ 64 → read_first at (encode_int v ++ t) ≡ Value v (at + length (encode_int v))
+first-trip : (v at : ℕ) (t : List ℕ) → v < 2 ^ 64 → read_first at (encode_int v ++ t) ≡ Ok (v, (at + length (encode_int v)))
 unfolding read_first with_later
 first-trip v at t h =
     split (lt-or-le v 240)
@@ -59,7 +60,7 @@ first-trip v at t h =
     rw (int-more v l, le-ltb (240 + v % 16) 240 b≥, rest_ended 8 ((v - 240) / 16) t y<, rest-weighted 8 0 ((v - 240) / 16) y<) (rw (e, k) (fitting-value _ _ _ h)))
 
 -- Reading what was written gives the value and the position after it, whatever stands before and behind.
-pub round_trip : (p t : List ℕ) (v : ℕ) → v < 2 ^ 64 → read_int (p ++ (encode_int v ++ t)) (length p) ≡ Value v (length p + length (encode_int v))
+pub round_trip : (p t : List ℕ) (v : ℕ) → v < 2 ^ 64 → read_int (p ++ (encode_int v ++ t)) (length p) ≡ Ok (v, (length p + length (encode_int v)))
 unfolding read_int
 round_trip p t v h = rw (drop-append_seam p (encode_int v ++ t)) (first-trip v (length p) t h)
 
@@ -102,10 +103,10 @@ later-kept (suc n) (b ∷ s) h =
     (λ l. rw (le-ltb b 128 l) (kept-before n b s (later_bytes n s) l (h.byte 0) (later-kept n s (tail-bytes h))))
 
 -- the same of the integer at position at, where s is what stands there
-Own : ℕ → List ℕ → Int → Type 0
-Own at s (Value v next) = (next ≡ at + length (encode_int v)) × (take (length (encode_int v)) s ≡ encode_int v)
-Own at s (Short k) = Unit {0}
-Own at s (Overflow k) = Unit {0}
+Own : ℕ → List ℕ → Result (ℕ × ℕ) IntError → Type 0
+Own at s (Ok (v, next)) = (next ≡ at + length (encode_int v)) × (take (length (encode_int v)) s ≡ encode_int v)
+Own at s (Err (Short k)) = Unit {0}
+Own at s (Err (Overflow k)) = Unit {0}
 
 own-later : (at b : ℕ) (s : List ℕ) (l : Later) → 240 ≤ b → b < 256 → Kept 9 s l → Own at (b ∷ s) (with_later at b l)
 unfolding Kept Own with_later
@@ -133,7 +134,7 @@ first-own at (b ∷ s) h =
     (λ l. rw (le-ltb b 240 l) (own-later at b s (later_bytes 9 s) l (h.byte 0) (later-kept 9 s (tail-bytes h))))
 
 -- Bytes that read as v are exactly the encoding of v: every 64-bit number has one encoding.
-pub one-encoding : (s : List ℕ) (at v next : ℕ) → Bytes s → read_int s at ≡ Value v next
+pub one-encoding : (s : List ℕ) (at v next : ℕ) → Bytes s → read_int s at ≡ Ok (v, next)
     → (next ≡ at + length (encode_int v)) × (take (length (encode_int v)) (drop at s) ≡ encode_int v)
 unfolding read_int Own
 one-encoding s at v next h e = subst (Own at (drop at s)) e (first-own at (drop at s) (drop-bytes at h))

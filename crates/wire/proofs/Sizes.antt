@@ -5,7 +5,7 @@ use mathlib.Core.Path.{◌≡◌, refl, ap, ◌∙◌}
 use mathlib.Core.List.{List, [], ◌∷◌}
 use lib.ListN.{length, get_or, drop}
 use lib.Seq.{get_or-drop}
-use Rattle.wire.specs.Integer.{encode_rest, encode_int, smallest, encoded_int}
+use Rattle.wire.specs.Integer.{encode_rest, encode_int, smallest}
 use Rattle.wire.specs.Value.{Bytes}
 use Rattle.lists.proofs.Cases.{lt-or-le, split}
 use Rattle.wire.proofs.Write.{rest-last, rest_more, int_alone, int-more}
@@ -27,10 +27,6 @@ int-length v =
 
 pub int-some : (v : ℕ) → 1 ≤ length (encode_int v)
 int-some v = split (lt-or-le v 240) (λ l. rw (int_alone v l) (omega arith)) (λ l. rw (int-more v l) (omega arith))
-
-pub encoded-len : (v : ℕ) → ((encoded_int v).len ≡ length (encode_int v)) × ((encoded_int v).len ≤ 10)
-unfolding encoded_int
-encoded-len v = (refl, int-length v)
 
 -- ---- they are bytes
 pub none-bytes : Bytes []

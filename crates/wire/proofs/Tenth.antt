@@ -1,4 +1,5 @@
 -- An overflow shows at the tenth byte.
+use Rattle.std.specs.Prelude.{Err, Ok, Result}
 use Prim.Native.Nat.{ℕ, zero, suc, ◌+◌, ◌*◌, ◌^◌, ◌≤◌, ◌<◌}
 use native.Mathlib.Omega.{arith}
 use native.Mathlib.Nat.{pow-suc, mul-le-mul_left}
@@ -6,8 +7,8 @@ use mathlib.Core.Path.{◌≡◌, refl, subst}
 use mathlib.Core.List.{List, [], ◌∷◌}
 use lib.ListN.{length, drop}
 use borrow.Author.Tests.{lt-ltb, le-ltb}
-use Rattle.wire.specs.declared.Int.{Int}
-use Rattle.wire.specs.declared.Int.TheVariants.{Value, Short, Overflow}
+use Rattle.wire.specs.declared.IntError.{IntError}
+use Rattle.wire.specs.declared.IntError.TheVariants.{Short, Overflow}
 use Rattle.wire.specs.Integer.{Later, ended, cut, endless, before, later_bytes, weighted, with_later, read_first, read_int}
 use Rattle.wire.specs.Value.{Bytes}
 use Rattle.lists.proofs.Cases.{lt-or-le, split}
@@ -59,10 +60,10 @@ later-known (suc n) (b ∷ s) h =
     (λ l. let k : 1 ≤ suc n = omega arith in rw (lt-ltb b 128 l) (cons-bytes (h.byte 0) none-bytes, k))
     (λ l. rw (le-ltb b 128 l) (known-before n b (later_bytes n s) (h.byte 0) (later-known n s (tail-bytes h))))
 
-Told : Int → Type 0
-Told (Value v next) = Unit {0}
-Told (Short k) = Unit {0}
-Told (Overflow k) = k ≡ 10
+Told : Result (ℕ × ℕ) IntError → Type 0
+Told (Ok (v, next)) = Unit {0}
+Told (Err (Short k)) = Unit {0}
+Told (Err (Overflow k)) = k ≡ 10
 
 told-later : (at b : ℕ) (l : Later) → b < 256 → Known 9 l → Told (with_later at b l)
 unfolding Known Told with_later
@@ -85,7 +86,7 @@ first-told at (b ∷ s) h =
     (λ l. rw (le-ltb b 240 l) (told-later at b (later_bytes 9 s) (h.byte 0) (later-known 9 s (tail-bytes h))))
 
 -- An overflow shows at the tenth byte.
-pub overflow-looked : (s : List ℕ) (at k : ℕ) → Bytes s → read_int s at ≡ Overflow k → (k ≡ 10) × (at + 10 ≤ length s)
+pub overflow-looked : (s : List ℕ) (at k : ℕ) → Bytes s → read_int s at ≡ Err (Overflow k) → (k ≡ 10) × (at + 10 ≤ length s)
 unfolding read_int Told
 overflow-looked s at k h e =
     let t : k ≡ 10 = subst Told e (first-told at (drop at s) (drop-bytes at h)) in

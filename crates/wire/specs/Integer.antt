@@ -1,8 +1,8 @@
 -- "The encoded integer" of document 01, sentence by sentence.
-use Rattle.std.specs.Prelude.{ℕ, zero, suc, ◌+◌, ◌*◌, ◌-◌, ◌/◌, ◌%◌, ◌^◌, List, [], ◌∷◌, ◌++◌, cond, ltb, length, drop, replicate}
-use Rattle.wire.specs.declared.Int.{Int}
-use Rattle.wire.specs.declared.Int.TheVariants as int
-use Rattle.wire.specs.declared.Encoded.{Encoded}
+use Rattle.std.specs.Prelude.{ℕ, zero, suc, ◌+◌, ◌*◌, ◌-◌, ◌/◌, ◌%◌, ◌^◌, List, [], ◌∷◌, cond, ltb, length, drop, Err, Ok, Result}
+use Rattle.wire.specs.declared.IntError.{IntError}
+use Rattle.wire.specs.declared.IntError.TheVariants as int
+use Rattle.lists.specs.declared.inline.Bytes.{Bytes}
 
 -- ---- writing
 
@@ -46,23 +46,23 @@ weighted k [] = 0
 weighted k (b ∷ bs) = 16 * 128 ^ k * b + weighted (suc k) bs
 
 -- "A value over 2^64 - 1, .. is an overflow." The value v of an encoding of n bytes that ends before position `next`.
-unfoldable pub fitting : ℕ → ℕ → ℕ → Int
-fitting v n next = cond (ltb (2 ^ 64 - 1) v) (int.Overflow n) (int.Value v next)
+unfoldable pub fitting : ℕ → ℕ → ℕ → Result (ℕ × ℕ) IntError
+fitting v n next = cond (ltb (2 ^ 64 - 1) v) (Err (int.Overflow n)) (Ok (v, next))
 
 -- The integer at position `at` whose first byte is `first`. "A value over 2^64 - 1, or a tenth byte of 128 or more, is an overflow."
-unfoldable pub with_later : ℕ → ℕ → Later → Int
+unfoldable pub with_later : ℕ → ℕ → Later → Result (ℕ × ℕ) IntError
 with_later at first (ended bs) = fitting (first + weighted 0 bs) (1 + length bs) (at + 1 + length bs)
-with_later at first (cut k) = int.Short (1 + k)
-with_later at first endless = int.Overflow 10
+with_later at first (cut k) = Err (int.Short (1 + k))
+with_later at first endless = Err (int.Overflow 10)
 
 -- ".. a first byte below 240 stands alone; .." An encoding has at most ten bytes, so at most nine later ones.
 -- The list is what stands from position `at` on.
-unfoldable pub read_first : ℕ → List ℕ → Int
-read_first at [] = int.Short 0
-read_first at (b ∷ s) = cond (ltb b 240) (int.Value b (at + 1)) (with_later at b (later_bytes 9 s))
+unfoldable pub read_first : ℕ → List ℕ → Result (ℕ × ℕ) IntError
+read_first at [] = Err (int.Short 0)
+read_first at (b ∷ s) = cond (ltb b 240) (Ok (b, (at + 1))) (with_later at b (later_bytes 9 s))
 
 -- The encoded integer at position `at` of s: its value and the position after it. From the end on it is short of its first byte.
-unfoldable pub read_int : List ℕ → ℕ → Int
+unfoldable pub read_int : List ℕ → ℕ → Result (ℕ × ℕ) IntError
 read_int s at = read_first at (drop at s)
 
 -- ---- the smallest value of each length
@@ -72,11 +72,11 @@ unfoldable pub smallest : List ℕ
 smallest =
     0 ∷ 240 ∷ 2288 ∷ 264432 ∷ 33818864 ∷ 4328786160 ∷ 554084600048 ∷ 70922828777712 ∷ 9078122083518704 ∷ 1161999626690365680 ∷ []
 
--- ---- the struct that `write_int` returns: the bytes, zeros up to ten, and how many they are
-unfoldable pub encoded_int : ℕ → Encoded
-encoded_int v = record { bytes = encode_int v ++ replicate (10 - length (encode_int v)) 0; len = length (encode_int v) }
+-- ---- what `write_int` returns: the bytes, at most ten
+abbrev pub encoded_int : ℕ → Bytes 10
+encoded_int v = encode_int v
 
 -- ---- `tenth_byte`, private: the integer whose first nine bytes, read backwards, give `value`, where the list is what follows them
-unfoldable pub tenth_byte : ℕ → ℕ → List ℕ → Int
-tenth_byte value at [] = int.Short 9
-tenth_byte value at (b ∷ s) = cond (ltb b 128) (fitting (value + 16 * 128 ^ 8 * b) 10 (at + 1)) (int.Overflow 10)
+unfoldable pub tenth_byte : ℕ → ℕ → List ℕ → Result (ℕ × ℕ) IntError
+tenth_byte value at [] = Err (int.Short 9)
+tenth_byte value at (b ∷ s) = cond (ltb b 128) (fitting (value + 16 * 128 ^ 8 * b) 10 (at + 1)) (Err (int.Overflow 10))

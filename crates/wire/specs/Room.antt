@@ -1,14 +1,12 @@
 -- Bytes written at a position of lent room, where they fit whole, or as far as the room reaches; everything else stays as it came.
-use Rattle.std.specs.Prelude.{ℕ, zero, suc, ◌+◌, ◌-◌, min, ◌≡◌, List, [], ◌∷◌, cond, leb, length}
+use Rattle.std.specs.Prelude.{ℕ, zero, suc, ◌+◌, ◌-◌, min, ◌≡◌, List, [], ◌∷◌, cond, leb, length, None, Option, Some}
 use Rattle.lists.specs.Lists.{overlay}
-use Rattle.wire.specs.declared.buffer.Fit.{Fit}
-use Rattle.wire.specs.declared.buffer.Fit.TheVariants as fit
 
 -- ---- where they fit whole
 
 -- The answer: the position after the bytes, or no room for them.
-unfoldable pub put_result : List ℕ → ℕ → List ℕ → Fit
-put_result room at bytes = cond (leb (at + length bytes) (length room)) (fit.Next (at + length bytes)) fit.NoRoom
+unfoldable pub put_result : List ℕ → ℕ → List ℕ → Option ℕ
+put_result room at bytes = cond (leb (at + length bytes) (length room)) (Some (at + length bytes)) None
 
 -- The room afterwards.
 unfoldable pub put_room : List ℕ → ℕ → List ℕ → List ℕ

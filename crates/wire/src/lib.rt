@@ -4,47 +4,44 @@
 pub mod buffer;
 pub mod fixed;
 pub mod values;
+pub mod writer;
 
 ghost use Rattle.std.specs.Prelude.{◌≡◌, ◌*◌, ◌^◌, ◌<◌, drop};
 ghost use Rattle.wire.specs.Integer.{read_int, tenth_byte, encoded_int};
 
-use lists::wide;
+use lists::inline::Bytes;
 
 // The most bytes that an encoding has.
 const MOST_BYTES: usize = 10;
 
-// What reading an encoded integer finds: a value and the position after it, too few bytes, or an overflow; in the last two cases with how
-// many bytes were looked at.
-#[derive(Clone, Copy)]
-pub enum Int {
-    Value { value: u64, next: usize },
+// Why an encoded integer can't be read: there are too few bytes, or it overflows; with how many bytes were looked at.
+#[derive(Clone, Copy, Debug, PartialEq, Eq)]
+pub enum IntError {
     Short { looked: usize },
     Overflow { looked: usize },
 }
 
 // The tenth byte, at `i`, of this weight, after nine bytes that give `value`.
-fn tenth_byte(s: &[u8], i: usize, value: u64, weight: u64) -> Int
+#[tactic(auto, using(crate::proofs::Reading::tenth))]
+fn tenth_byte(s: &[u8], i: usize, value: u64, weight: u64) -> Result<(u64, usize), IntError>
     requires { weight ≡ 16 * 128 ^ 8 }
     ensures { result ≡ tenth_byte value i (drop i s.now) }
 {
-    if s.len() <= i {
-        return Int::Short { looked: 9 };
-    }
-    let b = wide(s[i]);
+    let Some(b) = s.get(i) else {
+        return Err(IntError::Short { looked: 9 });
+    };
+    let b = u64::from(*b);
     if 16 <= b {
-        return Int::Overflow { looked: MOST_BYTES };
+        return Err(IntError::Overflow { looked: MOST_BYTES });
     }
     let top = weight * b;
     if 0xffff_ffff_ffff_ffff - top < value {
-        return Int::Overflow { looked: MOST_BYTES };
+        return Err(IntError::Overflow { looked: MOST_BYTES });
     }
-    Int::Value {
-        value: value + top,
-        next: i + 1,
-    }
+    Ok((value + top, i + 1))
 }
 
-// 128 times a weight.
+// 128 times a weight: by addition, as the document asks for each byte's weight.
 fn doubled_seven_times(w: u64) -> u64
     requires { w < 2 ^ 57 }
     ensures { result ≡ 128 * w }
@@ -58,67 +55,52 @@ fn doubled_seven_times(w: u64) -> u64
     w64 + w64
 }
 
-// The encoded integer at `at`. The weight of a later byte is 16, then the one before doubled seven times.
-pub fn read_int(s: &[u8], at: usize) -> Int
+// The encoded integer at `at` and the position after it. The weight of a later byte is 16, then the one before doubled seven times.
+#[tactic(auto, using(crate::proofs::Reading::reading))]
+pub fn read_int(s: &[u8], at: usize) -> Result<(u64, usize), IntError>
     ensures { result ≡ read_int s.now at }
 {
-    if s.len() <= at {
-        return Int::Short { looked: 0 };
-    }
-    let first = wide(s[at]);
+    let Some(first) = s.get(at) else {
+        return Err(IntError::Short { looked: 0 });
+    };
+    let first = u64::from(*first);
     let mut i = at + 1;
     if first < 240 {
-        return Int::Value {
-            value: first,
-            next: i,
-        };
+        return Ok((first, i));
     }
     let mut value = first;
     let mut weight: u64 = 16;
-    let mut n: usize = 0;
-    while n < 8 {
-        if s.len() <= i {
-            return Int::Short { looked: n + 1 };
-        }
-        let b = wide(s[i]);
+    for n in 0..8usize {
+        let Some(b) = s.get(i) else {
+            return Err(IntError::Short { looked: n + 1 });
+        };
+        let b = u64::from(*b);
         i += 1;
         value += weight * b;
         if b < 128 {
-            return Int::Value { value, next: i };
+            return Ok((value, i));
         }
         weight = doubled_seven_times(weight);
-        n += 1;
     }
     tenth_byte(s, i, value, weight)
 }
 
-// The bytes of an encoded integer: the first `len` of `bytes`, and zeros after them.
-#[derive(Clone, Copy)]
-pub struct Encoded {
-    pub bytes: [u8; 10],
-    pub len: usize,
-}
-
-// The encoding of v.
-pub fn write_int(v: u64) -> Encoded
+// The encoding of v. The loop counts nothing: y shrinks until it is one byte.
+#[tactic(auto, using(crate::proofs::Write::writing))]
+pub fn write_int(v: u64) -> Bytes<MOST_BYTES>
     ensures { result ≡ encoded_int v }
 {
-    let mut bytes = [0u8; 10];
+    let mut out = Bytes::new();
     if v < 240 {
-        bytes[0] = v as u8;
-        return Encoded { bytes, len: 1 };
+        out.push(v as u8);
+        return out;
     }
-    bytes[0] = (240 + v % 16) as u8;
+    out.push((240 + v % 16) as u8);
     let mut y = (v - 240) / 16;
-    let mut len: usize = 1;
     while 128 <= y {
-        bytes[len] = (128 + y % 128) as u8;
+        out.push((128 + y % 128) as u8);
         y = (y - 128) / 128;
-        len += 1;
     }
-    bytes[len] = y as u8;
-    Encoded {
-        bytes,
-        len: len + 1,
-    }
+    out.push(y as u8);
+    out
 }

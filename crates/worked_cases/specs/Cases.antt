@@ -1,10 +1,10 @@
 -- "Cases on each side", those marked P: one table, one claim.
-use Rattle.std.specs.Prelude.{ℕ, ◌^◌, ◌-◌, List, [], ◌∷◌, ◌++◌, map, Bool, true, false, ◌&&◌, length, replicate, eqb, ℤ, pos, negsuc}
+use Rattle.std.specs.Prelude.{ℕ, ◌^◌, ◌-◌, List, [], ◌∷◌, ◌++◌, map, Bool, true, false, ◌&&◌, length, replicate, eqb, ℤ, pos, negsuc, Err, Ok, Result}
 use Rattle.lists.specs.Lists.{eq_bytes}
-use Rattle.wire.specs.declared.Int.{Int}
-use Rattle.wire.specs.declared.Int.TheVariants as int
-use Rattle.wire.specs.declared.values.ServerId.{ServerId}
-use Rattle.wire.specs.declared.values.ServerId.TheVariants as server
+use Rattle.wire.specs.declared.IntError.{IntError}
+use Rattle.wire.specs.declared.values.FieldError.{FieldError}
+use Rattle.wire.specs.declared.IntError.TheVariants as int
+use Rattle.wire.specs.declared.values.FieldError.TheVariants as server
 use Rattle.wire.specs.Integer.{encode_int, read_int}
 use Rattle.wire.specs.Server.{server_word, read_server_id}
 use Rattle.handshake.specs.Bytes.{ascii}
@@ -36,15 +36,15 @@ west = ascii "west"
 unfoldable pub after_hello : List ℕ → List (Ended Answer)
 after_hello rest = (model_ran (opened answerer east west) empty_store (bytes (hello ++ rest))).ended
 
-unfoldable pub is_value : ℕ → ℕ → Int → Bool
-is_value v next (int.Value w n) = eqb v w && eqb next n
-is_value v next (int.Short looked) = false
-is_value v next (int.Overflow looked) = false
+unfoldable pub is_value : ℕ → ℕ → Result (ℕ × ℕ) IntError → Bool
+is_value v next (Ok (w, n)) = eqb v w && eqb next n
+is_value v next (Err (int.Short looked)) = false
+is_value v next (Err (int.Overflow looked)) = false
 
-unfoldable pub is_overflow : Int → Bool
-is_overflow (int.Value w n) = false
-is_overflow (int.Short looked) = false
-is_overflow (int.Overflow looked) = true
+unfoldable pub is_overflow : Result (ℕ × ℕ) IntError → Bool
+is_overflow (Ok (w, n)) = false
+is_overflow (Err (int.Short looked)) = false
+is_overflow (Err (int.Overflow looked)) = true
 
 abbrev same_integer : ℤ → ℤ → Bool
 same_integer (pos m) (pos n) = eqb m n
@@ -52,10 +52,10 @@ same_integer (pos m) (negsuc n) = false
 same_integer (negsuc m) (pos n) = false
 same_integer (negsuc m) (negsuc n) = eqb m n
 
-unfoldable pub is_server : ℤ → ℕ → ServerId → Bool
-is_server id next (server.Id k n) = same_integer id k && eqb next n
-is_server id next server.Short = false
-is_server id next server.OutOfRange = false
+unfoldable pub is_server : ℤ → ℕ → Result (ℤ × ℕ) FieldError → Bool
+is_server id next (Ok (k, n)) = same_integer id k && eqb next n
+is_server id next (Err server.Short) = false
+is_server id next (Err server.OutOfRange) = false
 
 unfoldable pub last_reply : List (Ended Answer) → List ℕ
 last_reply [] = []

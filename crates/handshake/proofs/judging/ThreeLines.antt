@@ -1,4 +1,5 @@
 -- Each way to judge a hello by its three lines, and by where they end.
+use Rattle.std.specs.Prelude.{IsErr, IsErrAnd, Err, Ok, Result}
 use Prim.Native.Nat.{ℕ, ◌+◌, ◌-◌, ◌^◌, ◌≤◌, ◌<◌}
 use native.Mathlib.Omega.{arith}
 use mathlib.Core.Path.{◌≡◌, sym, ap, ◌∙◌}
@@ -14,9 +15,9 @@ use Rattle.handshake.specs.Bytes.{ascii}
 use Rattle.handshake.specs.declared.Hello.{Hello}
 use Rattle.handshake.specs.declared.Hello.TheVariants as hello
 use Rattle.lists.specs.Lists.{eq_bytes}
-use Rattle.handshake.specs.Handshake.{greeting, judge_third, greets, judge_lines, line_at, span, from_first, from_second, from_third, judge_hello}
-use Rattle.handshake.specs.declared.Line.{Line}
-use Rattle.handshake.specs.declared.Line.TheVariants as line
+use Rattle.handshake.specs.Handshake.{greeting, judge_third, greets, judge_lines, line_at, span, from_first, from_second, from_third, judge_hello, hello_error, either}
+use Rattle.handshake.specs.declared.LineError.{LineError}
+use Rattle.handshake.specs.declared.LineError.TheVariants as line
 use Rattle.handshake.proofs.LineEnds.{line-ends}
 
 -- ---- the three lines
@@ -43,10 +44,10 @@ module _ (l r a b c : List ℕ) where
 pub lines-count : (a : List ℕ) → 9 < length a → 9 ≡ length (take 9 a)
 lines-count a h = sym (length-take-le 9 a (omega arith))
 
-pub ruleset judging-lines = (rules, lines-short, lines_other, lines-empty, lines-third, lines-count)
+pub ruleset judging_lines = (rules, lines-short, lines_other, lines-empty, lines-third, lines-count)
 
 -- ---- positions
-module _ (u : List ℕ) (at p : ℕ) (x : Line) (e : x ≡ line_at u at) (f : x ≡ line.End p) where
+module _ (u : List ℕ) (at p : ℕ) (x : Result ℕ LineError) (e : x ≡ line_at u at) (f : x ≡ Ok p) where
   pub end_after : at ≤ p
   end_after = (line-ends u at p (sym e ∙ f)).0
 
@@ -63,35 +64,31 @@ module _ (u : List ℕ) (at p : ℕ) (x : Line) (e : x ≡ line_at u at) (f : x 
   span-count = sym (length-take-le (p - at) (drop at u) (omega (arith, length-drop at u, end-within)))
 
 -- ---- answers
-module _ (l r u : List ℕ) (x : Line) (ex : x ≡ line_at u 0) where
-  pub first-open : x ≡ line.Open → hello.Waiting ≡ judge_hello l r u
+-- an error that `?` hands on as h
+pub handed : (r : Result Hello Hello) (h g : Hello) → IsErr r × IsErrAnd r (λ x. x ≡ h) → h ≡ g → either r ≡ g
+handed (Ok x) h g e q = absurd e.1
+handed (Err x) h g e q = e.1 ∙ q
+
+module _ (l r u : List ℕ) (x : Result ℕ LineError) (ex : x ≡ line_at u 0) where
+  pub first-err : (e : LineError) → x ≡ Err e → hello_error e ≡ judge_hello l r u
   unfolding judge_hello from_first
-  first-open f = rw (← ex, f)
+  first-err line.Open f = rw (← ex, f)
+  first-err line.TooLong f = rw (← ex, f)
 
-  pub first-long : x ≡ line.TooLong → hello.Refused 10 ≡ judge_hello l r u
-  unfolding judge_hello from_first
-  first-long f = rw (← ex, f)
-
-  module _ (p : ℕ) (f : x ≡ line.End p) (y : Line) (ey : y ≡ line_at u (p + 1)) where
-    pub second-open : y ≡ line.Open → hello.Waiting ≡ judge_hello l r u
+  module _ (p : ℕ) (f : x ≡ Ok p) (y : Result ℕ LineError) (ey : y ≡ line_at u (p + 1)) where
+    pub second-err : (e : LineError) → y ≡ Err e → hello_error e ≡ judge_hello l r u
     unfolding judge_hello from_first from_second
-    second-open g = rw (← ex, f, ← ey, g)
+    second-err line.Open g = rw (← ex, f, ← ey, g)
+    second-err line.TooLong g = rw (← ex, f, ← ey, g)
 
-    pub second-long : y ≡ line.TooLong → hello.Refused 10 ≡ judge_hello l r u
-    unfolding judge_hello from_first from_second
-    second-long g = rw (← ex, f, ← ey, g)
-
-    module _ (q : ℕ) (g : y ≡ line.End q) (z : Line) (ez : z ≡ line_at u (q + 1)) where
-      pub third-open : z ≡ line.Open → hello.Waiting ≡ judge_hello l r u
+    module _ (q : ℕ) (g : y ≡ Ok q) (z : Result ℕ LineError) (ez : z ≡ line_at u (q + 1)) where
+      pub third-err : (e : LineError) → z ≡ Err e → hello_error e ≡ judge_hello l r u
       unfolding judge_hello from_first from_second from_third
-      third-open h = rw (← ex, f, ← ey, g, ← ez, h)
+      third-err line.Open h = rw (← ex, f, ← ey, g, ← ez, h)
+      third-err line.TooLong h = rw (← ex, f, ← ey, g, ← ez, h)
 
-      pub third-long : z ≡ line.TooLong → hello.Refused 10 ≡ judge_hello l r u
-      unfolding judge_hello from_first from_second from_third
-      third-long h = rw (← ex, f, ← ey, g, ← ez, h)
-
-      pub third-end : (e : ℕ) (o : Hello) → z ≡ line.End e → o ≡ judge_lines l r (take p u) (take (q - (p + 1)) (drop (p + 1) u)) (take (e - (q + 1)) (drop (q + 1) u)) → o ≡ judge_hello l r u
+      pub third-end : (e : ℕ) (o : Hello) → z ≡ Ok e → o ≡ judge_lines l r (take p u) (take (q - (p + 1)) (drop (p + 1) u)) (take (e - (q + 1)) (drop (q + 1) u)) → o ≡ judge_hello l r u
       unfolding judge_hello from_first from_second from_third span
       third-end e o h w = w ∙ rw (← ex, f, ← ey, g, ← ez, h)
 
-pub ruleset judging-hello = (rules, end_after, end-within, next_fits, end-count, span-count, first-open, first-long, second-open, second-long, third-open, third-long, third-end)
+pub ruleset judging_hello = (rules, end_after, end-within, next_fits, end-count, span-count, first-err, second-err, third-err, third-end)

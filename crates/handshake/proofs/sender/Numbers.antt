@@ -1,21 +1,19 @@
 -- A decimal number read: its digits summed, and when it is malformed.
+use Rattle.std.specs.Prelude.{None, Option, Some}
 use Prim.Native.Nat.{ℕ, ◌+◌, ◌*◌, ◌-◌, ◌^◌, ◌≤◌, ◌<◌}
 use native.Mathlib.Omega.{arith}
 use native.Mathlib.Numerals.{add-one}
 use native.Mathlib.Nat.{pow-suc, pow-le-pow_right}
 use mathlib.Core.Path.{◌≡◌, refl, sym, ◌∙◌}
 use mathlib.Core.List.{List}
-use mathlib.Core.Bool.{true, false, Bool, not}
+use mathlib.Core.Bool.{true, false}
 use lib.Dec.{lit<}
 use lib.ListN.{length, get_or, drop, drop_of_length-le}
 use lib.Seq.{drop-cons}
 use borrow.Author.Rules.{rules}
-use borrow.Author.Tests.{lt-leb, le-leb, not-true, not-false}
 use mir.Syntax.{w64}
 use mir.Val.{Fits}
 use Rattle.handshake.specs.Bytes.{within, read_digits}
-use Rattle.handshake.specs.declared.Decimal.{Decimal}
-use Rattle.handshake.specs.declared.Decimal.TheVariants as number
 use Rattle.handshake.specs.Handshake.{number_b, number_of}
 use Rattle.lists.proofs.Cases.{by-test}
 use Rattle.handshake.proofs.NameBytes.{within-at}
@@ -43,15 +41,15 @@ module _ {s : List ℕ} {n i : ℕ} (r : Summing s n i) where
   pub sum_fits : {d : ℕ} → i < length s → d ≡ get_or s i 0 → d < 256 → Fits w64 (n * 10 + (d - 48))
   sum_fits h e k = omega (arith, sum_bound h, r.small)
 
-  pub sum-turn : {d : ℕ} → i < length s → d ≡ get_or s i 0 → Summing s (n * 10 + (d - 48)) (i + 1)
+  pub sum-turn : {x : ℕ} → i < length s → x ≡ get_or s i 0 - 48 → Summing s (n * 10 + x) (i + 1)
   unfolding read_digits
-  sum-turn {d} h e =
+  sum-turn {x} h e =
       let u = within-at 48 57 s i r.digits h in
       record {
         few = r.few;
         digits = r.digits;
         small = rw (add-one, pow-suc) (omega (arith, r.small));
-        rest = r.rest ∙ rw (drop-cons s i 0 h, ← e, add-one);
+        rest = r.rest ∙ rw (drop-cons s i 0 h, e, add-one);
       }
 
   pub sum-end : length s ≤ i → n ≡ read_digits 0 s
@@ -61,35 +59,9 @@ module _ {s : List ℕ} {n i : ℕ} (r : Summing s n i) where
 pub ruleset summing = (rules, sum-start, sum-digit, sum-times, sum_fits, sum-turn, sum-end)
 
 -- ---- a number
-pub number-none : (s : List ℕ) → length s < 1 → number.Malformed ≡ number_of s
-unfolding number_of number_b
-number-none s h = rw (lt-leb 1 (length s) h)
-
-module _ (s : List ℕ) (l : 1 ≤ length s) where
-  pub number-long : 10 < length s → number.Malformed ≡ number_of s
-  unfolding number_of number_b
-  number-long h = rw (le-leb 1 (length s) l, lt-leb (length s) 10 h)
-
-  pub number-other : (t : Bool) → length s ≤ 10 → t ≡ within 48 57 s → not t ≡ true → number.Malformed ≡ number_of s
-  unfolding number_of number_b
-  number-other t h e n = rw (le-leb 1 (length s) l, le-leb (length s) 10 h, ← e, not-true t n)
-
-  pub number-over : (t : Bool) (n : ℕ) → length s ≤ 10 → t ≡ within 48 57 s → not t ≡ false → n ≡ read_digits 0 s → 4294967295 < n → number.Malformed ≡ number_of s
-  unfolding number_of number_b
-  number-over t n h e d r o = rw (le-leb 1 (length s) l, le-leb (length s) 10 h, ← e, not-false t d, ← r, lt-leb n 4294967295 o)
-
-  pub number-value : (t : Bool) (n : ℕ) → length s ≤ 10 → t ≡ within 48 57 s → not t ≡ false → n ≡ read_digits 0 s → n ≤ 4294967295 → number.Value n ≡ number_of s
-  unfolding number_of number_b
-  number-value t n h e d r o = rw (le-leb 1 (length s) l, le-leb (length s) 10 h, ← e, not-false t d, ← r, le-leb n 4294967295 o)
-
-pub number_digits : (s : List ℕ) (t : Bool) → t ≡ within 48 57 s → not t ≡ false → within 48 57 s ≡ true
-number_digits s t e d = sym e ∙ not-false t d
-
-pub ruleset numbering = (rules, number-none, number-long, number-other, number-over, number-value, number_digits)
-
-unfoldable pub DecimalIs : List ℕ → Decimal → Type 0
-DecimalIs s (number.Value n) = (n ≡ read_digits 0 s) × (number_b s ≡ true)
-DecimalIs s number.Malformed = number_b s ≡ false
+unfoldable pub DecimalIs : List ℕ → Option ℕ → Type 0
+DecimalIs s (Some n) = (n ≡ read_digits 0 s) × (number_b s ≡ true)
+DecimalIs s None = number_b s ≡ false
 
 pub number_is : (s : List ℕ) → DecimalIs s (number_of s)
 unfolding DecimalIs number_of

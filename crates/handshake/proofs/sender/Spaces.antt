@@ -1,67 +1,60 @@
 -- The part of a line before its first space.
-use Prim.Native.Nat.{ℕ, suc, ◌+◌, ◌≤◌, ◌<◌}
+use Rattle.std.specs.Prelude.{None, Option, Some}
+use Rattle.std.specs.List.{position_from}
+use Prim.Native.Nat.{ℕ, suc, ◌+◌, ◌<◌}
 use native.Mathlib.Omega.{arith}
-use native.Mathlib.Numerals.{add-one}
-use mathlib.Core.Path.{◌≡◌, refl}
-use mathlib.Core.List.{List}
+use mathlib.Core.Path.{◌≡◌, refl, sym, ap, ◌∙◌}
+use mathlib.Core.List.{List, [], ◌∷◌}
 use mathlib.Core.Bool.{true, false}
-use lib.ListN.{length, get_or, drop, drop_of_length-le}
-use lib.Seq.{drop-cons}
+use lib.Dec.{ltb, eqb}
+use lib.ListN.{length}
 use borrow.Author.Rules.{rules}
-use borrow.Author.Tests.{eq-eqb, ne_eqb, lt-ltb, le-ltb, ltb-true}
-use Rattle.handshake.specs.Handshake.{until_space, part_b, part_of}
+use borrow.Author.Tests.{lt-ltb, le-ltb, ltb-true}
+use Rattle.lists.specs.Lists.{first_place}
+use Rattle.handshake.specs.Handshake.{is_space, until_space, part_b, part_of}
 use Rattle.lists.proofs.Cases.{and_second, by-test}
-use lib.Dec.{ltb}
-use Rattle.handshake.specs.declared.Part.{Part}
-use Rattle.handshake.specs.declared.Part.TheVariants as part
 
--- ---- the first space
-pub record Seeking (s : List ℕ) (i : ℕ) : Type 0 where
-  pub up : i ≤ length s
-  pub rest : until_space s ≡ i + until_space (drop i s)
+-- ---- the first space, where the list's first byte has place j
+space-at : (s : List ℕ) (j k : ℕ) → position_from (λ b. eqb b 32) j s ≡ Some k → (k ≡ j + until_space s) × (until_space s < length s)
+unfolding until_space
+space-at [] j k e = cc
+space-at (b ∷ s) j k e =
+    by-test (eqb b 32)
+    (λ h. let z : j ≡ k = cc in rw h (omega arith, omega arith))
+    (λ h. let r = space-at s (j + 1) k (rw h at e) in rw h (omega (arith, r.0), omega (arith, r.1)))
 
-pub seek-start : (s : List ℕ) → Seeking s 0
-seek-start s = record { up = omega arith; rest = omega arith }
+no_space : (s : List ℕ) (j : ℕ) → position_from (λ b. eqb b 32) j s ≡ None → until_space s ≡ length s
+unfolding until_space
+no_space [] j e = refl
+no_space (b ∷ s) j e =
+    by-test (eqb b 32)
+    (λ h. cc)
+    (λ h. rw h (ap suc (no_space s (j + 1) (rw h at e))))
 
-module _ {s : List ℕ} {i : ℕ} (k : Seeking s i) where
-  pub seek_found : i < length s → get_or s i 0 ≡ 32 → i ≡ until_space s
-  unfolding until_space
-  seek_found h e =
-      let z : until_space (drop i s) ≡ 0 = rw (drop-cons s i 0 h, eq-eqb (get_or s i 0) 32 e) in
-      omega (arith, k.rest)
+-- ---- a part before a space, where x is the place of the first one
+module _ (s : List ℕ) (x : Option ℕ) (p : x ≡ first_place is_space s) where
+  pub part-none : x ≡ None → None ≡ part_of s
+  unfolding part_of part_b first_place
+  part-none e =
+      let n = no_space s 0 (sym p ∙ e) in
+      by-test (ltb 0 (until_space s)) (λ h. rw (h, le-ltb (until_space s) (length s) (omega arith))) (λ h. rw h)
 
-  pub seek-turn : i < length s → (get_or s i 0 ≡ 32 → ⊥) → Seeking s (i + 1)
-  unfolding until_space
-  seek-turn h e =
-      let z : until_space (drop i s) ≡ suc (until_space (drop (i + 1) s)) = rw (drop-cons s i 0 h, ne_eqb (get_or s i 0) 32 e, add-one) in
-      record { up = omega arith; rest = omega (arith, k.rest) }
+  pub part-empty : (k : ℕ) → x ≡ Some k → k ≡ 0 → None ≡ part_of s
+  unfolding part_of part_b first_place
+  part-empty k e h = let r = space-at s 0 k (sym p ∙ e) in rw (le-ltb 0 (until_space s) (omega arith))
 
-  pub seek-end : length s ≤ i → i ≡ until_space s
-  unfolding until_space
-  seek-end h =
-      let z : until_space (drop i s) ≡ 0 = rw (drop_of_length-le s h) in
-      omega (arith, k.rest)
+  pub part-whole : (k : ℕ) → x ≡ Some k → (k ≡ 0 → ⊥) → Some k ≡ part_of s
+  unfolding part_of part_b first_place
+  part-whole k e h =
+      let r = space-at s 0 k (sym p ∙ e) in
+      let z : until_space s ≡ k = omega arith in
+      rw (lt-ltb 0 (until_space s) (omega arith), lt-ltb (until_space s) (length s) r.1, z)
 
-pub ruleset seeking = (rules, seek-start, seek_found, seek-turn, seek-end)
+pub ruleset parting = (rules, part-none, part-empty, part-whole)
 
--- ---- a part before a space
-pub part-empty : (s : List ℕ) (k : ℕ) → k ≡ until_space s → k < 1 → part.Missing ≡ part_of s
-unfolding part_of part_b
-part-empty s k e h = rw (← e, le-ltb 0 k (omega arith))
-
-pub part-last : (s : List ℕ) (k : ℕ) → k ≡ until_space s → length s ≤ k → 1 ≤ k → part.Missing ≡ part_of s
-unfolding part_of part_b
-part-last s k e h l = rw (← e, lt-ltb 0 k (omega arith), le-ltb k (length s) h)
-
-pub part-whole : (s : List ℕ) (k : ℕ) → k ≡ until_space s → 1 ≤ k → k < length s → part.Upto k ≡ part_of s
-unfolding part_of part_b
-part-whole s k e l h = rw (← e, lt-ltb 0 k (omega arith), lt-ltb k (length s) h)
-
-pub ruleset parting = (rules, part-empty, part-last, part-whole)
-
-unfoldable pub PartIs : List ℕ → Part → Type 0
-PartIs s (part.Upto k) = (k ≡ until_space s) × (part_b s ≡ true) × (k < length s)
-PartIs s part.Missing = part_b s ≡ false
+unfoldable pub PartIs : List ℕ → Option ℕ → Type 0
+PartIs s (Some k) = (k ≡ until_space s) × (part_b s ≡ true) × (k < length s)
+PartIs s None = part_b s ≡ false
 
 pub part-is : (s : List ℕ) → PartIs s (part_of s)
 unfolding PartIs part_of part_b

@@ -4,13 +4,12 @@ use native.Mathlib.Omega.{arith}
 use mathlib.Core.Path.{◌≡◌, refl, sym, ap, ◌∙◌}
 use mathlib.Core.List.{List, [], ◌∷◌, ◌++◌, append_assoc, append-nil}
 use lib.ListN.{length, take, drop, set, replicate, length-append, length-replicate}
-use lib.Seq.{drop_at, take-length}
+use lib.Seq.{drop_at, take_all}
 use borrow.Author.Rules.{rules}
 use mir.Syntax.{w64}
 use mir.Val.{Fits}
-use Rattle.handshake.specs.declared.Digits.{Digits}
-use Rattle.handshake.specs.Bytes.{decimal_in, decimal, digits_of}
-use Rattle.handshake.proofs.Decimals.{decimal-last, decimal-more, decimal-most, shrinks}
+use Rattle.handshake.specs.Bytes.{decimal_in, decimal}
+use Rattle.handshake.proofs.Decimals.{decimal-last, decimal-more, shrinks}
 
 -- ---- the state at the head of `decimal_digits`' loop: the digits after i are done, and zeros stand before them
 pub record Filling (n : ℕ) (bytes : List ℕ) (i y : ℕ) : Type 0 where
@@ -57,35 +56,14 @@ module _ {n : ℕ} {bytes : List ℕ} {i y : ℕ} (w : Filling n bytes i y) wher
             ∙ w.so_far;
       }
 
-  pub fill_end : y < 10 → ◌≡◌ {A = Digits} (record { bytes = set bytes i (48 + y); start = i }) (digits_of n)
-  unfolding digits_of
+  dropped : y < 10 → drop i (set bytes i (48 + y)) ≡ decimal n
+  dropped h =
+      let d : decimal n ≡ (48 + y) ∷ w.done = sym w.so_far ∙ ap (λ (s : List ℕ). s ++ w.done) (decimal-last (suc i) i y refl h) in
+      rw (d, w.zeros, set_last i (48 + y) w.done) (drop_at (replicate i 0) ((48 + y) ∷ w.done) i (length-replicate {A = ℕ} i 0))
+
+  pub fill_end : y < 10 → take (20 - i) (drop i (set bytes i (48 + y))) ≡ decimal n
   fill_end h =
       let d : decimal n ≡ (48 + y) ∷ w.done = sym w.so_far ∙ ap (λ (s : List ℕ). s ++ w.done) (decimal-last (suc i) i y refl h) in
-      let k : 20 - length (decimal n) ≡ i = omega (arith, ap length d, w.size) in
-      rw (k, d, w.zeros, set_last i (48 + y) w.done)
+      ap (take (20 - i)) (dropped h) ∙ take_all (20 - i) (decimal n) (omega (arith, ap length d, w.size))
 
 pub ruleset filling = (rules, fill_start, fill-index, fill-long, fill-left, fill-turn, fill_end)
-
--- ---- what `decimal_digits` gives, from its start on, is the digits
-module _ (n : ℕ) (d : Digits) (e : d ≡ digits_of n) where
-  starts : d.start ≡ 20 - length (decimal n)
-  unfolding digits_of
-  starts = ap (λ (x : Digits). x.start) e
-
-  pub digits-start : d.start ≤ 20
-  digits-start = omega (arith, starts)
-
-  pub digits-count : 20 - d.start ≡ length (decimal n)
-  digits-count = omega (arith, starts, decimal-most n)
-
-  pub digits-dropped : drop d.start d.bytes ≡ decimal n
-  unfolding digits_of
-  digits-dropped = rw e (drop_at (replicate (20 - length (decimal n)) 0) (decimal n) (20 - length (decimal n)) (length-replicate {A = ℕ} (20 - length (decimal n)) 0))
-
-  pub digits-taken : take (20 - d.start) (drop d.start d.bytes) ≡ decimal n
-  digits-taken = rw (digits-dropped, digits-count) (take-length (decimal n))
-
-pub count_small : (n k : ℕ) → k ≡ length (decimal n) → k ≤ 20
-count_small n k e = omega (arith, decimal-most n)
-
-pub ruleset counting = (rules, digits-start, digits-count, count_small)

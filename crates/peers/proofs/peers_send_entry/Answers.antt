@@ -1,8 +1,7 @@
-use Rattle.std.proofs.Common.{true}
-use Rattle.peers.proofs.Promising.{entry-asked, raw-sent-promised}
+use Rattle.sending.specs.Finish.{asked_by}
+use Rattle.peers.proofs.Promising.{raw-sent-promised}
 use Rattle.peers.proofs.peers_send_entry.Goals as goal
 
 pub returns : goal.returns
-returns c =
-    raw-sent-promised (record { entry = true; id = c.args.id; place = c.args.place }) (entry-asked c.args.place c.args.id) _ c.raw_sent.ensures
-    c.send_lent.ensures
+unfolding asked_by
+returns c = raw-sent-promised _ c.from.ensures c.send_lent.ensures

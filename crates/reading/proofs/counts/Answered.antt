@@ -6,7 +6,6 @@ use mathlib.Core.Bool.{true, false}
 use mathlib.Core.List.{List, [], ◌∷◌}
 use lib.ListN.{length, get_or, set}
 use lib.Dec.{eqb, leb}
-use borrow.Author.Rules.{rules}
 use borrow.Author.Tests.{eq-eqb, eqb-true}
 use types.Run.{OneOf}
 use denote.Enum.Declared.{tag_of}
@@ -35,17 +34,6 @@ use Rattle.receiver.proofs.EffectKinds as kinds
 use Rattle.reading.specs.Counts.{committed_counts, answered_counts}
 
 -- ---- in the form of the code
-
-module _ (table : ℕ) (cs : List ℕ) (how : Commit) where
-  pub new-counts : (r : List ℕ) → how ≡ commit.New → r ≡ raised table cs → r ≡ committed_counts table how cs
-  unfolding committed_counts
-  new-counts r e q = q ∙ ap (λ (h : Commit). committed_counts table h cs) (sym e)
-
-  pub old-counts : how ≡ commit.Replaced → cs ≡ committed_counts table how cs
-  unfolding committed_counts
-  old-counts e = ap (λ (h : Commit). committed_counts table h cs) (sym e)
-
-pub ruleset committing = (rules, new-counts, old-counts)
 
 -- an answer that is no update
 abbrev pub NoUpdate : Answer → Type 0
@@ -86,7 +74,7 @@ kept-counts a cs q =
     (λ table id place how e.
     never (sym (among-yes others (tag_of the_type a) q)) (ap (λ (b : Answer). among others (tag_of the_type b)) e ∙ (unfold among in refl))))
 
-pub ruleset answering = (rules, update-counts, kept-counts)
+pub ruleset answering = (update-counts, kept-counts)
 
 -- ---- a committed entry
 

@@ -1,13 +1,10 @@
 -- The three refusals of a reading call, and the call that reads, keep the promise.
 use Prim.Native.Nat.{ℕ, ◌≤◌, ◌<◌}
 use mathlib.Core.Path.{◌≡◌, refl, sym, ap, ◌∙◌}
-use mathlib.Core.Bool.{Bool, true, false, cond}
-use mathlib.Core.List.{List, []}
+use mathlib.Core.Bool.{true, false}
+use mathlib.Core.List.{List}
 use lib.ListN.{length}
-use lib.Dec.{ltb, eqb}
-use borrow.Author.Tests.{eq-eqb, ne_eqb, lt-ltb, le-ltb}
 use Rattle.lists.specs.Lists.{front, every}
-use Rattle.lists.proofs.Cases.{cond-true, cond-false}
 use Rattle.store.specs.declared.Store.{Store}
 use Rattle.session.specs.declared.Session.{Session}
 use Rattle.session.specs.declared.Answer.{Answer}
@@ -67,11 +64,3 @@ module _ (s : Session) (t : Store) (piece room : List ℕ) where
         pub open-promise : (r : StepChange) (final : List ℕ) → is_closed s.connection ≡ false → applied t r ≡ step_of s (scan peers (held_by s t) piece)
             → final ≡ front (scan peers (held_by s t) piece).reply room → ReadPromise s t (made r final)
         open-promise r final o p q = promised (scan peers (held_by s t) piece) r final (call-open s t piece room l (sym f) o) p q
-
-pub is-closed : (s : Session) → s.connection.closed ≡ 1 → is_closed s.connection ≡ true
-unfolding is_closed
-is-closed s e = eq-eqb s.connection.closed 1 e
-
-pub is_open : (s : Session) → (s.connection.closed ≡ 1 → ⊥) → is_closed s.connection ≡ false
-unfolding is_closed
-is_open s e = ne_eqb s.connection.closed 1 e

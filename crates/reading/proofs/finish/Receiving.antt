@@ -1,49 +1,41 @@
 -- A reading call on a sound open record: what was taken in one go, and what it came to, is the byte model's call.
-use Prim.Native.Nat.{ℕ, zero, suc, ◌+◌, ◌≤◌, ◌<◌}
+use Prim.Native.Nat.{ℕ, ◌+◌, ◌≤◌}
 use native.Mathlib.Omega.{arith}
 use mathlib.Core.Path.{◌≡◌, refl, sym, ap, ◌∙◌, subst}
-use mathlib.Core.Bool.{Bool, true, false, cond, ◌&&◌}
-use mathlib.Core.List.{List, [], ◌∷◌, ◌++◌}
-use lib.ListN.{length, take, drop}
-use lib.Seq.{length-take-le}
-use lib.Dec.{ltb, leb, eqb}
-use borrow.Author.Rules.{rules}
-use borrow.Author.Tests.{eq-eqb, ne_eqb, lt-ltb, le-ltb}
-use Rattle.lists.specs.Lists.{pad_to, front, every}
-use Rattle.lists.proofs.Cases.{by-test, cond-true, cond-false, and_first, and_second}
+use mathlib.Core.Bool.{true, false}
+use mathlib.Core.List.{List, [], ◌∷◌}
+use lib.ListN.{length}
+use borrow.Author.Tests.{ne_eqb, le-leb}
+use Rattle.lists.specs.Lists.{front, overlay, every}
+use Rattle.lists.proofs.Cases.{and_first, and_second}
 use Rattle.lists.proofs.Every.{every-cons}
-use Rattle.lists.proofs.Bytes.{pad-length, pad-take}
 use Rattle.store.specs.declared.Store.{Store}
 use Rattle.session.specs.declared.Connection.{Connection}
 use Rattle.session.specs.declared.Session.{Session}
 use Rattle.session.specs.declared.Answer.{Answer}
 use Rattle.session.specs.declared.Answer.TheVariants as answer
-use Rattle.session.specs.Answers.{reply_of}
-use Rattle.session.specs.Session.{unfinished, is_closed, holding}
-use Rattle.session.proofs.Basics.{told}
+use Rattle.wire.specs.Room.{put_room}
+use Rattle.session.specs.Session.{unfinished, is_closed}
 use Rattle.session_soundness.specs.Sound.{sound}
 use Rattle.session_soundness.specs.Sound as sounds
 use Rattle.message.specs.Effects.{Effect}
 use Rattle.message.specs.Changes.{no_change, changed}
-use Rattle.reassembly.specs.declared.Taken.{Taken}
 use Rattle.reassembly.specs.Judge.{Judged, settled, judge, effect_of}
-use Rattle.reassembly.specs.Pieces.{Part, take_piece, taken_of}
-use Rattle.reassembly.proofs.Taking.{part-short, part_none, part-ended}
-use Rattle.streams.specs.Model.{Fed, quiet, answered, state_of}
+use Rattle.reassembly.specs.Pieces.{Part, take_piece}
+use Rattle.reassembly.proofs.Taking.{part_none, part-ended}
+use Rattle.streams.specs.Model.{Fed, state_of}
 use Rattle.streams.specs.Calls.{Call, scan}
 use Rattle.streams.proofs.Basics.{by-fed}
 use Rattle.streams.proofs.OneCall.{scan-nil, scan-quiet, scan-answered}
-use Rattle.reading.specs.declared.results.Step.{Step}
 use Rattle.reading.specs.declared.results.StepChange.{StepChange}
 use Rattle.receiver.specs.Model.{State, held_by, feed, is_byte, peers}
 use Rattle.receiver.specs.Good.{Good}
 use Rattle.receiver.specs.Promise.{Shaped, outcome_of, session_of}
 use Rattle.receiver.specs.Parts.{judged_call, part_call}
-use Rattle.reading.proofs.results.Making.{replied-front}
-use Rattle.reading.specs.Results.{stays, waits, applied, answers, replied, step_of}
+use Rattle.reading.specs.Results.{stays, waits, applied, gives, replied, step_of}
 use Rattle.receiver.proofs.Piece.{judged-as, judged-settled, scan-takes, waited-call, settled-call}
 use Rattle.receiver.proofs.Chained.{good-held}
-use Rattle.receiver.proofs.Held.{session-fits, state-fits}
+use Rattle.receiver.proofs.Held.{state-fits}
 use Rattle.receiver.proofs.Lawfully.{lawful, replies-short}
 
 -- ---- every reply is short
@@ -74,8 +66,8 @@ module _ (s : Session) (t : Store) (a : Part) where
   waited-step e n = rw (waited-call s t a e, ne_eqb a.taken 0 n)
 
   settled-step : (e : Effect) → a.ended ≡ true → judge s.connection t a.bytes ≡ settled e → (a.taken ≡ 0 → ⊥)
-      → answers s.sending a.taken t e ≡ step_of s call
-  unfolding answers step_of judged_call outcome_of session_of
+      → applied t (gives s.sending a.taken e) ≡ step_of s call
+  unfolding applied gives step_of judged_call outcome_of session_of
   settled-step e h j n = rw (settled-call s t a e h j, ne_eqb a.taken 0 n)
 
   waited-reply : a.ended ≡ false → call.reply ≡ []
@@ -94,13 +86,15 @@ no_front : (room : List ℕ) → room ≡ front [] room
 unfolding front
 no_front room = refl
 
+-- a reply that the room has place for stands at its front
+replied-front : (reply room : List ℕ) → length reply ≤ length room → replied reply room ≡ front reply room
+unfolding replied put_room overlay front
+replied-front reply room l = let e : 0 + length reply ≡ length reply = omega arith in rw (e, le-leb (length reply) (length room) l)
+
 -- ---- the call
 
-module _ (s : Session) (t : Store) (piece : List ℕ) (x : Taken) (p : x ≡ taken_of (take_piece s.connection (unfinished s) piece))
+module _ (s : Session) (t : Store) (piece : List ℕ) (x : Part) (p : x ≡ take_piece s.connection (unfinished s) piece)
     (f : sound s t ≡ true) (o : is_closed s.connection ≡ false) (sh : Shaped s t) (by : every is_byte piece ≡ true) where
-  abbrev part : Part
-  part = take_piece s.connection (unfinished s) piece
-
   abbrev model : Call State Answer
   model = scan peers (held_by s t) piece
 
@@ -108,102 +102,64 @@ module _ (s : Session) (t : Store) (piece : List ℕ) (x : Taken) (p : x ≡ tak
   unfolding held_by
   few = state-fits (held_by s t) (good-held s t sh f).sound
 
-  is-part : model ≡ part_call s.connection t part
+  is-part : model ≡ part_call s.connection t x
   unfolding held_by
-  is-part = scan-takes s.connection (unfinished s) t piece o
-
-  count-is : x.count ≡ part.taken
-  unfolding taken_of
-  count-is = ap (λ (y : Taken). y.count) p
-
-  ended_is : x.ended ≡ part.ended
-  unfolding taken_of
-  ended_is = ap (λ (y : Taken). y.ended) p
-
-  len_is : x.len ≡ length part.bytes
-  unfolding taken_of
-  len_is = ap (λ (y : Taken). y.len) p
-
-  bytes-are : x.bytes ≡ pad_to 1028 part.bytes
-  unfolding taken_of
-  bytes-are = ap (λ (y : Taken). y.bytes) p
-
-  pub prefix-fits : x.len ≤ length x.bytes
-  prefix-fits = omega (arith, len_is, part-short s.connection (unfinished s) piece few, ap length bytes-are ∙ pad-length 1028 part.bytes)
-
-  pub prefix-long : length (take x.len x.bytes) ≡ x.len
-  prefix-long = length-take-le x.len x.bytes prefix-fits
-
-  prefix-is : take x.len x.bytes ≡ part.bytes
-  prefix-is = rw (len_is, bytes-are) (pad-take 1028 part.bytes (part-short s.connection (unfinished s) piece few))
+  is-part = scan-takes s.connection (unfinished s) t piece o ∙ ap (part_call s.connection t) (sym p)
 
   -- nothing is taken
 
-  nothing : x.count ≡ 0 → part ≡ record { bytes = unfinished s; taken = 0; ended = false }
-  nothing z = part_none s.connection (unfinished s) piece few (sym count-is ∙ z)
+  nothing : x.taken ≡ 0 → x ≡ record { bytes = unfinished s; taken = 0; ended = false }
+  nothing z = p ∙ part_none s.connection (unfinished s) piece few (ap (λ (y : Part). y.taken) (sym p) ∙ z)
 
-  pub stays_step : (r : StepChange) → x.count ≡ 0 → r ≡ stays s answer.More → applied t r ≡ step_of s model
-  stays_step r z q = ap (applied t) q ∙ (stayed-step s t part (nothing z) ∙ ap (step_of s) (sym is-part))
+  pub stays_step : (r : StepChange) → x.taken ≡ 0 → r ≡ stays s answer.More → applied t r ≡ step_of s model
+  stays_step r z q = ap (applied t) q ∙ (stayed-step s t x (nothing z) ∙ ap (step_of s) (sym is-part))
 
-  pub stays-room : (room : List ℕ) → x.count ≡ 0 → room ≡ front model.reply room
+  pub stays-room : (room : List ℕ) → x.taken ≡ 0 → room ≡ front model.reply room
   stays-room room z =
       no_front room
       ∙ ap (λ (l : List ℕ). front l room)
-      (sym (ap (λ (k : Call State Answer). k.reply) is-part ∙ waited-reply s t part (ap (λ (a : Part). a.ended) (nothing z))))
+      (sym (ap (λ (k : Call State Answer). k.reply) is-part ∙ waited-reply s t x (ap (λ (a : Part). a.ended) (nothing z))))
 
-  module _ (n : x.count ≡ 0 → ⊥) where
-    some-taken : part.taken ≡ 0 → ⊥
-    some-taken z = n (count-is ∙ z)
-
+  module _ (n : x.taken ≡ 0 → ⊥) where
     -- more is wanted
 
-    pub waits-step : (r : StepChange) → x.ended ≡ false → r ≡ waits s.sending s.connection (take x.len x.bytes) x.count
-        → applied t r ≡ step_of s model
-    waits-step r z q =
-        ap (applied t) q
-        ∙ (ap (λ (u : List ℕ). applied t (waits s.sending s.connection u x.count)) prefix-is
-        ∙ (ap (λ (k : ℕ). applied t (waits s.sending s.connection part.bytes k)) count-is
-        ∙ (waited-step s t part (sym ended_is ∙ z) some-taken ∙ ap (step_of s) (sym is-part))))
+    pub waits-step : (r : StepChange) → x.ended ≡ false → r ≡ waits s.sending s.connection x.bytes x.taken → applied t r ≡ step_of s model
+    waits-step r z q = ap (applied t) q ∙ (waited-step s t x z n ∙ ap (step_of s) (sym is-part))
+
+    pub waits-room : (room : List ℕ) → x.ended ≡ false → room ≡ front model.reply room
+    waits-room room z =
+        no_front room
+        ∙ ap (λ (l : List ℕ). front l room) (sym (ap (λ (k : Call State Answer). k.reply) is-part ∙ waited-reply s t x z))
 
     -- an answer
 
     module _ (z : x.ended ≡ true) where
       abbrev judged : Judged Effect
-      judged = judge s.connection t part.bytes
+      judged = judge s.connection t x.bytes
 
       ends-settled : (e : Effect) × (judged ≡ settled e)
       ends-settled =
-          judged-settled (sounds.waits s.connection part.bytes) judged (judged-as s.connection t part.bytes)
-          (part-ended s.connection (unfinished s) piece few (sym ended_is ∙ z))
+          judged-settled (sounds.waits s.connection x.bytes) judged (judged-as s.connection t x.bytes)
+          (ap (λ (y : Part). sounds.waits s.connection y.bytes) p
+          ∙ part-ended s.connection (unfinished s) piece few (ap (λ (y : Part). y.ended) (sym p) ∙ z))
 
-      effect_is : effect_of s.connection (judge s.connection t (take x.len x.bytes)) ≡ ends-settled.0
-      effect_is =
-          ap (λ (u : List ℕ). effect_of s.connection (judge s.connection t u)) prefix-is
-          ∙ settled-effect s.connection judged ends-settled.0 ends-settled.1
+      effect_is : effect_of s.connection judged ≡ ends-settled.0
+      effect_is = settled-effect s.connection judged ends-settled.0 ends-settled.1
 
       reply-is : model.reply ≡ ends-settled.0.reply
-      reply-is =
-          ap (λ (k : Call State Answer). k.reply) is-part ∙ settled-reply s t part ends-settled.0 (sym ended_is ∙ z) ends-settled.1
+      reply-is = ap (λ (k : Call State Answer). k.reply) is-part ∙ settled-reply s t x ends-settled.0 z ends-settled.1
 
-      reply-short : length (effect_of s.connection (judge s.connection t (take x.len x.bytes))).reply ≤ 12
+      reply-short : length (effect_of s.connection judged).reply ≤ 12
       reply-short = rw (effect_is, ← reply-is) (scan-short (held_by s t) piece (good-held s t sh f) by)
 
-      pub answers-step : (r : Step) → r ≡ answers s.sending x.count t (effect_of s.connection (judge s.connection t (take x.len x.bytes))) → r ≡ step_of s model
+      pub answers-step : (r : StepChange) → r ≡ gives s.sending x.taken (effect_of s.connection judged) → applied t r ≡ step_of s model
       answers-step r q =
-          q
-          ∙ (ap (answers s.sending x.count t) effect_is
-          ∙ (ap (λ (k : ℕ). answers s.sending k t ends-settled.0) count-is
-          ∙ (settled-step s t part ends-settled.0 (sym ended_is ∙ z) ends-settled.1 some-taken ∙ ap (step_of s) (sym is-part))))
+          ap (applied t) (q ∙ ap (gives s.sending x.taken) effect_is)
+          ∙ (settled-step s t x ends-settled.0 z ends-settled.1 n ∙ ap (step_of s) (sym is-part))
 
-      pub answers-room : (room final : List ℕ) → 12 ≤ length room
-          → final ≡ replied (reply_of (effect_of s.connection (judge s.connection t (take x.len x.bytes))).reply) room → final ≡ front model.reply room
+      pub answers-room : (room final : List ℕ) → 12 ≤ length room → final ≡ replied (effect_of s.connection judged).reply room
+          → final ≡ front model.reply room
       answers-room room final h q =
           q
-          ∙ (replied-front (effect_of s.connection (judge s.connection t (take x.len x.bytes))).reply room reply-short h
+          ∙ (replied-front (effect_of s.connection judged).reply room (omega (arith, reply-short, h))
           ∙ ap (λ (l : List ℕ). front l room) (ap (λ (e : Effect). e.reply) effect_is ∙ sym reply-is))
-
-    pub waits-room : (room : List ℕ) → x.ended ≡ false → room ≡ front model.reply room
-    waits-room room z =
-        no_front room
-        ∙ ap (λ (l : List ℕ). front l room)
-        (sym (ap (λ (k : Call State Answer). k.reply) is-part ∙ waited-reply s t part (sym ended_is ∙ z)))

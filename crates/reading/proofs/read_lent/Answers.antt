@@ -1,44 +1,19 @@
--- The reading call: the places that are written lie in their arrays, and the store as it is written is the one that `promised` speaks of.
-use Rattle.std.proofs.Common.{◌≡◌, sym, ◌∙◌, ◌<◌, arith}
-use Rattle.lists.proofs.Cases.{cond-true, cond-false}
-use Rattle.reading.proofs.finish.Finishing.{in-entries, in_tables, promised, with_counts, entry_written, table_written, store_written}
+-- The reading call: the store as it is written is the one that `promised` speaks of.
+use mathlib.Core.Path.{◌≡◌, ◌∙◌}
+use Rattle.reading.proofs.finish.Finishing.{promised, with_counts, written, table-past, entry_past}
 use Rattle.reading.proofs.read_lent.Goals as goal
-use Rattle.reading.proofs.read_lent.Goals.{then-step, else-step, then-step-2, else-step-2}
-
-pub offset_bounds-store-step : goal.offset_bounds-store-step
-offset_bounds-store-step c =
-    let h : c.finish_read-step.result.place < 128 = in-entries _ _ c.finish_read-step.ensures.0 c.if-step.true in
-    record { fits = omega arith }
-
-pub bounds-store-step : goal.bounds-store-step
-bounds-store-step c = in-entries _ _ c.finish_read-step.ensures.0 c.if-step.true
-
-pub offset_bounds-store-step-then-step-2 : goal.offset_bounds-store-step-then-step-2
-offset_bounds-store-step-then-step-2 c =
-    let h : c.finish_read-step.result.place < 8 = in_tables _ _ c.finish_read-step.ensures.0 c.if-step-2.true in
-    record { fits = omega arith }
-
-pub bounds-store-step-then-step-2 : goal.bounds-store-step-then-step-2
-bounds-store-step-then-step-2 c = in_tables _ _ c.finish_read-step.ensures.0 c.if-step-2.true
+use Rattle.reading.proofs.read_lent.Goals.{in-Nothing, in-Table+then-place-lt-TABLES, in-Table+else-place-lt-TABLES, in-Entry+then-place-lt-ENTRIES, in-Entry+else-place-lt-ENTRIES}
 
 pub returns : goal.returns
 returns c =
-    promised _ _ _ c.start_read-started.result c.scan-scanned.result _ c.finish_read-step.result c.if-step-2.store _ written c.store_shaped.ensures c.start_read-started.ensures c.scan-scanned.ensures c.finish_read-step.ensures
-  where
-    -- the store after each of the two tests
-    with-entry : c.if-step.store ≡ entry_written (with_counts c.args.store.now c.finish_read-step.result.counts) c.finish_read-step.result
-    with-entry =
-        elim c.if-step.branch [
-          | then-step w ↦ w.store-is ∙ sym (cond-true _ _ _ w.if-step.true)
-          | else-step w ↦ w.store-is ∙ sym (cond-false _ _ _ w.if-step.false)
-        ]
-
-    with-table : c.if-step-2.store ≡ table_written c.if-step.store c.finish_read-step.result
-    with-table =
-        elim c.if-step-2.branch [
-          | then-step-2 w ↦ w.store-is ∙ sym (cond-true _ _ _ w.if-step-2.true)
-          | else-step-2 w ↦ w.store-is ∙ sym (cond-false _ _ _ w.if-step-2.false)
-        ]
-
-    written : c.if-step-2.store ≡ store_written c.args.store.now c.finish_read-step.result
-    written = with-table ∙ rw with-entry
+    let shape = c.store_shaped.ensures in
+    let counts = c.finish_read-finished.result.counts in
+    let stored : c.match-finished.store ≡ written (with_counts c.args.store.now counts) c.finish_read-finished.result.change =
+    elim c.match-finished.branch [
+      | in-Nothing w ↦ rw w.in-Nothing.is w.store-is
+      | in-Table+then-place-lt-TABLES w ↦ rw w.in-Table.is w.store-is
+      | in-Table+else-place-lt-TABLES w ↦ rw w.in-Table.is (w.store-is ∙ table-past c.args.store.now shape counts _ _ w.if-place-lt-TABLES.false)
+      | in-Entry+then-place-lt-ENTRIES w ↦ rw w.in-Entry.is w.store-is
+      | in-Entry+else-place-lt-ENTRIES w ↦ rw w.in-Entry.is (w.store-is ∙ entry_past c.args.store.now shape counts _ _ w.if-place-lt-ENTRIES.false)
+    ] in
+    promised _ _ _ c.start_read-started.result c.scan-scanned.result _ c.finish_read-finished.result _ _ stored shape c.start_read-started.ensures (rw c.sought-entry.ensures at c.scan-scanned.ensures) c.finish_read-finished.ensures

@@ -1,41 +1,35 @@
--- The refusals in their order: a law for each way to a number, and what it means that there is none.
-use Rattle.std.proofs.Common.{◌≡◌, ℕ, ◌<◌, ◌≤◌, Bool, true, false, cond, not, eqb, ltb, refl, arith, rules, ltb-false, le-ltb, lt-ltb, eq-eqb, ne_eqb, eqb-true}
-use borrow.Author.Tests.{not-true, not-false}
+-- The refusals: what is returned by the number, and what it means that there is none.
+use Rattle.std.proofs.Common.{◌≡◌, ℕ, ◌≤◌, Bool, true, false, cond, eqb, ltb, refl, sym, ap, arith, ltb-false, eqb-true, Result, Ok, Err}
 use Rattle.session.specs.declared.Session.{Session}
 use Rattle.session.specs.Session.{is_closed, established}
-use Rattle.sending.specs.Sending.{send_room, send_number}
+use Rattle.lists.proofs.Cases.{by-test, never}
+use Rattle.sending.specs.Sending.{send_room, send_number, refused_as}
 
-module _ (s : Session) (room : ℕ) (sound there : Bool) where
-  pub number-unsound : not sound ≡ true → 4 ≡ send_number sound s room there
-  unfolding send_number
-  number-unsound e = rw (not-true sound e)
+-- ---- what is returned, by the number
 
-  pub number-closed : not sound ≡ false → s.connection.closed ≡ 1 → 2 ≡ send_number sound s room there
-  unfolding send_number is_closed
-  number-closed e c = rw (not-false sound e, eq-eqb s.connection.closed 1 c)
+is_error : Result Unit ℕ → Bool
+is_error (Ok u) = false
+is_error (Err n) = true
 
-  pub number-room : not sound ≡ false → (s.connection.closed ≡ 1 → ⊥) → room < send_room → 31 ≡ send_number sound s room there
-  unfolding send_number is_closed
-  number-room e c l = rw (not-false sound e, ne_eqb s.connection.closed 1 c, lt-ltb room send_room l)
+error_of : Result Unit ℕ → ℕ
+error_of (Ok u) = 0
+error_of (Err n) = n
 
-  pub number-phase : not sound ≡ false → (s.connection.closed ≡ 1 → ⊥) → send_room ≤ room → (s.connection.phase ≡ established → ⊥)
-      → 34 ≡ send_number sound s room there
-  unfolding send_number is_closed
-  number-phase e c l p = rw (not-false sound e, ne_eqb s.connection.closed 1 c, le-ltb room send_room l, ne_eqb s.connection.phase established p)
+pub none-refused : (u : Unit) (number : ℕ) → Ok u ≡ refused_as number → number ≡ 0
+unfolding refused_as is_error
+none-refused u number e =
+    by-test (eqb number 0) (eqb-true number 0) (λ y. never refl (sym (ap is_error (rw y at e))))
 
-  pub number-place : not sound ≡ false → (s.connection.closed ≡ 1 → ⊥) → send_room ≤ room → s.connection.phase ≡ established → not there ≡ true
-      → 32 ≡ send_number sound s room there
-  unfolding send_number is_closed
-  number-place e c l p h =
-      rw (not-false sound e, ne_eqb s.connection.closed 1 c, le-ltb room send_room l, eq-eqb s.connection.phase established p, not-true there h)
+pub record Refuses (n number : ℕ) : Type 0 where
+  pub some : eqb number 0 ≡ false
+  pub same : n ≡ number
 
-  pub number-none : not sound ≡ false → (s.connection.closed ≡ 1 → ⊥) → send_room ≤ room → s.connection.phase ≡ established → not there ≡ false
-      → 0 ≡ send_number sound s room there
-  unfolding send_number is_closed
-  number-none e c l p h =
-      rw (not-false sound e, ne_eqb s.connection.closed 1 c, le-ltb room send_room l, eq-eqb s.connection.phase established p, not-false there h)
-
-pub ruleset numbers = (rules, number-unsound, number-closed, number-room, number-phase, number-place, number-none)
+pub is_refusal : (n number : ℕ) → Err n ≡ refused_as number → Refuses n number
+unfolding refused_as is_error error_of
+is_refusal n number e =
+    by-test (eqb number 0)
+    (λ y. never refl (ap is_error (rw y at e)))
+    (λ y. record { some = y; same = ap error_of (rw y at e) })
 
 -- ---- a message is sent
 

@@ -1,8 +1,6 @@
-use Rattle.session.proofs.Unfinished.{counting-unfinished}
+use borrow.Author.Rules.{rules}
+use Rattle.session.proofs.Unfinished.{how-many}
 use Rattle.session.proofs.unfinished_len.Goals as goal
 
-pub returns-then-len-gt-UNFINISHED_MAX : goal.returns-then-len-gt-UNFINISHED_MAX
-returns-then-len-gt-UNFINISHED_MAX c = search counting-unfinished
-
 pub returns : goal.returns
-returns c = search counting-unfinished
+returns c = how-many c.args.session (search rules) _ c.min.ensures

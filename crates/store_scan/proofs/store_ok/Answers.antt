@@ -1,3 +1,4 @@
+use mathlib.Core.Path.{◌∙◌}
 use Rattle.store_scan.proofs.Testing.{tables-fail, entries-tell}
 use Rattle.store_scan.proofs.store_ok.Goals as goal
 
@@ -5,4 +6,4 @@ pub returns-then-not-tables_ok : goal.returns-then-not-tables_ok
 returns-then-not-tables_ok c = tables-fail _ _ c.tables_ok.ensures c.if-not-tables_ok.true
 
 pub returns : goal.returns
-returns c = entries-tell _ _ c.tables_ok.ensures c.if-not-tables_ok.false _ _ c.scan-scanned.ensures
+returns c = c.is_some.ensures ∙ entries-tell _ _ c.tables_ok.ensures c.if-not-tables_ok.false _ _ c.scan.ensures

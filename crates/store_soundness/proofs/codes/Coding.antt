@@ -1,28 +1,25 @@
--- Codes of entries: of one entry, along the loops over them, and what the codes of all entries say of the entries.
-use Prim.Native.Nat.{ℕ, ◌+◌, ◌%◌, ◌≤◌, ◌<◌}
+-- Codes of entries: of one entry, and what the codes of all entries say of the entries.
+use Prim.Native.Nat.{ℕ, ◌%◌, ◌<◌}
 use native.Mathlib.Omega.{arith}
 use mathlib.Core.Path.{◌≡◌, refl, sym, ap, ◌∙◌, subst}
-use mathlib.Core.Bool.{Bool, true, false, not, ◌&&◌}
-use mathlib.Core.List.{List, [], ◌∷◌, map}
+use mathlib.Core.Bool.{true, false}
+use mathlib.Core.List.{List, map}
 use lib.ListN.{length, get_or, replicate, length-map}
 use lib.Seq.{ext_get_or}
 use lib.Dec.{eqb}
-use borrow.Author.Rules.{rules}
-use borrow.Author.Tests.{eq-eqb, ne_eqb, lt-ltb, le-ltb, not-true, not-false}
-use Rattle.lists.specs.Lists.{all_of, every, first_place, eq_bytes}
+use borrow.Author.Tests.{eq-eqb, ne_eqb, lt-ltb}
+use Rattle.lists.specs.Lists.{every, eq_bytes}
 use mathlib.Core.Logic.{⊎_elim}
 use Rattle.lists.proofs.Cases.{by-test, never, cond-true, cond-false, eq-or-ne}
 use Rattle.lists.proofs.Every.{every-at, every-agree}
-use Rattle.lists.specs.declared.Found.TheVariants as found
-use Rattle.lists.proofs.Searching.{Searching, search-start, search-here, search-next, search-end}
 use Rattle.store.specs.declared.Table.{Table}
 use Rattle.store.specs.declared.Entry.{Entry}
 use Rattle.store.specs.declared.Store.{Store}
-use Rattle.store.specs.Store.{table_held, entry_held, entry_free, key_of, counts_of}
-use Rattle.store.specs.Sound.{sound_entry, entry_timed_ok, entry_key_length_ok, key_rest_zero, values_ok, counts_right}
-use Rattle.store.proofs.Lookup.{blank_table, blank_entry}
-use Rattle.lists.proofs.Maps.{length-mapped, mapped_at}
-use Rattle.store_soundness.proofs.entry.EntryTests.{free-entry-sound, entry-flag-unsound, place-unsound, rows-sound}
+use Rattle.store.specs.Store.{entry_held, entry_free, key_of, counts_of}
+use Rattle.store.specs.Sound.{sound_entry, counts_right}
+use Rattle.store.proofs.Lookup.{blank_entry}
+use Rattle.lists.proofs.Maps.{mapped_at}
+use Rattle.store_soundness.proofs.entry.EntryTests.{free-entry-sound, entry-flag-unsound}
 use Rattle.store_soundness.specs.Hashes.{hash_end, hash_key, entry_hash}
 use Rattle.store_soundness.proofs.hashes.Hashing.{key_below, start_small, held-is}
 use Rattle.store_soundness.specs.Codes.{unsound_code, entry_code, counted_codes, store_codes, sound_code, is_code}
@@ -49,37 +46,7 @@ module _ (tables : List Table) (e : Entry) where
   pub free-code : e.held ≡ 0 → entry_code tables e ≡ 2147483647
   free-code h = sound-code (free-entry-sound tables e h) ∙ free-hash h
 
-  pub code_free : e.held ≡ 0 → 2147483647 ≡ entry_code tables e
-  code_free h = sym (free-code h)
-
-  pub code-flag : (e.held ≡ 0 → ⊥) → (e.held ≡ 1 → ⊥) → 2147483648 ≡ entry_code tables e
-  code-flag f g = sym (bad-code (entry-flag-unsound tables e f g))
-
-  pub code-place : e.held ≡ 1 → 8 ≤ e.table → 2147483648 ≡ entry_code tables e
-  code-place h l = sym (bad-code (place-unsound tables e h l))
-
-  module _ {b : Bool} (h : e.held ≡ 1) (l : e.table < 8) (n : length tables ≡ 8)
-      (q : b ≡ (let t = get_or tables e.table blank_table in table_held t && all_of (entry_timed_ok e ∷ entry_key_length_ok t e ∷ key_rest_zero e ∷ values_ok t e ∷ []))) where
-    pub code-rows : not b ≡ true → 2147483648 ≡ entry_code tables e
-    code-rows t = sym (bad-code (rows-sound tables e h _ b l n refl q ∙ not-true b t))
-
-    pub code-held : {m : ℕ} → not b ≡ false → m ≡ hash_key (e.table % hash_end) (key_of e) → m ≡ entry_code tables e
-    code-held t p = p ∙ sym (key-hash h) ∙ sym (sound-code (rows-sound tables e h _ b l n refl q ∙ not-false b t))
-
-pub ruleset coding = (rules, length-mapped, code-flag, code-place, code-rows, code-held)
-
 -- ---- the codes of a store whose counts are those found, or others
-
-module _ (codes found counts : List ℕ) where
-  pub codes-stay : {b : Bool} → b ≡ eq_bytes counts found → not b ≡ false → codes ≡ counted_codes codes found counts
-  unfolding counted_codes
-  codes-stay {b} e h = sym (cond-true (eq_bytes counts found) codes (replicate 128 unsound_code) (sym e ∙ not-false b h))
-
-  pub codes-fall : {b : Bool} → b ≡ eq_bytes counts found → not b ≡ true → replicate 128 2147483648 ≡ counted_codes codes found counts
-  unfolding counted_codes
-  codes-fall {b} e h = sym (cond-false (eq_bytes counts found) codes (replicate 128 unsound_code) (sym e ∙ not-true b h))
-
-pub ruleset recounting = (rules, codes-stay, codes-fall)
 
 module _ (tables : List Table) (s : Store) where
   pub right-codes : counts_right s ≡ true → store_codes tables s ≡ map (entry_code tables) s.entries
@@ -97,29 +64,6 @@ module _ (tables : List Table) (s : Store) where
 -- a sound entry is free or held
 held_one : (tables : List Table) (e : Entry) → sound_entry tables e ≡ true → (e.held ≡ 0 → ⊥) → e.held ≡ 1
 held_one tables e h f = ⊎_elim (λ z. z) (λ g. never h (entry-flag-unsound tables e f g)) (eq-or-ne e.held 1)
-
--- ---- the loops over the codes
-
-pub code-passes : (c : ℕ) → c < 2147483648 → sound_code c ≡ true
-code-passes c l = lt-ltb c 2147483648 l
-
-pub code-fails : (c : ℕ) → 2147483648 ≤ c → sound_code c ≡ false
-code-fails c l = le-ltb c 2147483648 l
-
-code_is : (code c : ℕ) → c ≡ code → is_code code c ≡ true
-code_is code c e = eq-eqb c code e
-
-code_other : (code c : ℕ) → (c ≡ code → ⊥) → is_code code c ≡ false
-code_other code c f = ne_eqb c code f
-
-module _ {codes : List ℕ} {code i : ℕ} (r : Searching (is_code code) codes 128 i) (l : i < 128) where
-  pub code_here : get_or codes i 0 ≡ code → found.At i ≡ first_place (is_code code) codes
-  code_here e = search-here r 0 l (code_is code (get_or codes i 0) e)
-
-  pub code-next : (get_or codes i 0 ≡ code → ⊥) → Searching (is_code code) codes 128 (i + 1)
-  code-next f = search-next r 0 l (code_other code (get_or codes i 0) f)
-
-pub ruleset finding = (rules, search-start, search-end, code_here, code-next)
 
 -- ---- what the codes of all entries say
 

@@ -1,67 +1,23 @@
 -- The tests of an entry's soundness, in the cases of the code.
-use Prim.Native.Nat.{ℕ, ◌+◌, ◌-◌, ◌^◌, ◌≤◌, ◌<◌}
+use Prim.Native.Nat.{ℕ, ◌+◌, ◌^◌, ◌≤◌, ◌<◌}
 use native.Mathlib.Omega.{arith}
 use mathlib.Core.Path.{◌≡◌, refl, sym, ap, ◌∙◌}
 use mathlib.Core.Bool.{Bool, true, false, not, ◌&&◌, ◌||◌}
 use mathlib.Core.List.{List, [], ◌∷◌}
-use lib.ListN.{length, get_or, take, drop, drop_of_length-le, length-drop}
-use lib.Seq.{take_all}
+use lib.ListN.{length, get_or, drop, drop_of_length-le}
 use lib.Dec.{ltb, leb, eqb}
 use borrow.Author.Rules.{rules}
 use borrow.Author.Tests.{eq-eqb, ne_eqb, le-leb, lt-leb, lt-ltb, le-ltb, not-true, not-false}
-use Rattle.lists.specs.Lists.{all_of, every, is_zero}
-use Rattle.lists.proofs.Cases.{and-true, and-false, or-true, or-false, or-second, unless-true, unless-false, cond-true, cond-false, all_true, all-false, by-test}
+use Rattle.lists.specs.Lists.{all_of}
+use Rattle.lists.proofs.Cases.{and-true, and-false, or-second, unless-true, unless-false, all-false}
 use Rattle.lists.proofs.Every.{get_d_any, drop-step}
 use Rattle.store.specs.declared.Table.{Table}
 use Rattle.store.specs.declared.Entry.{Entry}
-use Rattle.store.specs.declared.types.KeyKind.{KeyKind}
-use Rattle.store.specs.Limits.{key_kind, is_string, present, is_wide, slot_types}
+use Rattle.store.specs.Limits.{present, is_wide, slot_types}
 use Rattle.store.specs.Store.{table_held, entry_held, no_table}
 use Rattle.store.specs.Sound.{entry_table_ok, entry_timed_ok, entry_key_length_ok, key_rest_zero, slot_ok, slots_ok, values_ok, entry_tests, sound_entry}
 use Rattle.store.proofs.Rules.{slot-count}
 use Rattle.store.proofs.Lookup.{blank_table}
-
--- ---- an entry's mark of a time
-
-module _ (e : Entry) (ts : List Bool) where
-  pub mark-stop : 1 < e.timed → false ≡ all_of (entry_timed_ok e ∷ ts)
-  unfolding entry_timed_ok
-  mark-stop l = sym (all-false (leb e.timed 1) ts (lt-leb e.timed 1 l))
-
-  pub mark-next : (r : Bool) → e.timed ≤ 1 → r ≡ all_of ts → r ≡ all_of (entry_timed_ok e ∷ ts)
-  unfolding entry_timed_ok
-  mark-next r l q = q ∙ sym (all_true (leb e.timed 1) ts (le-leb e.timed 1 l))
-
--- ---- an entry's key
-
-module _ (t : Table) (e : Entry) {k : KeyKind} {b : Bool} (q : k ≡ key_kind t.key_type) (p : b ≡ is_string k) where
-  pub string-length : b ≡ true → leb e.key_len t.key_len ≡ entry_key_length_ok t e
-  unfolding entry_key_length_ok
-  string-length h =
-      sym
-      (cond-true (is_string (key_kind t.key_type)) (leb e.key_len t.key_len) (eqb e.key_len t.key_len)
-      (ap is_string (sym q) ∙ sym p ∙ h))
-
-  pub exact-length : b ≡ false → eqb e.key_len t.key_len ≡ entry_key_length_ok t e
-  unfolding entry_key_length_ok
-  exact-length h =
-      sym
-      (cond-false (is_string (key_kind t.key_type)) (leb e.key_len t.key_len) (eqb e.key_len t.key_len)
-      (ap is_string (sym q) ∙ sym p ∙ h))
-
-pub ruleset lengths = (rules, string-length, exact-length)
-
-pub no-rest : (e : Entry) → length e.key ≡ 64 → 64 < e.key_len → true ≡ key_rest_zero e
-unfolding key_rest_zero every
-no-rest e z l = rw (drop_of_length-le e.key {i = e.key_len} (omega arith))
-
-pub rest-is : (e : Entry) (b : Bool) → length e.key ≡ 64 → e.key_len ≤ 64
-    → b ≡ every is_zero (take (64 - e.key_len) (drop e.key_len e.key)) → b ≡ key_rest_zero e
-unfolding key_rest_zero
-rest-is e b z l q =
-    q
-    ∙ ap (every is_zero)
-    (take_all (64 - e.key_len) (drop e.key_len e.key) (omega (arith, length-drop e.key_len e.key)))
 
 -- ---- an entry's values
 
@@ -72,27 +28,6 @@ module _ (types t v : ℕ) where
       let n = lt-ltb v (2 ^ 32) l in
       let w = or-second (is_wide t) (ltb v (2 ^ 32)) n ∙ n in
       or-second (not (present types t)) (is_wide t || ltb v (2 ^ 32)) w ∙ w
-
-  pub value-narrow : v < 4294967296 → true ≡ slot_ok types t v
-  value-narrow l = sym (narrow-value l)
-
-  module _ {b : Bool} (e : b ≡ is_wide t) where
-    pub value-wide : b ≡ true → true ≡ slot_ok types t v
-    unfolding slot_ok
-    value-wide h =
-        let w = or-true (is_wide t) (ltb v (2 ^ 32)) (sym e ∙ h) in
-        sym (or-second (not (present types t)) (is_wide t || ltb v (2 ^ 32)) w ∙ w)
-
-    pub value-large : {p : Bool} → p ≡ present types t → b ≡ false → 4294967296 ≤ v → not p ≡ slot_ok types t v
-    unfolding slot_ok
-    value-large {p} q h l =
-        let w = or-false (is_wide t) (ltb v (2 ^ 32)) (sym e ∙ h) ∙ le-ltb v (2 ^ 32) l in
-        ap not q
-        ∙ by-test (present types t)
-        (λ x. ap not x ∙ sym (or-false (not (present types t)) (is_wide t || ltb v (2 ^ 32)) (ap not x) ∙ w))
-        (λ x. ap not x ∙ sym (or-true (not (present types t)) (is_wide t || ltb v (2 ^ 32)) (ap not x)))
-
-pub ruleset values = (rules, value-narrow, value-wide, value-large)
 
 pub record Slots (types : ℕ) (vs : List ℕ) (i : ℕ) : Type 0 where
   pub size : length vs ≡ 34
@@ -122,29 +57,11 @@ module _ {types : ℕ} {vs : List ℕ} {i : ℕ} (r : Slots types vs i) where
           rest = slots-step ∙ and-true b (slots_ok types (drop (i + 1) slot_types) (drop (i + 1) vs)) (not-false b h);
         }
 
-  pub slots-narrow : i < 34 → get_or vs i 0 < 4294967296 → Slots types vs (i + 1)
-  slots-narrow l h = slots_next l refl (value-narrow types (get_or slot_types i 0) (get_or vs i 0) h) refl
-
   pub slots_end : 34 ≤ i → true ≡ slots_ok types slot_types vs
   unfolding slots_ok
   slots_end l = sym (r.rest ∙ rw (drop_of_length-le slot_types {i = i} (omega (arith, slot-count))))
 
 pub ruleset slots = (rules, slots-start, slots-stop, slots_next, slots_end)
-
--- ---- an entry and its table
-
-pub values-row : (t : Table) (e : Entry) (b : Bool) → b ≡ slots_ok t.data_types slot_types e.values → b ≡ values_ok t e
-unfolding values_ok
-values-row t e b q = q
-
-module _ (t : Table) (b : Bool) where
-  pub table-gone : (t.held ≡ 1 → ⊥) → false ≡ (table_held t && b)
-  unfolding table_held
-  table-gone f = sym (and-false (eqb t.held 1) b (ne_eqb t.held 1 f))
-
-  pub table-there : (a : Bool) → t.held ≡ 1 → a ≡ b → a ≡ (table_held t && b)
-  unfolding table_held
-  table-there a h e = e ∙ sym (and-true (eqb t.held 1) b (eq-eqb t.held 1 h))
 
 -- ---- an entry of a store
 
@@ -184,3 +101,20 @@ module _ (tables : List Table) (e : Entry) where
         ∙ ap (λ (x : Table). table_held x && all_of (entry_timed_ok e ∷ entry_key_length_ok x e ∷ key_rest_zero e ∷ values_ok x e ∷ []))
         (get_d_any tables e.table no_table blank_table (omega arith) ∙ sym q)
         ∙ sym p
+
+  -- in the form of the code
+  pub sound_free : e.held ≡ 0 → true ≡ sound_entry tables e
+  sound_free h = sym (free-entry-sound h)
+
+  pub sound_flag : (e.held ≡ 0 → ⊥) → (e.held ≡ 1 → ⊥) → false ≡ sound_entry tables e
+  sound_flag f g = sym (entry-flag-unsound f g)
+
+  pub sound_place : e.held ≡ 1 → 8 ≤ e.table → ltb e.table 8 ≡ sound_entry tables e
+  sound_place h l = le-ltb e.table 8 l ∙ sym (place-unsound h l)
+
+  pub sound_rows : (b : Bool) → e.held ≡ 1 → e.table < 8 → length tables ≡ 8
+      → b ≡ (table_held (get_or tables e.table blank_table) && all_of (entry_timed_ok e ∷ entry_key_length_ok (get_or tables e.table blank_table) e ∷ key_rest_zero e ∷ values_ok (get_or tables e.table blank_table) e ∷ []))
+      → b ≡ sound_entry tables e
+  sound_rows b h l n p = sym (rows-sound h (get_or tables e.table blank_table) b l n refl p)
+
+pub ruleset sounds = (rules, sound_free, sound_flag, sound_place, sound_rows)

@@ -1,25 +1,19 @@
 -- Values below 2^32 fit every data type's width.
-use Prim.Native.Nat.{ℕ, ◌^◌, ◌≤◌, ◌<◌}
+use Prim.Native.Nat.{ℕ, ◌^◌}
 use mathlib.Core.Path.{◌≡◌, refl, sym, ◌∙◌}
-use mathlib.Core.Bool.{Bool, true, false}
+use mathlib.Core.Bool.{Bool, true}
 use mathlib.Core.List.{List, [], ◌∷◌}
 use borrow.Author.Rules.{rules}
-use borrow.Author.Tests.{lt-ltb, le-ltb, ltb-true}
-use Rattle.lists.specs.Lists.{all_of, every}
-use Rattle.lists.proofs.Cases.{and_first, and_second, and_intro, all-stop, all-next, all-last}
+use borrow.Author.Tests.{ltb-true}
+use Rattle.lists.specs.Lists.{every}
+use Rattle.lists.proofs.Cases.{and_first, and_second, and_intro}
 use Rattle.lists.proofs.Every.{every-cons}
 use Rattle.store.specs.declared.Table.{Table}
 use Rattle.store.specs.declared.Entry.{Entry}
 use Rattle.store.specs.Limits.{slot_types}
-use Rattle.store.specs.Sound.{slot_ok, slots_ok, values_ok}
-use Rattle.store_soundness.proofs.entry.EntryTests.{mark-stop, mark-next, narrow-value, values-row, table-gone, table-there}
+use Rattle.store.specs.Sound.{slot_ok, slots_ok}
+use Rattle.store_soundness.proofs.entry.EntryTests.{narrow-value}
 use Rattle.store_soundness.specs.Narrow.{is_narrow}
-
-pub narrow-passes : (v : ℕ) → v < 4294967296 → is_narrow v ≡ true
-narrow-passes v l = lt-ltb v (2 ^ 32) l
-
-pub wide-fails : (v : ℕ) → 4294967296 ≤ v → is_narrow v ≡ false
-wide-fails v l = le-ltb v (2 ^ 32) l
 
 narrow-slots : (types : ℕ) (ts vs : List ℕ) → every is_narrow vs ≡ true → slots_ok types ts vs ≡ true
 unfolding slots_ok
@@ -31,9 +25,7 @@ narrow-slots types (t ∷ ts) (v ∷ vs) h =
     (narrow-value types t v (ltb-true v (2 ^ 32) (and_first (is_narrow v) (every is_narrow vs) e)))
     (narrow-slots types ts vs (and_second (is_narrow v) (every is_narrow vs) e))
 
-pub narrow-values : (t : Table) (e : Entry) (b : Bool) → b ≡ every is_narrow e.values → b ≡ true → true ≡ all_of (values_ok t e ∷ [])
-unfolding values_ok
-narrow-values t e b q h =
-    all-last true (slots_ok t.data_types slot_types e.values) (sym (narrow-slots t.data_types slot_types e.values (sym q ∙ h)))
+pub narrow_values : (t : Table) (e : Entry) (b : Bool) → b ≡ every is_narrow e.values → b ≡ true → b ≡ slots_ok t.data_types slot_types e.values
+narrow_values t e b q h = h ∙ sym (narrow-slots t.data_types slot_types e.values (sym q ∙ h))
 
-pub ruleset entry-rows = (rules, values-row, all-stop, all-next, all-last, table-gone, table-there, mark-stop, mark-next, narrow-values)
+pub ruleset values = (rules, narrow_values)

@@ -7,19 +7,19 @@ use mathlib.Core.Logic.{⊎_elim}
 use mathlib.Core.List.{List, [], ◌∷◌, map}
 use lib.ListN.{length, get_or, take, drop, length-map, length-drop, drop_of_length-le}
 use lib.Seq.{take_all, get_or-drop, drop-drop}
-use lib.Dec.{eqb, ltb}
+use lib.Dec.{eqb, ltb, leb}
 use mir.Val.{Fits}
 use mir.Syntax.{w32}
 use borrow.Author.Rules.{rules}
-use borrow.Author.Tests.{eqb-true, eq-eqb, ne_eqb, lt-ltb, le-ltb, not-true, not-false}
+use borrow.Author.Tests.{le-leb, eqb-true, eq-eqb, ne_eqb, lt-ltb, le-ltb}
 use Rattle.lists.specs.Lists.{distinct, every, eq_bytes}
 use Rattle.lists.proofs.Cases.{and_first, and_second, and-true, and-false, by-test, cond-true, never, eq-or-ne}
 use Rattle.lists.proofs.Maps.{mapped_at}
 use Rattle.lists.proofs.Prefix.{shorter-bytes, prefix-shorter}
-use Rattle.lists.proofs.Every.{drop-step, every-agree}
+use Rattle.lists.proofs.Every.{drop-step}
 use Rattle.lists.proofs.Bytes.{eq-bytes}
 use Rattle.lists.proofs.Distinct.{distinct-at, distinct_from}
-use Rattle.lists.proofs.Pairs.{Outer, outer_start, outer-skip, outer-next, outer-stop, outer-end}
+use Rattle.store_soundness.proofs.Pairs.{every_true, every_same}
 use Rattle.store.specs.declared.Entry.{Entry}
 use Rattle.store.specs.Store.{entry_held, entry_of, entry_keyed, key_of}
 use Rattle.store.specs.Sound.{same_key}
@@ -159,7 +159,7 @@ pub key_below : (h : ℕ) (bs : List ℕ) → h < hash_end → hash_key h bs < h
 unfolding hash_key
 key_below h bs l = bytes_below (hash_words (length bs / 4) h bs) (drop (4 * (length bs / 4)) bs) (words-below (length bs / 4) h bs l)
 
-pub ruleset key-hashing = (rules, key-hashed, words_inside)
+pub ruleset key_hashing = (rules, key-hashed, words_inside)
 
 -- ---- the hash of an entry
 
@@ -177,7 +177,7 @@ start_small t = omega arith
 pub hash-narrow : {m : ℕ} → m < hash_end → Fits w32 m
 hash-narrow l = record { fits = omega arith }
 
-pub ruleset entry-hashes = (rules, shorter-bytes, held-hash, start_small, hash-narrow)
+pub ruleset entry_hashes = (rules, shorter-bytes, held-hash, start_small, hash-narrow)
 
 -- ---- pairs of hashes
 
@@ -192,45 +192,17 @@ same_alike a b l e = and-true (ltb a hash_end) (eqb a b) (lt-ltb a hash_end l) �
 eqb-turned : (a b : ℕ) → eqb a b ≡ eqb b a
 eqb-turned a b = ⊎_elim (λ e. eq-eqb a b e ∙ sym (eq-eqb b a (sym e))) (λ f. ne_eqb a b f ∙ sym (ne_eqb b a (λ z. f (sym z)))) (eq-or-ne a b)
 
-pub hash-other : (hash m : ℕ) → (m ≡ hash → ⊥) → other_hash hash m ≡ true
-hash-other hash m f = ap not (ne_eqb m hash f)
-
-pub hash-same : (hash m : ℕ) → m ≡ hash → other_hash hash m ≡ false
-hash-same hash m e = ap not (eq-eqb m hash e)
-
-pub pairs_start : {hashes : List ℕ} → length hashes ≡ 128 → Outer same_hash hashes 128 0
-pairs_start e = outer_start e
-
 -- of a held entry's hash, the others are told by equality alone
 unlike-other : (a : ℕ) → a < hash_end → (b : ℕ) → not (same_hash a b) ≡ other_hash a b
 unfolding same_hash
 unlike-other a l b = ap not (and-true (ltb a hash_end) (eqb a b) (lt-ltb a hash_end l) ∙ eqb-turned a b)
 
-module _ {hashes : List ℕ} {i : ℕ} (r : Outer same_hash hashes 128 i) where
-  pub pairs_end : 128 ≤ i → true ≡ distinct same_hash hashes
-  pairs_end l = outer-end r l
+module _ (hash : ℕ) (others : List ℕ) where
+  pub free_apart : hash_end ≤ hash → leb hash_end hash ≡ every (λ (y : ℕ). not (same_hash hash y)) others
+  free_apart l = le-leb hash_end hash l ∙ sym (every_true (λ (y : ℕ). not (same_hash hash y)) others (λ y. ap not (free-alike hash y l)))
 
-  pub pair-free : i < 128 → hash_end ≤ get_or hashes i 0 → Outer same_hash hashes 128 (i + 1)
-  pair-free l h = outer-skip r 0 l (λ y. free-alike (get_or hashes i 0) y h)
-
-  pub later-fits : i < 128 → i + 1 ≤ length hashes
-  later-fits l = omega (arith, r.size)
-
-  module _ {b : Bool} (l : i < 128) (h : get_or hashes i 0 < hash_end) (q : b ≡ every (other_hash (get_or hashes i 0)) (take (128 - (i + 1)) (drop (i + 1) hashes))) where
-    later : every (λ (y : ℕ). not (same_hash (get_or hashes i 0) y)) (drop (i + 1) hashes) ≡ b
-    later =
-        every-agree (λ (y : ℕ). not (same_hash (get_or hashes i 0) y)) (other_hash (get_or hashes i 0)) 0 0 (drop (i + 1) hashes) (drop (i + 1) hashes) refl
-        (λ k m. unlike-other (get_or hashes i 0) h (get_or (drop (i + 1) hashes) k 0))
-        ∙ ap (every (other_hash (get_or hashes i 0))) (sym (take_all (128 - (i + 1)) (drop (i + 1) hashes) (omega (arith, length-drop (i + 1) hashes, r.size))))
-        ∙ sym q
-
-    pub pair-equal : not b ≡ true → false ≡ distinct same_hash hashes
-    pair-equal t = outer-stop r 0 l (later ∙ not-true b t)
-
-    pub pair-apart : not b ≡ false → Outer same_hash hashes 128 (i + 1)
-    pair-apart t = outer-next r 0 l (later ∙ not-false b t)
-
-pub ruleset pairs = (rules, pairs_start, pairs_end, later-fits, pair-equal)
+  pub held_apart : (b : Bool) → hash < hash_end → b ≡ every (other_hash hash) others → b ≡ every (λ (y : ℕ). not (same_hash hash y)) others
+  held_apart b l q = q ∙ sym (every_same (λ (y : ℕ). not (same_hash hash y)) (other_hash hash) others (unlike-other hash l))
 
 -- ---- entries with one table and key have one hash, so distinct hashes are of distinct keys
 

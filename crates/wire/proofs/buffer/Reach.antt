@@ -1,20 +1,12 @@
--- Bytes put into a room as far as it reaches: nothing, one byte, two one after the other; a law for each way through `put`, `put_int` and
--- `put_number`.
+-- Bytes put into a room as far as it reaches: nothing, one byte, two one after the other.
 use Prim.Native.Nat.{ℕ, zero, suc, ◌+◌, ◌-◌, ◌≤◌, ◌<◌}
 use native.Mathlib.Omega.{arith}
 use native.Mathlib.Nat.{zero-min, min-zero, suc-min-suc}
-use native.Mathlib.Numerals.{add-one}
 use mathlib.Core.Path.{◌≡◌, refl, sym, ap, ◌∙◌}
 use mathlib.Core.List.{List, [], ◌∷◌, ◌++◌}
-use lib.ListN.{length, take, drop, get_or, set, length-set, take-append-drop}
-use lib.Seq.{take-suc, take_all}
-use borrow.Author.Rules.{rules}
+use lib.ListN.{length, set}
 use Rattle.lists.specs.Lists.{front, overlay}
-use Rattle.wire.specs.declared.Encoded.{Encoded}
-use Rattle.wire.specs.Integer.{encode_int, encoded_int}
-use Rattle.wire.specs.Number.{encode_number}
 use Rattle.wire.specs.Room.{filled, reached, Wrote}
-use Rattle.wire.proofs.buffer.Room.{len-le, len-taken, whole-int}
 
 -- ---- the next position, case by case
 reached-none : (at : ℕ) (text : List ℕ) → reached [] at text ≡ at
@@ -138,42 +130,3 @@ module _ {room x bytes : List ℕ} {k : ℕ} (w : Wrote room 0 bytes x k) (h : l
 
   pub wrote-long : k ≡ length bytes
   wrote-long = wrote-behind w (omega arith) ∙ omega arith
-
--- ---- the loop of `put`: so many bytes are put
-pub record Putting (room : List ℕ) (at : ℕ) (bytes now : List ℕ) (next i : ℕ) : Type 0 where
-  pub up : i ≤ length bytes
-  pub long : length now ≡ length room
-  pub wrote : Wrote room at (take i bytes) now next
-
-pub put-start : (room bytes : List ℕ) (at : ℕ) → Putting room at bytes room at 0
-put-start room bytes at = record { up = omega arith; long = refl; wrote = nothing room at }
-
-module _ {room bytes now : List ℕ} {at next i : ℕ} (p : Putting room at bytes now next i) where
-  pub put-kept : length now ≡ length room
-  put-kept = p.long
-
-  pub put_full : length now ≤ next → Wrote room at bytes now next
-  put_full h = retold (take-append-drop i bytes) (joined p.wrote (full now next (drop i bytes) h))
-
-  pub put-turn : i < length bytes → next < length now → Putting room at bytes (set now next (get_or bytes i 0)) (next + 1) (i + 1)
-  put-turn h l = record {
-    up = omega arith;
-    long = length-set now next (get_or bytes i 0) ∙ p.long;
-    wrote = rw (add-one i) (retold (sym (take-suc bytes i 0 h)) (joined p.wrote (one now next (get_or bytes i 0) l)));
-  }
-
-  pub put-end : length bytes ≤ i → Wrote room at bytes now next
-  put-end h = retold (take_all i bytes h) p.wrote
-
-pub ruleset putting = (rules, put-start, put-kept, put_full, put-turn, put-end)
-
--- ---- `put_int` and `put_number`: the bytes lent are the encoding
-pub int-put : (e : Encoded) (v : ℕ) → e ≡ encoded_int v → {room x : List ℕ} {at k : ℕ} → Wrote room at (take e.len e.bytes) x k → Wrote room at (encode_int v) x k
-int-put e v h w = retold (whole-int e v h) w
-
-pub ruleset putting-int = (rules, len-le, len-taken, int-put)
-
-pub number_put : (bytes : List ℕ) (v : ℕ) → bytes ≡ encode_number v → {room x : List ℕ} {at k : ℕ} → Wrote room at bytes x k → Wrote room at (encode_number v) x k
-number_put bytes v h w = retold h w
-
-pub ruleset putting-number = (rules, number_put)

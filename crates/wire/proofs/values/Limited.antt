@@ -1,4 +1,5 @@
--- Values with a limit: a law for each way through `read_limited`, and the value rule over the width.
+-- Values with a limit, and the value rule over the width.
+use Rattle.std.specs.Prelude.{Err, Ok, Result}
 use Prim.Native.Nat.{ℕ, ◌-◌, ◌^◌, ◌≤◌, ◌<◌}
 use native.Mathlib.Omega.{arith}
 use native.Mathlib.Nat.{pow-le-pow_right}
@@ -6,55 +7,44 @@ use mathlib.Core.Path.{◌≡◌, refl, sym, subst}
 use mathlib.Core.List.{List, ◌++◌}
 use lib.Dec.{lit<}
 use lib.ListN.{length}
-use borrow.Author.Rules.{rules}
 use borrow.Author.Tests.{lt-ltb, le-ltb}
-use Rattle.wire.specs.declared.Int.{Int}
-use Rattle.wire.specs.declared.Int.TheVariants as int
-use Rattle.wire.specs.declared.values.Field.{Field}
-use Rattle.wire.specs.declared.values.Field.TheVariants as field
+use Rattle.wire.specs.declared.IntError.{IntError}
+use Rattle.wire.specs.declared.values.FieldError.{FieldError}
+use Rattle.wire.specs.declared.IntError.TheVariants as int
+use Rattle.wire.specs.declared.values.FieldError.TheVariants as field
 use Rattle.wire.specs.Integer.{encode_int, read_int}
-use Rattle.wire.specs.Value.{limited, read_limited, read_width, WidthRule}
+use Rattle.wire.specs.Value.{field_error, limited, read_limited, read_width, WidthRule}
 use Rattle.lists.proofs.Cases.{lt-or-le, split}
 use Rattle.wire.proofs.RoundTrip.{round_trip, one-encoding}
 
--- ---- the code's ways, where r is what `read_int` gives
-module _ (limit : ℕ) (s : List ℕ) (at : ℕ) (r : Int) (p : r ≡ read_int s at) where
-  pub over : (v next : ℕ) → r ≡ int.Value v next → limit < v → field.OutOfRange ≡ read_limited limit s at
+-- ---- the cases of `read_limited`, where r is what `read_int` gives
+module _ (limit : ℕ) (s : List ℕ) (at : ℕ) (r : (Result (ℕ × ℕ) IntError)) (p : r ≡ read_int s at) where
+  over : (v next : ℕ) → r ≡ Ok (v, next) → limit < v → (Err field.OutOfRange) ≡ read_limited limit s at
   unfolding read_limited limited
   over v next e l = rw (← p, e, lt-ltb limit v l)
 
-  pub within : (v next : ℕ) → r ≡ int.Value v next → v ≤ limit → field.Value v next ≡ read_limited limit s at
+  within : (v next : ℕ) → r ≡ Ok (v, next) → v ≤ limit → Ok (v, next) ≡ read_limited limit s at
   unfolding read_limited limited
   within v next e l = rw (← p, e, le-ltb limit v l)
 
-  pub short : (k : ℕ) → r ≡ int.Short k → field.Short ≡ read_limited limit s at
+  no-int : (e : IntError) → r ≡ Err e → Err (field_error e) ≡ read_limited limit s at
   unfolding read_limited limited
-  short k e = rw (← p, e)
-
-  pub overflow : (k : ℕ) → r ≡ int.Overflow k → field.OutOfRange ≡ read_limited limit s at
-  unfolding read_limited limited
-  overflow k e = rw (← p, e)
-
-pub at_width : (k : ℕ) (s : List ℕ) (at : ℕ) (r : Field) → r ≡ read_limited (2 ^ k - 1) s at → r ≡ read_width k s at
-unfolding read_width
-at_width k s at r e = e
-
-pub ruleset limiting = (rules, over, within, short, overflow, at_width)
+  no-int e g = rw (← p, g)
 
 -- ---- a value that is read with a limit is the integer, and at most the limit
-Held : ℕ → Int → Field → Type 0
-Held limit i (field.Value v next) = (i ≡ int.Value v next) × (v ≤ limit)
-Held limit i field.Short = Unit {0}
-Held limit i field.OutOfRange = Unit {0}
+Held : ℕ → Result (ℕ × ℕ) IntError → Result (ℕ × ℕ) FieldError → Type 0
+Held limit i (Ok (v, next)) = (i ≡ Ok (v, next)) × (v ≤ limit)
+Held limit i (Err field.Short) = Unit {0}
+Held limit i (Err field.OutOfRange) = Unit {0}
 
-held : (limit : ℕ) (i : Int) → Held limit i (limited limit i)
+held : (limit : ℕ) (i : (Result (ℕ × ℕ) IntError)) → Held limit i (limited limit i)
 unfolding Held limited
-held limit (int.Value v next) = split (lt-or-le limit v) (λ l. rw (lt-ltb limit v l) tt) (λ l. rw (le-ltb limit v l) (refl, l))
-held limit (int.Short k) = tt
-held limit (int.Overflow k) = tt
+held limit (Ok (v, next)) = split (lt-or-le limit v) (λ l. rw (lt-ltb limit v l) tt) (λ l. rw (le-ltb limit v l) (refl, l))
+held limit (Err (int.Short k)) = tt
+held limit (Err (int.Overflow k)) = tt
 
-pub limited-value : (limit : ℕ) (s : List ℕ) (at v next : ℕ) → read_limited limit s at ≡ field.Value v next
-    → (read_int s at ≡ int.Value v next) × (v ≤ limit)
+pub limited-value : (limit : ℕ) (s : List ℕ) (at v next : ℕ) → read_limited limit s at ≡ Ok (v, next)
+    → (read_int s at ≡ Ok (v, next)) × (v ≤ limit)
 unfolding read_limited Held
 limited-value limit s at v next e = subst (Held limit (read_int s at)) e (held limit (read_int s at))
 
@@ -63,15 +53,15 @@ module _ (k : ℕ) where
   some : 1 ≤ 2 ^ k
   some = let z : 0 ≤ k = omega arith in omega (arith, pow-le-pow_right {n = 2} (lit< tt) z)
 
-  width-within : (s : List ℕ) (at v next : ℕ) → read_int s at ≡ int.Value v next → v < 2 ^ k → read_width k s at ≡ field.Value v next
+  width-within : (s : List ℕ) (at v next : ℕ) → read_int s at ≡ Ok (v, next) → v < 2 ^ k → read_width k s at ≡ Ok (v, next)
   unfolding read_width
   width-within s at v next e l = sym (within (2 ^ k - 1) s at _ refl v next e (omega arith))
 
-  width-over : (s : List ℕ) (at v next : ℕ) → read_int s at ≡ int.Value v next → 2 ^ k ≤ v → read_width k s at ≡ field.OutOfRange
+  width-over : (s : List ℕ) (at v next : ℕ) → read_int s at ≡ Ok (v, next) → 2 ^ k ≤ v → read_width k s at ≡ (Err field.OutOfRange)
   unfolding read_width
   width-over s at v next e l = sym (over (2 ^ k - 1) s at _ refl v next e (omega (arith, some)))
 
-  width-value : (s : List ℕ) (at v next : ℕ) → read_width k s at ≡ field.Value v next → (read_int s at ≡ int.Value v next) × (v ≤ 2 ^ k - 1)
+  width-value : (s : List ℕ) (at v next : ℕ) → read_width k s at ≡ Ok (v, next) → (read_int s at ≡ Ok (v, next)) × (v ≤ 2 ^ k - 1)
   unfolding read_width
   width-value s at v next e = limited-value (2 ^ k - 1) s at v next e
 
@@ -83,8 +73,8 @@ unfolding read_width
 width-rule k h = record {
   within = width-within k;
   over = width-over k;
-  short = λ s at n e. sym (short (2 ^ k - 1) s at _ refl n e);
-  overflow = λ s at n e. sym (overflow (2 ^ k - 1) s at _ refl n e);
+  short = λ s at n e. sym (no-int (2 ^ k - 1) s at _ refl (int.Short n) e);
+  overflow = λ s at n e. sym (no-int (2 ^ k - 1) s at _ refl (int.Overflow n) e);
   small = λ s at v next e. let q = (width-value k s at v next e).1 in omega (arith, some k);
   trip = λ p t v l. width-within k (p ++ (encode_int v ++ t)) (length p) v _ (round_trip p t v (omega (arith, power_le k h))) l;
   trip-over = λ p t v m l. width-over k (p ++ (encode_int v ++ t)) (length p) v _ (round_trip p t v m) l;

@@ -1,54 +1,36 @@
--- The server ID: laws for each way through `server_id_of`, `server_id_word` and `read_server_id`, and the way there and back.
-use Prim.Native.Nat.{ℕ, zero, suc, ◌+◌, ◌-◌, ◌^◌, ◌≤◌, ◌<◌}
+-- The server ID: laws for each way through `server_id_of` and `server_id_word`, and the way there and back.
+use Rattle.std.specs.Prelude.{OkIff, Err, None, Ok, Option, Result, Some}
+use Rattle.std.specs.Result.{result_ok}
+use Prim.Native.Nat.{ℕ, suc, ◌+◌, ◌-◌, ◌^◌, ◌≤◌, ◌<◌}
 use native.Mathlib.Omega.{arith}
 use mathlib.Core.Path.{◌≡◌, refl, sym, ap, subst, ◌∙◌}
-use mathlib.Core.Bool.{true, false}
 use mathlib.Core.List.{List, ◌++◌}
-use lib.Dec.{T}
-use lib.IntN.{ℤ, pos, negsuc, nat_abs, ◌-ℤ◌}
+use lib.IntN.{ℤ, pos, negsuc}
 use lib.ListN.{length}
-use lib.Signed.{le_z, non_neg}
-use borrow.Author.Rules.{rules}
-use borrow.Author.Tests.{lt-ltb, le-ltb, leb-false}
+use borrow.Author.Tests.{lt-ltb, le-ltb}
 use mir.Facts.{to_z-of_z}
 use mir.Syntax.{w32, w64}
-use mir.Val.{Fits, SFits, to_z, of_z}
-use Rattle.wire.specs.declared.Int.{Int}
-use Rattle.wire.specs.declared.Int.TheVariants as int
-use Rattle.wire.specs.declared.values.Signed.{Signed}
-use Rattle.wire.specs.declared.values.Signed.TheVariants as signed
-use Rattle.wire.specs.declared.values.ServerId.{ServerId}
-use Rattle.wire.specs.declared.values.ServerId.TheVariants as server
+use mir.Val.{SFits, to_z, of_z}
+use Rattle.wire.specs.declared.IntError.{IntError}
+use Rattle.wire.specs.declared.values.FieldError.{FieldError}
+use Rattle.wire.specs.declared.IntError.TheVariants as int
+use Rattle.wire.specs.declared.values.FieldError.TheVariants as server
 use Rattle.wire.specs.Integer.{encode_int, read_int}
 use Rattle.wire.specs.Server.{server_word, server_id_of, server_before, server_of, read_server_id}
 use Rattle.lists.proofs.Cases.{lt-or-le, split}
 use Rattle.wire.proofs.RoundTrip.{round_trip}
 use Rattle.wire.proofs.Advance.{advance, value-small}
 
--- ---- signed numbers
-below-zero : (n : ℕ) → negsuc 0 -ℤ pos n ≡ negsuc n
-below-zero zero = refl
-below-zero (suc n) = let e : suc (0 + n) ≡ suc n = omega arith in ap negsuc e
-
-above_zero : (n : ℕ) → negsuc 0 -ℤ negsuc n ≡ pos n
-above_zero n =
-    let l : 1 ≤ suc n = omega arith in
-    let e : suc n - 1 ≡ n = omega arith in
-    rw (le-ltb (suc n) 1 l, e)
-
-small-bits : (n : ℕ) → n < 2 ^ 31 → to_z w32 n ≡ pos n
-small-bits n h = rw (lt-ltb n (2 ^ 31) h)
-
 -- ---- the cases of a word
-pub id-low : (v : ℕ) → v < 2 ^ 31 → server_id_of v ≡ signed.Id (pos v)
+pub id-low : (v : ℕ) → v < 2 ^ 31 → server_id_of v ≡ Some (pos v)
 unfolding server_id_of
 id-low v h = rw (lt-ltb v (2 ^ 31) h)
 
-pub id-none : (v : ℕ) → 2 ^ 31 ≤ v → v < 2 ^ 64 - 2 ^ 31 → server_id_of v ≡ signed.OutOfRange
+pub id-none : (v : ℕ) → 2 ^ 31 ≤ v → v < 2 ^ 64 - 2 ^ 31 → server_id_of v ≡ None
 unfolding server_id_of
 id-none v h l = rw (le-ltb v (2 ^ 31) h, lt-ltb v (2 ^ 64 - 2 ^ 31) l)
 
-pub id-high : (v : ℕ) → 2 ^ 64 - 2 ^ 31 ≤ v → v < 2 ^ 64 → server_id_of v ≡ signed.Id (negsuc (2 ^ 64 - 1 - v))
+pub id-high : (v : ℕ) → 2 ^ 64 - 2 ^ 31 ≤ v → v < 2 ^ 64 → server_id_of v ≡ Some (negsuc (2 ^ 64 - 1 - v))
 unfolding server_id_of
 id-high v h l =
     let k : 2 ^ 31 ≤ v = omega arith in
@@ -62,98 +44,73 @@ word-neg n h =
     let e : 2 ^ 64 - suc n ≡ 2 ^ 64 - 1 - n = omega arith in
     rw (le-ltb (2 ^ 64) (suc n) l, e)
 
--- ---- `server_id_of`
-pub low : (v : ℕ) → v < 2 ^ 31 → signed.Id (to_z w32 v) ≡ server_id_of v
-low v h = rw (small-bits v h) (sym (id-low v h))
+-- ---- `server_id_of`: the number of 64 bits, if it is one of 32
+fit : {E : Type 0} (P : Type 0) (r : Result ℤ E) (y : ℤ) (q : Option ℤ) → OkIff r P y → q ≡ result_ok r → P → q ≡ Some y
+fit P (Ok x) y q o e p = e ∙ ap Some o.1
+fit P (Err x) y q o e p = absurd (o p)
 
-pub between : (v : ℕ) → 2 ^ 31 ≤ v → v < 2 ^ 64 - 2 ^ 31 → signed.OutOfRange ≡ server_id_of v
-between v h l = sym (id-none v h l)
+unfit : {E : Type 0} (P : Type 0) (r : Result ℤ E) (y : ℤ) (q : Option ℤ) → OkIff r P y → q ≡ result_ok r → (P → ⊥) → q ≡ None
+unfit P (Ok x) y q o e n = absurd (n o.0)
+unfit P (Err x) y q o e n = e
 
-module _ (v : ℕ) (h : 2 ^ 64 - 2 ^ 31 ≤ v) (f : Fits w64 v) where
-  back : negsuc 0 -ℤ to_z w32 (2 ^ 64 - 1 - v) ≡ negsuc (2 ^ 64 - 1 - v)
-  back = rw (small-bits (2 ^ 64 - 1 - v) (omega arith)) (below-zero (2 ^ 64 - 1 - v))
+-- the bits as a signed number
+low-bits : (v : ℕ) → v < 2 ^ 63 → to_z w64 v ≡ pos v
+low-bits v h = rw (lt-ltb v (2 ^ 63) h)
 
-  pub high_fits : SFits w32 (negsuc 0 -ℤ to_z w32 (2 ^ 64 - 1 - v))
-  high_fits = record { sfits = rw back (omega arith) }
+high-bits : (v : ℕ) → 2 ^ 63 ≤ v → v < 2 ^ 64 → to_z w64 v ≡ negsuc (2 ^ 64 - 1 - v)
+high-bits v h l =
+    let e : 2 ^ 64 - suc v ≡ 2 ^ 64 - 1 - v = omega arith in
+    rw (le-ltb v (2 ^ 63) h, e)
 
-  pub high : signed.Id (to_z w32 (of_z w32 (negsuc 0 -ℤ to_z w32 (2 ^ 64 - 1 - v)))) ≡ server_id_of v
-  high = rw (to_z-of_z high_fits, back) (sym (id-high v h f.fits))
+module _ {E : Type 0} (v : ℕ) (r : Result ℤ E) (q : Option ℤ) (f : v < 2 ^ 64) (e : q ≡ result_ok r) where
+  of-pos : v < 2 ^ 63 → OkIff r (SFits w32 (pos v)) (pos v) → q ≡ server_id_of v
+  of-pos h o =
+      split (lt-or-le v (2 ^ 31))
+      (λ l. fit (SFits w32 (pos v)) r (pos v) q o e (record { sfits = l }) ∙ sym (id-low v l))
+      (λ l. unfit (SFits w32 (pos v)) r (pos v) q o e (λ z. let y : v < 2 ^ 31 = z.sfits in omega arith) ∙ sym (id-none v l (omega arith)))
 
-pub ruleset id-of = (rules, low, between, high_fits, high)
+  of-neg : 2 ^ 63 ≤ v → OkIff r (SFits w32 (negsuc (2 ^ 64 - 1 - v))) (negsuc (2 ^ 64 - 1 - v)) → q ≡ server_id_of v
+  of-neg h o =
+      let y : ℤ = negsuc (2 ^ 64 - 1 - v) in
+      split (lt-or-le v (2 ^ 64 - 2 ^ 31))
+      (λ l. unfit (SFits w32 (negsuc (2 ^ 64 - 1 - v))) r (negsuc (2 ^ 64 - 1 - v)) q o e (λ z. let w : 2 ^ 64 - 1 - v < 2 ^ 31 = z.sfits in omega arith) ∙ sym (id-none v (omega arith) l))
+      (λ l.
+      let w : 2 ^ 64 - 1 - v < 2 ^ 31 = omega arith in
+      fit (SFits w32 (negsuc (2 ^ 64 - 1 - v))) r (negsuc (2 ^ 64 - 1 - v)) q o e (record { sfits = w }) ∙ sym (id-high v l f))
 
--- ---- `server_id_word`: a local holds the bits of id
-abbrev read : ℤ → ℤ
-read z = to_z w32 (of_z w32 z)
+  pub id-is : (x : ℤ) → x ≡ to_z w64 v → OkIff r (SFits w32 (to_z w64 (of_z w64 x))) (to_z w64 (of_z w64 x)) → q ≡ server_id_of v
+  id-is x h o =
+      split (lt-or-le v (2 ^ 63))
+      (λ l.
+      let k : SFits w64 (pos v) = record { sfits = l } in
+      of-pos l (subst (λ y. OkIff r (SFits w32 y) y) (ap (λ (y : ℤ). to_z w64 (of_z w64 y)) (h ∙ low-bits v l) ∙ to_z-of_z k) o))
+      (λ l.
+      let w : 2 ^ 64 - 1 - v < 2 ^ 63 = omega arith in
+      let k : SFits w64 (negsuc (2 ^ 64 - 1 - v)) = record { sfits = w } in
+      of-neg l (subst (λ y. OkIff r (SFits w32 y) y) (ap (λ (y : ℤ). to_z w64 (of_z w64 y)) (h ∙ high-bits v l f) ∙ to_z-of_z k) o))
 
-pub record Neg (z : ℤ) : Type 0 where
-  pub n : ℕ
-  pub is : z ≡ negsuc n
-  pub small : n < 2 ^ 31
+-- ---- `server_id_word`: the bits of the ID as a number of 64 bits
+wide : (z : ℤ) → SFits w32 z → SFits w64 z
+wide (pos n) f = record { sfits = omega (arith, f.sfits) }
+wide (negsuc n) f = record { sfits = omega (arith, f.sfits) }
 
-pos-cast : (z : ℤ) → SFits w32 z → le_z (pos 0) z ≡ true → T (non_neg z) × Fits w64 (nat_abs z)
-pos-cast (pos n) f t = (tt, record { fits = omega (arith, f.sfits) })
-pos-cast (negsuc n) f t = let e : ◌≡◌ {A = ℕ} 0 1 = cc in let z : ⊥ = omega arith in absurd z
-
-pos_word : (z : ℤ) → le_z (pos 0) z ≡ true → nat_abs z ≡ server_word z
+bits : (z : ℤ) → SFits w32 z → of_z w64 z ≡ server_word z
 unfolding server_word
-pos_word (pos n) t = refl
-pos_word (negsuc n) t = let e : ◌≡◌ {A = ℕ} 0 1 = cc in omega arith
+bits (pos n) f = refl
+bits (negsuc n) f =
+    let h : n < 2 ^ 64 = omega (arith, f.sfits) in
+    let e : 2 ^ 64 - suc n ≡ 2 ^ 64 - 1 - n = omega arith in
+    e ∙ sym (word-neg n h)
 
-neg_is : (z : ℤ) → SFits w32 z → le_z (pos 0) z ≡ false → Neg z
-neg_is (pos n) f t = let e : ⊥ = omega (arith, leb-false 0 n t) in absurd e
-neg_is (negsuc n) f t = record { n = n; is = refl; small = f.sfits }
+pub word-is : (z x : ℤ) (w : ℕ) → SFits w32 z → x ≡ to_z w32 (of_z w32 z) → w ≡ of_z w64 (to_z w64 (of_z w64 x)) → w ≡ server_word z
+word-is z x w f e h =
+    let q : x ≡ z = e ∙ to_z-of_z f in
+    h ∙ ap (λ (y : ℤ). of_z w64 (to_z w64 (of_z w64 y))) q ∙ ap (of_z w64) (to_z-of_z (wide z f)) ∙ bits z f
 
-module _ (z : ℤ) (f : SFits w32 z) where
-  pub word-cast : le_z (pos 0) (read z) ≡ true → T (non_neg (read z)) × Fits w64 (nat_abs (read z))
-  word-cast t = rw (to_z-of_z f) (pos-cast z f (rw (to_z-of_z f) at t))
-
-  pub word_low : le_z (pos 0) (read z) ≡ true → nat_abs (read z) ≡ server_word z
-  word_low t = rw (to_z-of_z f) (pos_word z (rw (to_z-of_z f) at t))
-
-  module _ (t : le_z (pos 0) (read z) ≡ false) where
-    neg : Neg z
-    neg = neg_is z f (rw (to_z-of_z f) at t)
-
-    flip : negsuc 0 -ℤ read z ≡ pos neg.n
-    flip = rw (to_z-of_z f) (ap (λ (x : ℤ). negsuc 0 -ℤ x) neg.is ∙ above_zero neg.n)
-
-    pub flip-fits : SFits w32 (negsuc 0 -ℤ read z)
-    flip-fits = record { sfits = rw flip neg.small }
-
-    flipped : read (negsuc 0 -ℤ read z) ≡ pos neg.n
-    flipped = to_z-of_z flip-fits ∙ flip
-
-    pub flip-cast : T (non_neg (read (negsuc 0 -ℤ read z))) × Fits w64 (nat_abs (read (negsuc 0 -ℤ read z)))
-    flip-cast = rw flipped (tt, record { fits = omega (arith, neg.small) })
-
-    pub flip-le : (m : ℕ) → 2 ^ 31 ≤ m → nat_abs (read (negsuc 0 -ℤ read z)) ≤ m
-    flip-le m l = rw flipped (omega (arith, neg.small))
-
-    pub word-high : 2 ^ 64 - 1 - nat_abs (read (negsuc 0 -ℤ read z)) ≡ server_word z
-    word-high = rw flipped (sym (ap server_word neg.is ∙ word-neg neg.n (omega (arith, neg.small))))
-
-pub ruleset word_of = (rules, word-cast, word_low, flip-fits, flip-cast, flip-le, word-high)
-
--- ---- `read_server_id`, where r is what `read_int` gives and q what `server_id_of` gives
-module _ (s : List ℕ) (at : ℕ) (r : Int) (p : r ≡ read_int s at) where
-  pub short : (k : ℕ) → r ≡ int.Short k → server.Short ≡ read_server_id s at
-  unfolding read_server_id server_of
-  short k e = rw (← p, e)
-
-  pub overflow : (k : ℕ) → r ≡ int.Overflow k → server.OutOfRange ≡ read_server_id s at
-  unfolding read_server_id server_of
-  overflow k e = rw (← p, e)
-
-  module _ (v next : ℕ) (e : r ≡ int.Value v next) (q : Signed) (d : q ≡ server_id_of v) where
-    pub an-id : (z : ℤ) → q ≡ signed.Id z → server.Id z next ≡ read_server_id s at
-    unfolding read_server_id server_of server_before
-    an-id z g = rw (← p, e, ← d, g)
-
-    pub no-id : q ≡ signed.OutOfRange → server.OutOfRange ≡ read_server_id s at
-    unfolding read_server_id server_of server_before
-    no-id g = rw (← p, e, ← d, g)
-
-pub ruleset id-read = (rules, short, overflow, an-id, no-id)
+-- ---- `read_server_id`
+an-id : (s : List ℕ) (at v next : ℕ) (z : ℤ) → read_int s at ≡ Ok (v, next) → server_id_of v ≡ Some z → read_server_id s at ≡ Ok (z, next)
+unfolding read_server_id server_of server_before
+an-id s at v next z e d = rw (e, d)
 
 -- ---- there and back
 pub word_small : (z : ℤ) → SFits w32 z → server_word z < 2 ^ 64
@@ -162,7 +119,7 @@ word_small (pos n) f = omega (arith, f.sfits)
 word_small (negsuc n) f = omega (arith, word-neg n (omega (arith, f.sfits)))
 
 -- The word of an ID reads back.
-pub id-of-word : (z : ℤ) → SFits w32 z → server_id_of (server_word z) ≡ signed.Id z
+pub id-of-word : (z : ℤ) → SFits w32 z → server_id_of (server_word z) ≡ Some z
 unfolding server_word
 id-of-word (pos n) f = id-low n f.sfits
 id-of-word (negsuc n) f =
@@ -172,9 +129,9 @@ id-of-word (negsuc n) f =
     ap server_id_of (word-neg n k) ∙ id-high (2 ^ 64 - 1 - n) (omega arith) (omega arith) ∙ rw e
 
 -- An ID is read only from its own word.
-FromWord : ℕ → Signed → Type 0
-FromWord v (signed.Id z) = SFits w32 z × (server_word z ≡ v)
-FromWord v signed.OutOfRange = Unit {0}
+FromWord : ℕ → Option ℤ → Type 0
+FromWord v (Some z) = SFits w32 z × (server_word z ≡ v)
+FromWord v None = Unit {0}
 
 from-word : (v : ℕ) → v < 2 ^ 64 → FromWord v (server_id_of v)
 unfolding FromWord server_word
@@ -190,37 +147,36 @@ from-word v h =
     let e : 2 ^ 64 - 1 - (2 ^ 64 - 1 - v) ≡ v = omega arith in
     rw (id-high v m h) (record { sfits = k }, word-neg (2 ^ 64 - 1 - v) w ∙ e)))
 
-pub word-of-id : (v : ℕ) (z : ℤ) → v < 2 ^ 64 → server_id_of v ≡ signed.Id z → SFits w32 z × (server_word z ≡ v)
+pub word-of-id : (v : ℕ) (z : ℤ) → v < 2 ^ 64 → server_id_of v ≡ Some z → SFits w32 z × (server_word z ≡ v)
 unfolding FromWord
 word-of-id v z h e = subst (FromWord v) e (from-word v h)
 
 -- Reading what was written gives the ID and the position after it, whatever stands before and behind.
 pub server-trip : (p t : List ℕ) (z : ℤ) → SFits w32 z
-    → read_server_id (p ++ (encode_int (server_word z) ++ t)) (length p) ≡ server.Id z (length p + length (encode_int (server_word z)))
+    → read_server_id (p ++ (encode_int (server_word z) ++ t)) (length p) ≡ Ok (z, (length p + length (encode_int (server_word z))))
 server-trip p t z f =
-    sym
-    (an-id (p ++ (encode_int (server_word z) ++ t)) (length p) _ refl (server_word z) _ (round_trip p t (server_word z) (word_small z f)) _ refl z (id-of-word z f))
+    an-id (p ++ (encode_int (server_word z) ++ t)) (length p) (server_word z) _ z (round_trip p t (server_word z) (word_small z f)) (id-of-word z f)
 
 -- What reads as an ID is the integer that is its word.
-IdWord : Int → ServerId → Type 0
-IdWord i (server.Id z next) = SFits w32 z × (i ≡ int.Value (server_word z) next)
-IdWord i server.Short = Unit {0}
-IdWord i server.OutOfRange = Unit {0}
+IdWord : Result (ℕ × ℕ) IntError → Result (ℤ × ℕ) FieldError → Type 0
+IdWord i (Ok (z, next)) = SFits w32 z × (i ≡ Ok ((server_word z), next))
+IdWord i (Err server.Short) = Unit {0}
+IdWord i (Err server.OutOfRange) = Unit {0}
 
-id-word-before : (v next : ℕ) (q : Signed) → FromWord v q → IdWord (int.Value v next) (server_before next q)
+id-word-before : (v next : ℕ) (q : (Option ℤ)) → FromWord v q → IdWord (Ok (v, next)) (server_before next q)
 unfolding FromWord IdWord server_before
-id-word-before v next (signed.Id z) h = (h.0, rw h.1)
-id-word-before v next signed.OutOfRange h = tt
+id-word-before v next (Some z) h = (h.0, rw h.1)
+id-word-before v next None h = tt
 
-pub server-own : (s : List ℕ) (at : ℕ) (z : ℤ) (next : ℕ) → read_server_id s at ≡ server.Id z next
-    → SFits w32 z × (read_int s at ≡ int.Value (server_word z) next)
+pub server-own : (s : List ℕ) (at : ℕ) (z : ℤ) (next : ℕ) → read_server_id s at ≡ Ok (z, next)
+    → SFits w32 z × (read_int s at ≡ Ok ((server_word z), next))
 unfolding IdWord read_server_id server_of
 server-own s at z next e = subst (IdWord (read_int s at)) e (by_int (read_int s at) refl)
   where
-    by_int : (i : Int) → read_int s at ≡ i → IdWord i (server_of i)
-    by_int (int.Value v n) q = id-word-before v n (server_id_of v) (from-word v (value-small s at v n q))
-    by_int (int.Short k) q = tt
-    by_int (int.Overflow k) q = tt
+    by_int : (i : (Result (ℕ × ℕ) IntError)) → read_int s at ≡ i → IdWord i (server_of i)
+    by_int (Ok (v, n)) q = id-word-before v n (server_id_of v) (from-word v (value-small s at v n q))
+    by_int (Err (int.Short k)) q = tt
+    by_int (Err (int.Overflow k)) q = tt
 
-pub server-advance : (s : List ℕ) (at : ℕ) (z : ℤ) (next : ℕ) → read_server_id s at ≡ server.Id z next → (at < next) × (next ≤ length s)
+pub server-advance : (s : List ℕ) (at : ℕ) (z : ℤ) (next : ℕ) → read_server_id s at ≡ Ok (z, next) → (at < next) × (next ≤ length s)
 server-advance s at z next e = advance s at (server_word z) next (server-own s at z next e).1

@@ -1,17 +1,10 @@
-use Rattle.body.proofs.writing.WritingLaws.{definition-laws}
+use Rattle.std.proofs.Common.{rules}
+use Rattle.wire.proofs.Writing.{writes-joined, writes-as}
+use Rattle.body.proofs.DefinitionBack.{definition-parts}
+use Rattle.body.proofs.writing.WritingLaws.{written}
 use Rattle.body.proofs.writing.put_definition.Goals as goal
 
-pub put_named-shape_at-requires : goal.put_named-shape_at-requires
-put_named-shape_at-requires c = search definition-laws
-
-pub put_shape-times_at-requires : goal.put_shape-times_at-requires
-put_shape-times_at-requires c = search definition-laws
-
-pub put_times-requires : goal.put_times-requires
-put_times-requires c = search definition-laws
-
-pub shape_of-room : goal.shape_of-room
-shape_of-room c = search definition-laws
-
 pub returns : goal.returns
-returns c = search definition-laws
+returns c =
+    let all = writes-joined c.put_named.ensures (writes-joined c.put_shape.ensures c.put_times.ensures) in
+    written (writes-as (definition-parts _ _) all) (search (rules, all.same))

@@ -1,17 +1,10 @@
-use Rattle.body.proofs.writing.WritingLaws.{entry-laws}
+use Rattle.std.proofs.Common.{rules}
+use mir.Facts.{to_z-of_z}
+use mir.Syntax.{w32}
+use Rattle.wire.proofs.Writing.{writes-joined}
+use Rattle.body.specs.Encodings.{entry_bytes, data_bytes}
 use Rattle.body.proofs.writing.put_entry.Goals as goal
 
-pub put_key-server_at-requires : goal.put_key-server_at-requires
-put_key-server_at-requires c = search entry-laws
-
-pub put_server-values_at-requires : goal.put_server-values_at-requires
-put_server-values_at-requires c = search entry-laws
-
-pub put_values-requires : goal.put_values-requires
-put_values-requires c = search entry-laws
-
-pub shape_of-room : goal.shape_of-room
-shape_of-room c = search entry-laws
-
 pub returns : goal.returns
-returns c = search entry-laws
+unfolding entry_bytes data_bytes
+returns c = writes-joined c.put_key.ensures (writes-joined (rw (to_z-of_z {w = w32} {z = c.args.entry.server_id} (search rules)) at c.put_server.ensures) c.put_values.ensures)

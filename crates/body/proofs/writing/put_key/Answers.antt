@@ -1,41 +1,22 @@
-use Rattle.body.proofs.writing.WritingLaws.{key_laws}
+use Rattle.std.proofs.Common.{rules, sym, ap, ◌∙◌, ℕ, List, ◌++◌, length}
+use Rattle.lists.proofs.Cases.{cond-true, cond-false}
+use Rattle.store.specs.Limits.{key_kind, is_string}
+use Rattle.wire.specs.Integer.{encode_int}
+use Rattle.wire.proofs.Writing.{writes-as}
+use Rattle.body.specs.Encodings.{key_bytes}
+use Rattle.body.proofs.writing.WritingLaws.{key-taken}
 use Rattle.body.proofs.writing.put_key.Goals as goal
 
-pub shorter-n-requires : goal.shorter-n-requires
-shorter-n-requires c = search key_laws
-
-pub key_kind-requires : goal.key_kind-requires
-key_kind-requires c = search key_laws
-
-pub is_string-requires : goal.is_string-requires
-is_string-requires c = search key_laws
-
-pub slice_bounds-key-end : goal.slice_bounds-key-end
-slice_bounds-key-end c = search key_laws
-
-pub slice_bounds-put_counted-end : goal.slice_bounds-put_counted-end
-slice_bounds-put_counted-end c = search key_laws
-
-pub put_counted-requires : goal.put_counted-requires
-put_counted-requires c = search key_laws
-
-pub shape_of-room-then-is_string : goal.shape_of-room-then-is_string
-shape_of-room-then-is_string c = search key_laws
-
 pub returns-then-is_string : goal.returns-then-is_string
-returns-then-is_string c = search key_laws
+unfolding key_bytes
+returns-then-is_string c =
+    let same = key-taken c.args.entry c.min-n.result c.min-n.ensures (search rules) in
+    let test = sym (c.if-is_string.ensures ∙ ap is_string c.key_kind.ensures) in
+    writes-as (ap (λ (l : List ℕ). encode_int (length l) ++ l) same ∙ sym (cond-true (is_string (key_kind c.args.key_type)) _ _ test)) c.put_counted.ensures
 
-pub slice_bounds-key-end-2 : goal.slice_bounds-key-end-2
-slice_bounds-key-end-2 c = search key_laws
-
-pub slice_bounds-put-end : goal.slice_bounds-put-end
-slice_bounds-put-end c = search key_laws
-
-pub put-requires : goal.put-requires
-put-requires c = search key_laws
-
-pub shape_of-room : goal.shape_of-room
-shape_of-room c = search key_laws
-
-pub returns : goal.returns
-returns c = search key_laws
+pub returns-else-is_string : goal.returns-else-is_string
+unfolding key_bytes
+returns-else-is_string c =
+    let same = key-taken c.args.entry c.min-n.result c.min-n.ensures (search rules) in
+    let test = sym (c.if-is_string.ensures ∙ ap is_string c.key_kind.ensures) in
+    writes-as (same ∙ sym (cond-false (is_string (key_kind c.args.key_type)) _ _ test)) c.put.ensures

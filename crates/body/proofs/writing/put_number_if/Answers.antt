@@ -1,14 +1,12 @@
-use Rattle.body.proofs.writing.WritingLaws.{number-laws}
+use Rattle.body.specs.Encodings.{number_if}
+use Rattle.body.proofs.writing.WritingLaws.{put-there, put-none}
+use Rattle.std.proofs.Common.{sym}
 use Rattle.body.proofs.writing.put_number_if.Goals as goal
 
-pub put_number-requires : goal.put_number-requires
-put_number-requires c = search number-laws
-
-pub shape_of-room-then-there : goal.shape_of-room-then-there
-shape_of-room-then-there c = search number-laws
-
 pub returns-then-there : goal.returns-then-there
-returns-then-there c = search number-laws
+unfolding number_if
+returns-then-there c = put-there _ (sym c.if-there.true) c.number.ensures
 
-pub returns : goal.returns
-returns c = search number-laws
+pub returns-else-there : goal.returns-else-there
+unfolding number_if
+returns-else-there c = put-none _ (sym c.if-there.false)

@@ -1,20 +1,12 @@
-use Rattle.body.proofs.writing.WritingLaws.{pair-laws}
+use Rattle.wire.proofs.Writing.{writes-joined}
+use Rattle.body.specs.Encodings.{period_bytes}
+use Rattle.body.proofs.writing.WritingLaws.{put-there, put-none}
 use Rattle.body.proofs.writing.put_pair.Goals as goal
 
-pub present-requires : goal.present-requires
-present-requires c = search pair-laws
-
-pub put_int-next-requires : goal.put_int-next-requires
-put_int-next-requires c = search pair-laws
-
-pub put_int-requires : goal.put_int-requires
-put_int-requires c = search pair-laws
-
-pub shape_of-room-then-present : goal.shape_of-room-then-present
-shape_of-room-then-present c = search pair-laws
-
 pub returns-then-present : goal.returns-then-present
-returns-then-present c = search pair-laws
+unfolding period_bytes
+returns-then-present c = put-there _ c.if-present.ensures (writes-joined c.int.ensures c.int-then-present.ensures)
 
-pub returns : goal.returns
-returns c = search pair-laws
+pub returns-else-present : goal.returns-else-present
+unfolding period_bytes
+returns-else-present c = put-none _ c.if-present.ensures

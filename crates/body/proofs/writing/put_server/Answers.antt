@@ -1,20 +1,14 @@
-use Rattle.body.proofs.writing.WritingLaws.{server-laws}
+use Rattle.std.proofs.Common.{rules, ap}
+use Rattle.wire.specs.Integer.{encode_int}
+use Rattle.wire.proofs.Writing.{writes-as}
+use Rattle.body.specs.Encodings.{server_bytes}
+use Rattle.body.proofs.writing.WritingLaws.{put-there, put-none}
 use Rattle.body.proofs.writing.put_server.Goals as goal
 
-pub present-requires : goal.present-requires
-present-requires c = search server-laws
-
-pub server_id_word-requires : goal.server_id_word-requires
-server_id_word-requires c = search server-laws
-
-pub put_int-requires : goal.put_int-requires
-put_int-requires c = search server-laws
-
-pub shape_of-room-then-present : goal.shape_of-room-then-present
-shape_of-room-then-present c = search server-laws
-
 pub returns-then-present : goal.returns-then-present
-returns-then-present c = search server-laws
+unfolding server_bytes
+returns-then-present c = put-there _ c.if-present.ensures (writes-as (ap encode_int (search rules)) c.int.ensures)
 
-pub returns : goal.returns
-returns c = search server-laws
+pub returns-else-present : goal.returns-else-present
+unfolding server_bytes
+returns-else-present c = put-none _ c.if-present.ensures

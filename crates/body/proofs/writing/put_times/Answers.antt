@@ -1,20 +1,14 @@
-use Rattle.body.proofs.writing.WritingLaws.{times-laws}
+use borrow.Author.Tests.{eq-eqb, ne_eqb}
+use mathlib.Core.Path.{sym}
+use Rattle.wire.proofs.Writing.{writes-joined}
+use Rattle.body.specs.Encodings.{times_bytes}
+use Rattle.body.proofs.writing.WritingLaws.{put-there, put-none}
 use Rattle.body.proofs.writing.put_times.Goals as goal
 
-pub returns-then-table-ne1 : goal.returns-then-table-ne1
-returns-then-table-ne1 c = search times-laws
+pub returns-then-table-eq1 : goal.returns-then-table-eq1
+unfolding times_bytes
+returns-then-table-eq1 c = put-there _ (sym (eq-eqb _ _ c.if-table-eq1.true)) (writes-joined c.int.ensures c.put_pairs.ensures)
 
-pub overflow_cast-table : goal.overflow_cast-table
-overflow_cast-table c = search times-laws
-
-pub put_int-next-requires : goal.put_int-next-requires
-put_int-next-requires c = search times-laws
-
-pub put_pairs-requires : goal.put_pairs-requires
-put_pairs-requires c = search times-laws
-
-pub shape_of-room : goal.shape_of-room
-shape_of-room c = search times-laws
-
-pub returns : goal.returns
-returns c = search times-laws
+pub returns-else-table-eq1 : goal.returns-else-table-eq1
+unfolding times_bytes
+returns-else-table-eq1 c = put-none _ (sym (ne_eqb _ _ c.if-table-eq1.false))

@@ -1,17 +1,11 @@
-use Rattle.body.proofs.writing.WritingLaws.{update-laws}
+use Rattle.std.proofs.Common.{rules}
+use Rattle.wire.proofs.Writing.{writes-joined}
+use Rattle.body.specs.Encodings.{update_bytes}
+use Rattle.body.proofs.writing.WritingLaws.{written}
 use Rattle.body.proofs.writing.put_update.Goals as goal
 
-pub put_number_if-time_at-requires : goal.put_number_if-time_at-requires
-put_number_if-time_at-requires c = search update-laws
-
-pub put_number_if-entry_at-requires : goal.put_number_if-entry_at-requires
-put_number_if-entry_at-requires c = search update-laws
-
-pub put_entry-requires : goal.put_entry-requires
-put_entry-requires c = search update-laws
-
-pub shape_of-room : goal.shape_of-room
-shape_of-room c = search update-laws
-
 pub returns : goal.returns
-returns c = search update-laws
+unfolding update_bytes
+returns c =
+    let all = writes-joined c.put_number_if.ensures (writes-joined c.put_number_if-2.ensures c.put_entry.ensures) in
+    written all (search (rules, all.same))

@@ -1,23 +1,10 @@
-use Rattle.dump.proofs.bound.BoundWords.{flags}
+use borrow.Author.Tests.{eq-eqb, ne_eqb}
+use Rattle.wire.proofs.Writing.{writes-nothing}
+use Rattle.text.proofs.LineWords.{where_true, where_false, line_of, words}
 use Rattle.dump.proofs.bound.flagged_line.Goals as goal
 
-pub returns-then-flag-ne1 : goal.returns-then-flag-ne1
-returns-then-flag-ne1 c = search flags
+pub returns-then-flag-eq1 : goal.returns-then-flag-eq1
+returns-then-flag-eq1 c = where_true _ (eq-eqb _ _ c.if-flag-eq1.true) (line_of _ c.put.ensures (words _ _ c.put_decimal_word.ensures c.put_decimal_word-then-flag-eq1.ensures) c.put-then-flag-eq1.ensures)
 
-pub put-a-requires : goal.put-a-requires
-put-a-requires c = search flags
-
-pub put_decimal_word-b-requires : goal.put_decimal_word-b-requires
-put_decimal_word-b-requires c = search flags
-
-pub put_decimal_word-c-requires : goal.put_decimal_word-c-requires
-put_decimal_word-c-requires c = search flags
-
-pub put-requires : goal.put-requires
-put-requires c = search flags
-
-pub shape_of-room : goal.shape_of-room
-shape_of-room c = search flags
-
-pub returns : goal.returns
-returns c = search flags
+pub returns-else-flag-eq1 : goal.returns-else-flag-eq1
+returns-else-flag-eq1 c = where_false _ (ne_eqb _ _ c.if-flag-eq1.false) (writes-nothing _)

@@ -1,8 +1,8 @@
-use Rattle.dump.proofs.entry.EntryWords.{times}
+use Rattle.dump.proofs.entry.EntryWords.{no-time, a-time}
 use Rattle.dump.proofs.entry.put_time.Goals as goal
 
-pub returns-then-e-ne1 : goal.returns-then-e-ne1
-returns-then-e-ne1 c = search times
+pub returns-then-e-eq1 : goal.returns-then-e-eq1
+returns-then-e-eq1 c = a-time _ c.if-e-eq1.true c.put.ensures c.put_decimal.ensures
 
-pub returns : goal.returns
-returns c = search times
+pub returns-else-e-eq1 : goal.returns-else-e-eq1
+returns-else-e-eq1 c = no-time _ c.if-e-eq1.false c.put_word.ensures

@@ -1,8 +1,7 @@
-use Rattle.dump.proofs.record_lines.RecordWords.{currents}
+use Rattle.dump.specs.RecordLines.{current_line}
+use Rattle.dump.proofs.sending.SendingWords.{place-line}
 use Rattle.dump.proofs.record_lines.current_line.Goals as goal
 
-pub returns-then-plus_one-eq0 : goal.returns-then-plus_one-eq0
-returns-then-plus_one-eq0 c = search currents
-
 pub returns : goal.returns
-returns c = search currents
+unfolding current_line
+returns c = place-line _ c.args.c.current (rw c.place_before.ensures at c.number_line.ensures)

@@ -1,6 +1,9 @@
-use Rattle.dump.proofs.record_lines.RecordWords.{record_is}
+use Rattle.wire.proofs.Writing.{writes-joined}
+use Rattle.dump.specs.RecordLines.{record_lines}
 use Rattle.dump.proofs.record_lines.put_record.Goals as goal
 
 pub returns : goal.returns
+unfolding record_lines
 returns c =
-    record_is _ c.phase_line-a.ensures c.unfinished_line-b.ensures c.current_line-c.ensures c.sending_lines-d.ensures c.bindings_lines.ensures
+    writes-joined c.phase_line.ensures
+    (writes-joined c.unfinished_line.ensures (writes-joined c.current_line.ensures (writes-joined c.sending_lines.ensures c.bindings_lines.ensures)))

@@ -1,18 +1,11 @@
-use Rattle.dump.proofs.sending.SendingWords.{sent}
+use borrow.Author.Tests.{eq-eqb, ne_eqb}
+use Rattle.dump.specs.RecordLines.{number_or_none, sent_line}
 use Rattle.dump.proofs.sending.sent_line.Goals as goal
 
--- src/sending.rt:37:49
-pub overflow_cast-x : goal.overflow_cast-x
-overflow_cast-x c = search sent
+pub returns-then-x-eq1 : goal.returns-then-x-eq1
+unfolding sent_line number_or_none
+returns-then-x-eq1 c = rw (eq-eqb c.args.x.sent 1 c.if-x-eq1.true) c.number_line.ensures
 
--- src/sending.rt:37:5
-pub number_line-requires : goal.number_line-requires
-number_line-requires c = search sent
-
--- src/sending.rt:34:1
-pub shape_of-room : goal.shape_of-room
-shape_of-room c = search sent
-
--- src/sending.rt:34:1
-pub returns : goal.returns
-returns c = search sent
+pub returns-else-x-eq1 : goal.returns-else-x-eq1
+unfolding sent_line number_or_none
+returns-else-x-eq1 c = rw (ne_eqb c.args.x.sent 1 c.if-x-eq1.false) c.number_line-else-x-eq1.ensures

@@ -1,40 +1,21 @@
-use native.Mathlib.Omega.{arith}
-use borrow.Author.Rules.{rules}
-use Rattle.dump.proofs.table.DefinitionWords.{along-periods}
-use Rattle.dump.proofs.PresentValues.{along-turn}
+use Rattle.std.proofs.Common.{arith, rules, ◌≡◌, ◌∙◌, sym, length}
+use Rattle.store.specs.Limits.{rate_types}
+use Rattle.store.proofs.Rules.{rate-count}
+use Rattle.dump.specs.StoreLines.{periods_of}
+use Rattle.dump.proofs.PresentValues.{along-start, along-turn, along-end}
 use Rattle.dump.proofs.table.put_periods.Goals as goal
 
 pub loop-i-init : goal.loop-i-init
-loop-i-init c = search along-periods
-
-pub rate_type-requires : goal.rate_type-requires
-rate_type-requires c = search along-periods
-
-pub offset_bounds-periods-i : goal.offset_bounds-periods-i
-offset_bounds-periods-i c = search along-periods
-
-pub bounds-periods-i : goal.bounds-periods-i
-bounds-periods-i c = search along-periods
-
-pub overflow_cast-periods : goal.overflow_cast-periods
-overflow_cast-periods c = search along-periods
-
-pub put_present-next-requires : goal.put_present-next-requires
-put_present-next-requires c = search along-periods
-
-pub overflow_add-i : goal.overflow_add-i
-overflow_add-i c = search along-periods
-
-pub loop-i-smaller : goal.loop-i-smaller
-loop-i-smaller c = search along-periods
+loop-i-init c = along-start c.args.t.data_types rate_types c.args.t.periods _
 
 pub loop-i-preserved : goal.loop-i-preserved
 loop-i-preserved c =
-    along-turn c.loop-i.invariant c.rate_type.result (omega arith) (search rules)
-    c.rate_type.ensures c.put_present-next.ensures
-
-pub shape_of-room : goal.shape_of-room
-shape_of-room c = search along-periods
+    let l : length c.args.t.periods ≡ 8 = search rules in
+    along-turn c.args.t.data_types rate_types c.args.t.periods c.loop-i.i (rate-count ∙ sym l) c.loop-i.invariant c.rate_type.result (omega (arith, c.loop-i-test.true)) c.rate_type.ensures
+    c.put_present.ensures
 
 pub returns : goal.returns
-returns c = search along-periods
+unfolding periods_of
+returns c =
+    let l : length c.args.t.periods ≡ 8 = search rules in
+    along-end c.args.t.data_types rate_types c.args.t.periods c.loop-i.i (rate-count ∙ sym l) c.loop-i.invariant (omega arith)

@@ -1,20 +1,5 @@
-use Rattle.handshake.proofs.writing.Putting.{putting-hello}
+use Rattle.handshake.proofs.writing.Putting.{hello_written}
 use Rattle.handshake.proofs.writing.put_hello.Goals as goal
 
-pub put_line-a-requires : goal.put_line-a-requires
-put_line-a-requires c = search putting-hello
-
-pub put_line-b-requires : goal.put_line-b-requires
-put_line-b-requires c = search putting-hello
-
-pub put_sender-c-requires : goal.put_sender-c-requires
-put_sender-c-requires c = search putting-hello
-
-pub put-requires : goal.put-requires
-put-requires c = search putting-hello
-
-pub shape_of-room : goal.shape_of-room
-shape_of-room c = search putting-hello
-
 pub returns : goal.returns
-returns c = search putting-hello
+returns c = hello_written _ _ _ c.put_line.ensures c.put_line-2.ensures c.put.ensures c.put_spaced.ensures c.put_spaced-2.ensures c.put-2.ensures

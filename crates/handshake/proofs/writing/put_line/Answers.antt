@@ -1,14 +1,5 @@
-use Rattle.handshake.proofs.writing.Putting.{putting-line}
+use Rattle.handshake.proofs.writing.Putting.{line_written}
 use Rattle.handshake.proofs.writing.put_line.Goals as goal
 
-pub put-next-requires : goal.put-next-requires
-put-next-requires c = search putting-line
-
-pub put-requires : goal.put-requires
-put-requires c = search putting-line
-
-pub shape_of-room : goal.shape_of-room
-shape_of-room c = search putting-line
-
 pub returns : goal.returns
-returns c = search putting-line
+returns c = line_written c.put.ensures c.put-2.ensures

@@ -1,26 +1,7 @@
-use Rattle.handshake.proofs.writing.Putting.{putting-spaced}
+use Rattle.std.proofs.Common.{ap, ◌∙◌}
+use Rattle.handshake.specs.Bytes.{decimal}
+use Rattle.handshake.proofs.writing.Putting.{spaced_written}
 use Rattle.handshake.proofs.writing.put_spaced.Goals as goal
 
-pub put-next-requires : goal.put-next-requires
-put-next-requires c = search putting-spaced
-
-pub decimal_digits-d-requires : goal.decimal_digits-d-requires
-decimal_digits-d-requires c = search putting-spaced
-
-pub slice_bounds-put-count : goal.slice_bounds-put-count
-slice_bounds-put-count c = search putting-spaced
-
-pub slice_bounds-put-start : goal.slice_bounds-put-start
-slice_bounds-put-start c = search putting-spaced
-
-pub slice_bounds-put-end-2 : goal.slice_bounds-put-end-2
-slice_bounds-put-end-2 c = search putting-spaced
-
-pub put-requires : goal.put-requires
-put-requires c = search putting-spaced
-
-pub shape_of-room : goal.shape_of-room
-shape_of-room c = search putting-spaced
-
 pub returns : goal.returns
-returns c = search putting-spaced
+returns c = spaced_written _ (c.as_slice.ensures.value ∙ c.decimal_digits.ensures ∙ ap decimal c.from.ensures) c.put.ensures c.put-2.ensures

@@ -1,17 +1,5 @@
-use Rattle.text.proofs.LineWords.{putting-line}
+use Rattle.text.proofs.LineWords.{line_of}
 use Rattle.listing.proofs.words.number_line.Goals as goal
 
-pub put-a-requires : goal.put-a-requires
-put-a-requires c = search putting-line
-
-pub put_decimal_word-b-requires : goal.put_decimal_word-b-requires
-put_decimal_word-b-requires c = search putting-line
-
-pub put-requires : goal.put-requires
-put-requires c = search putting-line
-
-pub shape_of-room : goal.shape_of-room
-shape_of-room c = search putting-line
-
 pub returns : goal.returns
-returns c = search putting-line
+returns c = line_of _ c.put.ensures c.put_decimal_word.ensures c.put-2.ensures

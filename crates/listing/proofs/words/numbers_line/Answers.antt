@@ -1,5 +1,5 @@
-use Rattle.text.proofs.LineWords.{putting-line}
+use Rattle.text.proofs.LineWords.{line_of}
 use Rattle.listing.proofs.words.numbers_line.Goals as goal
 
 pub returns : goal.returns
-returns c = search putting-line
+returns c = line_of _ c.put.ensures c.put_numbers.ensures c.put-2.ensures

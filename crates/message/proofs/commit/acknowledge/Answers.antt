@@ -1,38 +1,17 @@
-use Rattle.message.proofs.Acknowledging.{acknowledging}
+use Rattle.std.proofs.Common.{arith, ◌∙◌, length-append}
+use Rattle.wire.proofs.Numbers.{number-length}
+use Rattle.message.proofs.Acknowledging.{acknowledge-bytes, room-int}
 use Rattle.message.proofs.commit.acknowledge.Goals as goal
 
-pub write_int-e-requires : goal.write_int-e-requires
-write_int-e-requires c = search acknowledging
+pub extend_from_slice-requires : goal.extend_from_slice-requires
+extend_from_slice-requires c =
+    (omega arith, omega (arith, room-int c.args.id c.ranges.id.fits c.copy_from_slice-reply.ensures (c.as_slice.ensures.value ∙ c.write_int-e.ensures)))
 
-pub overflow_add-bytes : goal.overflow_add-bytes
-overflow_add-bytes c = search acknowledging
-
-pub overflow_cast-bytes : goal.overflow_cast-bytes
-overflow_cast-bytes c = search acknowledging
-
-pub slice_bounds-fit_bytes-end : goal.slice_bounds-fit_bytes-end
-slice_bounds-fit_bytes-end c = search acknowledging
-
-pub slice_bounds-encoded-end : goal.slice_bounds-encoded-end
-slice_bounds-encoded-end c = search acknowledging
-
-pub slice_bounds-fit_bytes-end-2 : goal.slice_bounds-fit_bytes-end-2
-slice_bounds-fit_bytes-end-2 c = search acknowledging
-
-pub fit_bytes-requires : goal.fit_bytes-requires
-fit_bytes-requires c = search acknowledging
-
-pub slice_bounds-fit_number-end : goal.slice_bounds-fit_number-end
-slice_bounds-fit_number-end c = search acknowledging
-
-pub overflow_add-len : goal.overflow_add-len
-overflow_add-len c = search acknowledging
-
-pub fit_number-requires : goal.fit_number-requires
-fit_number-requires c = search acknowledging
-
-pub overflow_add-result : goal.overflow_add-result
-overflow_add-result c = search acknowledging
+pub extend_from_slice-requires-2 : goal.extend_from_slice-requires-2
+extend_from_slice-requires-2 c =
+    (omega arith, rw (c.extend_from_slice.ensures, length-append, c.write_number.ensures, number-length) (omega (arith, room-int c.args.id c.ranges.id.fits c.copy_from_slice-reply.ensures (c.as_slice.ensures.value ∙ c.write_int-e.ensures))))
 
 pub returns : goal.returns
-returns c = search acknowledging
+returns c =
+    c.extend_from_slice-2.ensures
+    ∙ rw (c.extend_from_slice.ensures, c.copy_from_slice-reply.ensures, c.len.ensures.value, c.as_slice.ensures.value, c.write_number.ensures, c.write_int-e.ensures, acknowledge-bytes c.args.id c.args.update c.ranges.id.fits)

@@ -1,35 +1,14 @@
-use Rattle.session_soundness.proofs.free_places.PlaceTests.{placing}
+use Rattle.std.proofs.Common.{rules, tests, ◌∙◌, ◌||◌, eqb}
+use Rattle.std.proofs.lemmas.Iterator.{YieldsList-from_slice, YieldsList-from_zip}
+use Rattle.std.proofs.lemmas.Iterator.Search.{all_from_yields_List}
+use Rattle.lists.proofs.Maps.{length-mapped}
+use Rattle.session_soundness.specs.Sound.{no_ids}
+use Rattle.session_soundness.proofs.RecordTests.{places_zipped}
 use Rattle.session_soundness.proofs.free_places.free_places_ok.Goals as goal
 
-pub loop-i-init : goal.loop-i-init
-loop-i-init c = search placing
-
-pub offset_bounds-tables-i : goal.offset_bounds-tables-i
-offset_bounds-tables-i c = search placing
-
-pub bounds-tables-i : goal.bounds-tables-i
-bounds-tables-i c = search placing
-
-pub offset_bounds-bindings-i : goal.offset_bounds-bindings-i
-offset_bounds-bindings-i c = search placing
-
-pub bounds-bindings-i : goal.bounds-bindings-i
-bounds-bindings-i c = search placing
-
-pub place_ok-requires : goal.place_ok-requires
-place_ok-requires c = search placing
-
-pub returns-then-not-place_ok : goal.returns-then-not-place_ok
-returns-then-not-place_ok c = search placing
-
-pub overflow_add-i : goal.overflow_add-i
-overflow_add-i c = search placing
-
-pub loop-i-smaller : goal.loop-i-smaller
-loop-i-smaller c = search placing
-
-pub loop-i-preserved : goal.loop-i-preserved
-loop-i-preserved c = search placing
-
 pub returns : goal.returns
-returns c = search placing
+returns c =
+    all_from_yields_List (λ p. eqb p.0.held 1 || no_ids p.1) c.all.new.self _ _ c.all.ensures.ran
+    (YieldsList-from_zip {s = c.zip.result} (YieldsList-from_slice c.args.tables (cc)) (YieldsList-from_slice c.args.bindings (cc)))
+    (λ x b q k. search (rules, tests))
+    ∙ places_zipped c.args.tables c.args.bindings (search (rules, length-mapped))

@@ -1,14 +1,15 @@
+use Rattle.std.proofs.Common.{◌∙◌}
+use borrow.Author.Tests.{le-ltb}
 use Rattle.store.proofs.Rules.{powers, power_pos, present-at, present-past}
-use Rattle.std.proofs.Common.{rules}
 use Rattle.store.proofs.types.present.Goals as goal
-
-pub returns-then-t-ge32 : goal.returns-then-t-ge32
-returns-then-t-ge32 c = search (rules, present-past)
 
 pub nonzero_div-result : goal.nonzero_div-result
 unfolding powers
-nonzero_div-result c = power_pos c.args.t c.if-t-ge32.false
+nonzero_div-result c = power_pos c.args.t c.if-t-lt32.true
 
-pub returns : goal.returns
+pub returns-then-t-lt32 : goal.returns-then-t-lt32
 unfolding powers
-returns c = present-at c.args.types c.args.t c.if-t-ge32.false
+returns-then-t-lt32 c = present-at c.args.types c.args.t c.if-t-lt32.true
+
+pub returns-else-t-lt32 : goal.returns-else-t-lt32
+returns-else-t-lt32 c = le-ltb c.args.t 32 c.if-t-lt32.false ∙ present-past c.args.types c.args.t c.ranges.types.fits c.if-t-lt32.false

@@ -1,10 +1,7 @@
-use Prim.Native.Nat.{◌-◌}
-use Rattle.lists.proofs.Passing.{Passing}
+use Rattle.std.proofs.Common.{◌≡◌, take}
+use Rattle.lists.specs.Lists.{every}
 use Rattle.store_soundness.specs.Codes.{sound_code}
 use Rattle.store_soundness.proofs.codes.all_sound.Given as goal
 
-abbrev pub invariant-loop-i : goal.invariant-loop-i
-invariant-loop-i l = Passing sound_code l.codes 128 l.sound l.i
-
-abbrev pub decreases-loop-i : goal.decreases-loop-i
-decreases-loop-i l = 128 - l.i
+abbrev pub invariant-loop-code : goal.invariant-loop-code
+invariant-loop-code l = l.sound ≡ every sound_code (take l.code-index l.code-items)

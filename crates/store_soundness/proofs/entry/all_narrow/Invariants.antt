@@ -1,10 +1,7 @@
-use Prim.Native.Nat.{◌-◌}
-use Rattle.lists.proofs.Passing.{Passing}
+use Rattle.std.proofs.Common.{◌≡◌, take}
+use Rattle.lists.specs.Lists.{every}
 use Rattle.store_soundness.specs.Narrow.{is_narrow}
 use Rattle.store_soundness.proofs.entry.all_narrow.Given as goal
 
-abbrev pub invariant-loop-i : goal.invariant-loop-i
-invariant-loop-i l = Passing is_narrow l.values 34 l.narrow l.i
-
-abbrev pub decreases-loop-i : goal.decreases-loop-i
-decreases-loop-i l = 34 - l.i
+abbrev pub invariant-loop-v : goal.invariant-loop-v
+invariant-loop-v l = l.narrow ≡ every is_narrow (take l.v-index l.v-items)

@@ -1,9 +1,5 @@
 use Rattle.store_soundness.proofs.entry.EntryTests.{Slots}
-use Prim.Native.Nat.{◌-◌}
 use Rattle.store_soundness.proofs.entry.slots_ok.Given as goal
 
 abbrev pub invariant-loop-i : goal.invariant-loop-i
 invariant-loop-i l = Slots l.types l.values l.i
-
-abbrev pub decreases-loop-i : goal.decreases-loop-i
-decreases-loop-i l = 34 - l.i

@@ -1,32 +1,9 @@
-use Rattle.text.proofs.hex.HexText.{putting-hex}
+use Rattle.std.proofs.Common.{arith}
+use Rattle.text.proofs.hex.HexText.{hex_start, hex_turn}
 use Rattle.text.proofs.hex.put_hex.Goals as goal
 
-pub loop-i-init : goal.loop-i-init
-loop-i-init c = search putting-hex
+pub loop-b-init : goal.loop-b-init
+loop-b-init c = hex_start c.args.bytes.now _
 
-pub bounds-bytes-i : goal.bounds-bytes-i
-bounds-bytes-i c = search putting-hex
-
-pub hex_pair-pair-requires : goal.hex_pair-pair-requires
-hex_pair-pair-requires c = search putting-hex
-
-pub slice_bounds-put-end : goal.slice_bounds-put-end
-slice_bounds-put-end c = search putting-hex
-
-pub put-next-requires : goal.put-next-requires
-put-next-requires c = search putting-hex
-
-pub overflow_add-i : goal.overflow_add-i
-overflow_add-i c = search putting-hex
-
-pub loop-i-smaller : goal.loop-i-smaller
-loop-i-smaller c = search putting-hex
-
-pub loop-i-preserved : goal.loop-i-preserved
-loop-i-preserved c = search putting-hex
-
-pub shape_of-room : goal.shape_of-room
-shape_of-room c = search putting-hex
-
-pub returns : goal.returns
-returns c = search putting-hex
+pub loop-b-preserved : goal.loop-b-preserved
+loop-b-preserved c = hex_turn _ _ c.loop-b.invariant _ c.hex_pair.ensures (omega (arith, c.loop-b-test.true)) c.put.ensures

@@ -1,8 +1,0 @@
-use Rattle.message.proofs.Settling.{changing}
-use Rattle.message.proofs.changes.table_change.Goals as goal
-
-pub no_entry-entry-requires : goal.no_entry-entry-requires
-no_entry-entry-requires c = search changing
-
-pub returns : goal.returns
-returns c = search changing
