@@ -7,7 +7,7 @@
  * nothing and keeps nothing between calls.
  *
  * The host's duties: each pointer points to as much memory as its type or the length after it says (an empty one too points to
- * somewhere); what is lent to one call doesn't overlap; no other thread touches it during the call. A reading call takes 77 KB of
+ * somewhere); what is lent to one call doesn't overlap; no other thread touches it during the call. A reading call takes 75 KB of
  * stack, sending 52 KB, passing time 52 KB, an empty store by value 48 KB, opening 3 KB.
  *
  * No struct has padding: its bytes are those of its fields. So a record, a store, an outcome and what opening and sending give back can be

@@ -11,13 +11,14 @@ use text::spaced::put_decimal_word;
 use wire::writer::Writer;
 
 // A line of a word, a place and an ID, where the flag says that there is one.
+// The flag is a Binding's, as C holds it.
 fn flagged_line(w: &mut Writer<'_>, flag: u32, word: &[u8], place: usize, id: u32)
     ensures { Writes (cond (eqb flag 1) (line word.now (decimal place ∷ decimal id ∷ [])) []) w.old w.new }
 {
     if flag == 1 {
         w.put(word);
         put_decimal_word(w, place as u64);
-        put_decimal_word(w, id as u64);
+        put_decimal_word(w, u64::from(id));
         w.put(b"\n");
     }
 }

@@ -13,7 +13,7 @@ fn put_numbers(w: &mut Writer<'_>, counts: [u32; TABLES])
     ensures { Writes (spaced (map decimal counts)) w.old w.new }
 {
     for n in &counts {
-        put_decimal_word(w, *n as u64);
+        put_decimal_word(w, u64::from(*n));
     }
 }
 

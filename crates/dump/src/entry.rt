@@ -18,7 +18,7 @@ pub fn put_time(w: &mut Writer<'_>, e: Entry)
 {
     if e.timed == 1 {
         w.put(b" T");
-        put_decimal(w, e.remaining as u64);
+        put_decimal(w, u64::from(e.remaining));
     } else {
         put_word(w, b"-");
     }

@@ -11,7 +11,7 @@ pub fn phase_line(w: &mut Writer<'_>, c: Connection)
 {
     if c.closed == 1 {
         w.put(b"session closed");
-        put_decimal_word(w, c.number as u64);
+        put_decimal_word(w, u64::from(c.number));
         w.put(b"\n");
     } else if c.phase == ESTABLISHED {
         w.put(b"session open\n");

@@ -33,11 +33,7 @@ pub(crate) fn number_line(w: &mut Writer<'_>, word: &[u8], n: Option<u64>)
 pub(crate) fn place_before(plus_one: usize) -> Option<u64>
     ensures { result ≡ place_before plus_one }
 {
-    if plus_one == 0 {
-        None
-    } else {
-        Some((plus_one - 1) as u64)
-    }
+    plus_one.checked_sub(1).map(|p| p as u64)
 }
 
 fn defined_line(w: &mut Writer<'_>, x: Sending)
@@ -50,7 +46,7 @@ fn sent_line(w: &mut Writer<'_>, x: Sending)
     ensures { Writes (sent_line x) w.old w.new }
 {
     if x.sent == 1 {
-        number_line(w, b"sent", Some(x.last as u64));
+        number_line(w, b"sent", Some(u64::from(x.last)));
     } else {
         number_line(w, b"sent", None);
     }

@@ -16,7 +16,7 @@ fn put_periods(w: &mut Writer<'_>, t: Table)
     let types = t.data_types;
     let periods = t.periods;
     for (i, n) in periods.iter().enumerate() {
-        put_present(w, types, store::types::rate_type(i), *n as u64);
+        put_present(w, types, store::types::rate_type(i), u64::from(*n));
     }
 }
 
@@ -24,7 +24,7 @@ pub fn put_times(w: &mut Writer<'_>, t: Table)
     ensures { Writes (spaced (times_words t)) w.old w.new }
 {
     if t.timed == 1 {
-        put_decimal_word(w, t.expiry as u64);
+        put_decimal_word(w, u64::from(t.expiry));
         put_periods(w, t);
     } else {
         put_word(w, b"-");
@@ -35,7 +35,7 @@ pub fn put_times(w: &mut Writer<'_>, t: Table)
 pub fn put_types(w: &mut Writer<'_>, t: Table)
     ensures { Writes (spaced (decimal t.key_type ∷ decimal t.key_len ∷ decimal t.data_types ∷ [])) w.old w.new }
 {
-    put_decimal_word(w, t.key_type as u64);
-    put_decimal_word(w, t.key_len as u64);
-    put_decimal_word(w, t.data_types as u64);
+    put_decimal_word(w, u64::from(t.key_type));
+    put_decimal_word(w, u64::from(t.key_len));
+    put_decimal_word(w, u64::from(t.data_types));
 }

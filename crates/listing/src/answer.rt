@@ -27,11 +27,8 @@ pub fn put_answer(
         Answer::Partial => word_line(w, b"partial"),
         Answer::Confirmed => word_line(w, b"confirm"),
         Answer::Heartbeat => word_line(w, b"heartbeat"),
-        Answer::Error(kind) => number_line(w, b"error", kind as u64),
-        Answer::Table(place) => {
-            let t = table_at(tables, place);
-            table_line(w, place, t)
-        }
+        Answer::Error(kind) => number_line(w, b"error", u64::from(kind)),
+        Answer::Table(place) => table_line(w, place, table_at(tables, place)),
         Answer::Switch(place) => number_line(w, b"switch", place as u64),
         Answer::Update {
             table,
@@ -39,9 +36,14 @@ pub fn put_answer(
             entry,
             commit,
         } => update_line(w, table, id, entry, commit),
-        Answer::Acknowledgement { id, update } => numbers_line(w, b"ack", id as u64, update as u64),
-        Answer::Skipped(kind) => number_line(w, b"skipped", kind as u64),
-        Answer::Refused(number) => number_line(w, b"refused", number as u64),
+        Answer::Acknowledgement { id, update } => numbers_line(
+            w,
+            b"ack",
+            u64::from(id),
+            u64::from(update),
+        ),
+        Answer::Skipped(kind) => number_line(w, b"skipped", u64::from(kind)),
+        Answer::Refused(number) => number_line(w, b"refused", u64::from(number)),
         Answer::RefusedAt { number, offset } => refused_at_line(w, number, offset),
     }
 }

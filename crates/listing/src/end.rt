@@ -24,7 +24,7 @@ pub fn put_end(w: &mut Writer<'_>, session: Session)
 {
     let connection = session.connection;
     if connection.closed == 1 {
-        end_line(w, b"closed", connection.number as u64);
+        end_line(w, b"closed", u64::from(connection.number));
     } else {
         end_line(w, b"open", session.len as u64);
     }

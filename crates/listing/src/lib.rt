@@ -28,6 +28,7 @@ pub fn put_call(
 )
     ensures { Writes (call_lines connection tables answer (take len reply.now)) w.old w.new }
 {
+    // By number, as the clause has it: a match would need the range of a refusal's number.
     if session::answers::answer_number(answer) != 256 {
         put_answer(w, connection, tables, answer);
         put_reply(w, reply, len);

@@ -32,7 +32,7 @@ pub fn update_line(w: &mut Writer<'_>, table: usize, id: u32, entry: usize, how:
     ensures { Writes (line (ascii "update") (decimal table ∷ decimal id ∷ decimal entry ∷ commit_word how ∷ [])) w.old w.new }
 {
     w.put(b"update");
-    put_numbers(w, table as u64, id as u64);
+    put_numbers(w, table as u64, u64::from(id));
     put_commit_at(w, entry, how);
     w.put(b"\n");
 }

@@ -47,7 +47,7 @@ pub fn numbers_line(w: &mut Writer<'_>, word: &[u8], n: u64, m: u64)
 pub fn refused_at_line(w: &mut Writer<'_>, number: u8, offset: usize)
     ensures { Writes (line (ascii "refused") (decimal number ∷ decimal offset ∷ [])) w.old w.new }
 {
-    numbers_line(w, b"refused", number as u64, offset as u64);
+    numbers_line(w, b"refused", u64::from(number), offset as u64);
 }
 
 // The accepted peer's name.
@@ -64,7 +64,7 @@ pub fn hello_line(w: &mut Writer<'_>, c: Connection, process: u32, relative: u32
 {
     w.put(b"hello");
     put_peer(w, c);
-    put_numbers(w, process as u64, relative as u64);
+    put_numbers(w, u64::from(process), u64::from(relative));
     w.put(b"\n");
 }
 

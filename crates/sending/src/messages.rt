@@ -9,7 +9,7 @@ use body::update::Form;
 use body::writing::{put_definition, put_update};
 use frame::{DEFINITION, STICK_TABLE};
 use store::{Entry, Table};
-use wire::buffer::{put, put_int};
+use wire::writer::Writer;
 
 // Room for a body: the longest has 423 bytes, whatever table and entry hold.
 const BODY_ROOM: usize = 424;
@@ -18,10 +18,11 @@ const BODY_ROOM: usize = 424;
 fn put_message(room: &mut [u8], kind: u8, body: &[u8]) -> usize
     ensures { Wrote room.old 0 (message_bytes kind body.now) room.new result }
 {
-    let header = [STICK_TABLE, kind];
-    let len_at = put(room, 0, &header);
-    let body_at = put_int(room, len_at, body.len() as u64);
-    put(room, body_at, body)
+    let mut w = Writer { room, at: 0 };
+    w.put(&[STICK_TABLE, kind]);
+    w.int(body.len() as u64);
+    w.put(body);
+    w.at
 }
 
 // The definition of a table, with this ID.

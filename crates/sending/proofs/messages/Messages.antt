@@ -4,7 +4,10 @@ use Rattle.lists.proofs.Bytes.{front-take}
 use Rattle.lists.proofs.Prefix.{prefix-length}
 use Rattle.wire.specs.Integer.{encode_int}
 use Rattle.wire.specs.Room.{reached, Wrote}
-use Rattle.wire.proofs.buffer.Reach.{joined, retold, wrote-front, wrote-long}
+use Rattle.wire.specs.declared.writer.Writer.{Writer}
+use Rattle.wire.specs.Writing.{Writes}
+use Rattle.wire.proofs.buffer.Reach.{retold, wrote-front, wrote-long}
+use Rattle.wire.proofs.Writing.{writes-joined}
 use Rattle.frame.specs.Frame.{definition_type}
 use Rattle.store.specs.declared.Table.{Table}
 use Rattle.store.specs.declared.Entry.{Entry}
@@ -15,13 +18,10 @@ use Rattle.body.proofs.Longest.{definitions-fit, updates-fit}
 use Rattle.sending.specs.Sending.{type_of}
 
 -- ---- a message
-module _ {room x y z : List ℕ} {k m n : ℕ} where
-  pub message-put : (kind : ℕ) (body : List ℕ) → Wrote room 0 (10 ∷ kind ∷ []) x k → Wrote x k (encode_int (length body)) y m → Wrote y m body z n
-      → Wrote room 0 (message_bytes kind body) z n
-  unfolding message_bytes
-  message-put kind body p q r = joined (joined p q) r
-
-pub ruleset putting-message = (rules, message-put)
+pub message_put : {t u v w : Writer} (kind : ℕ) (body : List ℕ) → Writes (10 ∷ kind ∷ []) t u → Writes (encode_int (length body)) u v → Writes body v w
+    → Writes (message_bytes kind body) t w
+unfolding message_bytes
+message_put kind body p q r = writes-joined (writes-joined p q) r
 
 -- ---- a body, put into room of 424 zeros
 

@@ -7,4 +7,4 @@ pub loop-n-init : goal.loop-n-init
 loop-n-init c = no_words _
 
 pub loop-n-preserved : goal.loop-n-preserved
-loop-n-preserved c = numbers-next c.args.counts c.loop-n.n-index c.loop-n.invariant (omega (arith, c.loop-n-test.true)) c.put_decimal_word.ensures
+loop-n-preserved c = numbers-next c.args.counts c.loop-n.n-index c.loop-n.invariant (omega (arith, c.loop-n-test.true)) (rw c.from.ensures at c.put_decimal_word.ensures)

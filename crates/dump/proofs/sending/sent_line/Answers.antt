@@ -4,7 +4,7 @@ use Rattle.dump.proofs.sending.sent_line.Goals as goal
 
 pub returns-then-x-eq1 : goal.returns-then-x-eq1
 unfolding sent_line number_or_none
-returns-then-x-eq1 c = rw (eq-eqb c.args.x.sent 1 c.if-x-eq1.true) c.number_line.ensures
+returns-then-x-eq1 c = rw (eq-eqb c.args.x.sent 1 c.if-x-eq1.true) (rw c.from.ensures at c.number_line.ensures)
 
 pub returns-else-x-eq1 : goal.returns-else-x-eq1
 unfolding sent_line number_or_none

@@ -12,7 +12,7 @@ pub loop-i-preserved : goal.loop-i-preserved
 loop-i-preserved c =
     let l : length c.args.t.periods ≡ 8 = search rules in
     along-turn c.args.t.data_types rate_types c.args.t.periods c.loop-i.i (rate-count ∙ sym l) c.loop-i.invariant c.rate_type.result (omega (arith, c.loop-i-test.true)) c.rate_type.ensures
-    c.put_present.ensures
+    (rw c.from.ensures at c.put_present.ensures)
 
 pub returns : goal.returns
 unfolding periods_of

@@ -35,11 +35,11 @@ returns-in-Heartbeat c = rw c.in-Heartbeat.is c.word_line-in-Heartbeat.ensures
 
 pub returns-in-Error : goal.returns-in-Error
 unfolding answer_line
-returns-in-Error c = rw c.in-Error.is c.number_line.ensures
+returns-in-Error c = rw c.in-Error.is (rw c.from.ensures at c.number_line.ensures)
 
 pub returns-in-Table : goal.returns-in-Table
 unfolding answer_line
-returns-in-Table c = rw (c.in-Table.is, ← c.table_at-t.ensures) c.table_line.ensures
+returns-in-Table c = rw (c.in-Table.is, ← c.table_at.ensures) c.table_line.ensures
 
 pub returns-in-Switch : goal.returns-in-Switch
 unfolding answer_line
@@ -51,15 +51,15 @@ returns-in-Update c = rw c.in-Update.is c.update_line.ensures
 
 pub returns-in-Acknowledgement : goal.returns-in-Acknowledgement
 unfolding answer_line
-returns-in-Acknowledgement c = rw c.in-Acknowledgement.is c.numbers_line.ensures
+returns-in-Acknowledgement c = rw c.in-Acknowledgement.is (rw (c.from-in-Acknowledgement.ensures, c.from-in-Acknowledgement-2.ensures) at c.numbers_line.ensures)
 
 pub returns-in-Skipped : goal.returns-in-Skipped
 unfolding answer_line
-returns-in-Skipped c = rw c.in-Skipped.is c.number_line-in-Skipped.ensures
+returns-in-Skipped c = rw c.in-Skipped.is (rw c.from-in-Skipped.ensures at c.number_line-in-Skipped.ensures)
 
 pub returns-in-Refused : goal.returns-in-Refused
 unfolding answer_line
-returns-in-Refused c = rw c.in-Refused.is c.number_line-in-Refused.ensures
+returns-in-Refused c = rw c.in-Refused.is (rw c.from-in-Refused.ensures at c.number_line-in-Refused.ensures)
 
 pub returns-in-RefusedAt : goal.returns-in-RefusedAt
 unfolding answer_line

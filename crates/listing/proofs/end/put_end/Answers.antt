@@ -6,7 +6,7 @@ use Rattle.listing.proofs.end.put_end.Goals as goal
 
 pub returns-then-connection-eq1 : goal.returns-then-connection-eq1
 unfolding end_line is_closed
-returns-then-connection-eq1 c = where_true _ (eq-eqb _ _ c.if-connection-eq1.true) c.end_line.ensures
+returns-then-connection-eq1 c = where_true _ (eq-eqb _ _ c.if-connection-eq1.true) (rw c.from.ensures at c.end_line.ensures)
 
 pub returns-else-connection-eq1 : goal.returns-else-connection-eq1
 unfolding end_line is_closed

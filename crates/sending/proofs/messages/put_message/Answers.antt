@@ -1,20 +1,9 @@
-use Rattle.sending.proofs.messages.Messages.{putting-message}
+use Rattle.std.proofs.Common.{rules}
+use Rattle.body.proofs.writing.WritingLaws.{written}
+use Rattle.sending.proofs.messages.Messages.{message_put}
 use Rattle.sending.proofs.messages.put_message.Goals as goal
 
-pub slice_bounds-put-end : goal.slice_bounds-put-end
-slice_bounds-put-end c = search putting-message
-
-pub put-len_at-requires : goal.put-len_at-requires
-put-len_at-requires c = search putting-message
-
-pub put_int-body_at-requires : goal.put_int-body_at-requires
-put_int-body_at-requires c = search putting-message
-
-pub put-requires : goal.put-requires
-put-requires c = search putting-message
-
-pub shape_of-room : goal.shape_of-room
-shape_of-room c = search putting-message
-
 pub returns : goal.returns
-returns c = search putting-message
+returns c =
+    let all = message_put c.args.kind c.args.body.now c.put.ensures c.int.ensures c.put-2.ensures in
+    written all (search (rules, all.same))
