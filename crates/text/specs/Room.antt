@@ -1,5 +1,8 @@
--- Text in a lent room: where the next text goes.
+-- Text in a lent room: what the room holds afterwards, and where the next text goes.
 use Rattle.std.specs.Prelude.{ℕ, ◌-◌, Bool, cond, ◌&&◌, ltb, leb}
+-- what a function that puts a text into a room promises: the room's final content and the next position
+unfoldable pub use Rattle.wire.specs.Room.{filled, reached}
+pub use Rattle.wire.specs.Room.{Wrote}
 
 -- a text of at most so many bytes fits behind a position, in a room of some size
 unfoldable pub fits_behind : ℕ → ℕ → ℕ → Bool

@@ -11,6 +11,9 @@ pub mod spaced;
 
 ghost use Rattle.std.specs.Prelude.{◌≡◌, take};
 
+// Bytes as they are, from a position of lent room on; a `Writer` puts them behind what it has.
+pub use wire::buffer::put;
+
 // The first n bytes, or all of them where there are fewer.
 pub fn front(bytes: &[u8], n: usize) -> &[u8]
     ensures { result.now ≡ take n bytes.now }

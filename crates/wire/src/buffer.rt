@@ -4,7 +4,6 @@ ghost use Rattle.wire.specs.Integer.{encode_int};
 ghost use Rattle.wire.specs.Room.{put_result, put_room, Wrote};
 
 use crate::write_int;
-use crate::writer::Writer;
 
 // `bytes` go to `room` from `at` on, if they fit whole: the position after them.
 #[tactic(auto, using(crate::proofs::buffer::Room::putting))]
@@ -28,14 +27,20 @@ pub fn fit_int(room: &mut [u8], at: usize, v: u64) -> Option<usize>
     fit_bytes(room, at, write_int(v).as_slice())
 }
 
-// `bytes` go to `room` from `at` on, as far as it reaches. The position behind them is returned. A `Writer` does the same
-// for several.
+// `bytes` go to `room` from `at` on, as far as it reaches. The position behind them is returned. A `Writer` calls it for each
+// of several.
 pub fn put(room: &mut [u8], at: usize, bytes: &[u8]) -> usize
     ensures { Wrote room.old at bytes.now room.new result }
 {
-    let mut w = Writer { room, at };
-    w.put(bytes);
-    w.at
+    let mut next = at;
+    for b in bytes {
+        if room.len() <= next {
+            return next;
+        }
+        room[next] = *b;
+        next += 1;
+    }
+    next
 }
 
 // The encoding of v goes to `room` from `at` on, as far as it reaches.

@@ -87,7 +87,7 @@ pub fn read_int(s: &[u8], at: usize) -> Result<(u64, usize), IntError>
 
 // The encoding of v. The loop counts nothing: y shrinks until it is one byte.
 #[tactic(auto, using(crate::proofs::Write::writing))]
-pub fn write_int(v: u64) -> Bytes<MOST_BYTES>
+pub fn write_int(v: u64) -> Bytes<10>
     ensures { result ≡ encoded_int v }
 {
     let mut out = Bytes::new();

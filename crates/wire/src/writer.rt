@@ -3,8 +3,8 @@ ghost use Rattle.wire.specs.Integer.{encode_int};
 ghost use Rattle.wire.specs.Number.{encode_number};
 ghost use Rattle.wire.specs.Writing.{Writes};
 
+use crate::buffer::{put, put_int};
 use crate::fixed::write_number;
-use crate::write_int;
 
 // Room, and the position where the next bytes go.
 #[derive(Drop)]
@@ -18,20 +18,14 @@ impl<'a> Writer<'a> {
     pub fn put(&mut self, bytes: &[u8])
         ensures { Writes bytes.now self.old self.new }
     {
-        for b in bytes {
-            if self.room.len() <= self.at {
-                return;
-            }
-            self.room[self.at] = *b;
-            self.at += 1;
-        }
+        self.at = put(self.room, self.at, bytes);
     }
 
     // The encoding of v follows.
     pub fn int(&mut self, v: u64)
         ensures { Writes (encode_int v) self.old self.new }
     {
-        self.put(write_int(v).as_slice());
+        self.at = put_int(self.room, self.at, v);
     }
 
     // The four bytes of v follow, the highest first.

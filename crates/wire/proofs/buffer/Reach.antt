@@ -1,10 +1,12 @@
 -- Bytes put into a room as far as it reaches: nothing, one byte, two one after the other.
 use Prim.Native.Nat.{ℕ, zero, suc, ◌+◌, ◌-◌, ◌≤◌, ◌<◌}
 use native.Mathlib.Omega.{arith}
+use native.Mathlib.Numerals.{add-one}
 use native.Mathlib.Nat.{zero-min, min-zero, suc-min-suc}
 use mathlib.Core.Path.{◌≡◌, refl, sym, ap, ◌∙◌}
 use mathlib.Core.List.{List, [], ◌∷◌, ◌++◌}
-use lib.ListN.{length, set}
+use lib.ListN.{length, set, get_or, take, drop, take-append-drop}
+use lib.Seq.{take-suc}
 use Rattle.lists.specs.Lists.{front, overlay}
 use Rattle.wire.specs.Room.{filled, reached, Wrote}
 
@@ -96,6 +98,14 @@ unfolding reached
 one room at b h =
     let e : length room - at ≡ suc (length room - at - 1) = omega arith in
     record { content = filled-one room at b h; position = rw (e, suc-min-suc 0 (length room - at - 1), zero-min (length room - at - 1)) }
+
+-- ---- the loop of `put`: so many bytes are in the room
+module _ {room now : List ℕ} {at next : ℕ} (bytes : List ℕ) (i : ℕ) (p : Wrote room at (take i bytes) now next) where
+  pub put_full : length now ≤ next → Wrote room at bytes now next
+  put_full h = retold (take-append-drop i bytes) (joined p (full now next (drop i bytes) h))
+
+  pub put-turn : i < length bytes → next < length now → Wrote room at (take (i + 1) bytes) (set now next (get_or bytes i 0)) (next + 1)
+  put-turn h l = rw (add-one i) (retold (sym (take-suc bytes i 0 h)) (joined p (one now next (get_or bytes i 0) l)))
 
 -- ---- bytes that fit
 filled-fits : (room : List ℕ) (at : ℕ) (bytes : List ℕ) → at + length bytes ≤ length room → filled room at bytes ≡ overlay at bytes room
