@@ -5,7 +5,7 @@ ghost use Rattle.body.specs.Bodies.{key_field, entry_fields, number_or, time_mar
 
 use crate::reader::BodyReader;
 use crate::string_key::read_string;
-use crate::update_data::read_fields;
+use crate::update_data::read_data;
 use crate::{Fault, Span};
 use store::{Table, VALUES};
 
@@ -51,7 +51,8 @@ fn read_entry(r: &mut BodyReader<'_>, table: Table, id: u32, time: Time) -> Resu
     ensures { Reads (entry_fields table id time) r.old r.new result }
 {
     let key = read_key(r, table.key_type, table.key_len as usize)?;
-    let data = read_fields(r, table.data_types)?;
+    let (data, next) = read_data(table.data_types, r.body, r.at)?;
+    r.at = next;
     let values = data.values;
     Ok(Update {
         id,

@@ -53,21 +53,13 @@ fn read_values(r: &mut BodyReader<'_>, types: u32) -> Result<[u64; VALUES], Faul
     Ok(values)
 }
 
-// Server ID and values.
-#[tactic(auto, unfolding(crate::specs::Bodies::data_fields))]
-pub(crate) fn read_fields(r: &mut BodyReader<'_>, types: u32) -> Result<Data, Fault>
-    ensures { Reads (data_fields types) r.old r.new result }
-{
-    let server = read_server(r, types)?;
-    let values = read_values(r, types)?;
-    Ok(Data { server, values })
-}
-
 // Server ID and values at `at`.
+#[tactic(auto, unfolding(crate::specs::Bodies::data_fields))]
 pub fn read_data(types: u32, body: &[u8], at: usize) -> Result<(Data, usize), Fault>
     ensures { result ≡ data_fields types body.now at }
 {
     let mut r = BodyReader { body, at };
-    let data = read_fields(&mut r, types)?;
-    Ok((data, r.at))
+    let server = read_server(&mut r, types)?;
+    let values = read_values(&mut r, types)?;
+    Ok((Data { server, values }, r.at))
 }
