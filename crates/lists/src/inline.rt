@@ -1,5 +1,5 @@
 // At most N bytes in an array, beside how many they are: a list of bytes that needs no heap.
-ghost use Rattle.std.specs.Prelude.{◌≡◌, ◌+◌, ◌<◌, ◌≤◌, [], ◌∷◌, ◌++◌, length};
+ghost use Rattle.std.specs.Prelude.{◌≡◌, ◌+◌, ◌<◌, ◌≤◌, [], ◌∷◌, ◌++◌, length, take};
 
 use std::marker::Model;
 
@@ -53,17 +53,19 @@ impl<const N: usize> Bytes<N> {
         &self.bytes[..self.len]
     }
 
-    // Puts a byte behind the others. There must be room.
+    // Puts a byte behind the others, where there is room for it.
     pub fn push(&mut self, b: u8)
-        requires { length self.old < N }
-        ensures { self.new ≡ self.old ++ b ∷ [] }
+        ensures content { self.new ≡ take N (self.old ++ b ∷ []) }
+        ensures whole { length self.old < N → self.new ≡ self.old ++ b ∷ [] }
     {
-        self.bytes[self.len] = b;
-        self.len += 1;
+        if self.len < N {
+            self.bytes[self.len] = b;
+            self.len += 1;
+        }
     }
 
-    // Puts bytes behind the others. There must be room.
-    pub fn extend_from_slice(&mut self, s: &[u8])
+    // Puts bytes behind the others, all of which there is room for.
+    fn put_whole(&mut self, s: &[u8])
         requires { length self.old + length s.now ≤ N }
         ensures { self.new ≡ self.old ++ s.now }
     {
@@ -73,10 +75,19 @@ impl<const N: usize> Bytes<N> {
         self.len = end;
     }
 
-    // These bytes. There must be room.
+    // Puts bytes behind the others, as many as there is room for.
+    pub fn extend_from_slice(&mut self, s: &[u8])
+        ensures content { self.new ≡ take N (self.old ++ s.now) }
+        ensures whole { length self.old + length s.now ≤ N → self.new ≡ self.old ++ s.now }
+    {
+        let n = s.len().min(N - self.len());
+        self.put_whole(&s[..n]);
+    }
+
+    // These bytes, or the first N of them.
     pub fn copy_from_slice(s: &[u8]) -> Self
-        requires { length s.now ≤ N }
-        ensures { result ≡ s.now }
+        ensures content { result ≡ take N s.now }
+        ensures whole { length s.now ≤ N → result ≡ s.now }
     {
         let mut x = Bytes::new();
         x.extend_from_slice(s);

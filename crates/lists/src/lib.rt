@@ -3,8 +3,8 @@
 
 pub mod inline;
 
-ghost use Rattle.std.specs.Prelude.{◌≡◌, length, Bool};
-ghost use Rattle.lists.specs.Lists.{every, distinct, TellsApart, pad_to, is_zero};
+ghost use Rattle.std.specs.Prelude.{◌≡◌, length, not, Bool};
+ghost use Rattle.lists.specs.Lists.{every, distinct, eq_bytes, pad_to, is_zero};
 
 // Fills the room with the bytes, as far as they fit, and zeros after them.
 pub fn pad(room: &mut [u8], bytes: &[u8])
@@ -13,6 +13,22 @@ pub fn pad(room: &mut [u8], bytes: &[u8])
     let n = bytes.len().min(room.len());
     room[..n].copy_from_slice(&bytes[..n]);
     room[n..].fill(0);
+}
+
+// Whether two byte strings are the same. The loop ends at the first byte that differs, which `==` and `starts_with` do not: where two keys have one
+// hash, all pairs of keys are compared.
+pub fn same(a: &[u8], b: &[u8]) -> bool
+    ensures { result ≡ eq_bytes a.now b.now }
+{
+    if a.len() != b.len() {
+        return false;
+    }
+    for i in 0..a.len() {
+        if a[i] != b[i] {
+            return false;
+        }
+    }
+    true
 }
 
 // Whether all bytes are zero. All are looked at: such a loop is compiled to wide instructions, and `all`, which stops at
@@ -30,15 +46,21 @@ pub fn all_zero(bytes: &[u8]) -> bool
     zero
 }
 
-// Whether no element is alike to a later one, where `apart` says of an element that none of those after it is alike to it.
-// What is left of the list shrinks: no iterator gives each element with those after it.
-pub fn all_distinct<T, F: Fn(&T, &[T]) -> bool>(xs: &[T], apart: F) -> bool
-    requires { F.IsAlwaysCallable apart }
-    ensures { (alike : T → T → Bool) → TellsApart (F.post apart) alike → result ≡ distinct alike xs.now }
+// What says of an element whether others are apart from it, that is, none of them is alike to it.
+pub trait Apart<T> {
+    ghost alike: { T → T → Bool };
+
+    fn apart(x: &T, others: &[T]) -> bool
+        ensures { result ≡ every (λ y. not (alike x.now y)) others.now };
+}
+
+// Whether no element is alike to a later one. What is left of the list shrinks: no iterator gives each element with those after it.
+pub fn all_distinct<T, A: Apart<T>>(xs: &[T]) -> bool
+    ensures { result ≡ distinct A.alike xs.now }
 {
     let mut rest = xs;
     while let Some((x, others)) = rest.split_first() {
-        if !apart(x, others) {
+        if !A::apart(x, others) {
             return false;
         }
         rest = others;

@@ -6,7 +6,7 @@ ghost use Rattle.session_soundness.specs.Sound.{same_id, other_id, binding_tests
 use crate::current::current_ok;
 use crate::flags::all_flags_ok;
 use crate::free_places::free_places_ok;
-use lists::all_distinct;
+use lists::{Apart, all_distinct};
 use session::bound_ids::bound_to;
 use session::{Binding, Connection};
 use store::{TABLES, Table};
@@ -26,11 +26,22 @@ fn id_apart(a: Binding, others: &[Binding]) -> bool
     others.iter().all(|b| !same_id(a, *b))
 }
 
+// Bindings by ID.
+struct ById;
+
+impl Apart<Binding> for ById {
+    ghost alike = { same_id };
+
+    fn apart(a: &Binding, others: &[Binding]) -> bool {
+        id_apart(*a, others)
+    }
+}
+
 // Whether no ID is bound twice.
 fn ids_apart(bindings: [Binding; TABLES]) -> bool
     ensures { result ≡ distinct same_id bindings }
 {
-    all_distinct(&bindings, |a, others| id_apart(*a, others))
+    all_distinct::<Binding, ById>(&bindings)
 }
 
 // Flags, free places, IDs bound twice and the current table.

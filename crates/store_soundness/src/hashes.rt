@@ -4,7 +4,7 @@ ghost use Rattle.lists.specs.Lists.{every, distinct};
 ghost use Rattle.store.specs.Store.{key_of};
 ghost use Rattle.store_soundness.specs.Hashes.{hash_end, mixed, word_of, hash_words, hash_bytes, hash_key, same_hash, other_hash};
 
-use lists::all_distinct;
+use lists::{Apart, all_distinct};
 use store::{ENTRIES, Entry, KEY_MAX};
 
 // Hashes of held entries are below this prime, which is the hash of a free place.
@@ -98,9 +98,20 @@ fn hash_once(hash: u32, others: &[u32]) -> bool
     HASH_END <= hash || hash_apart(others, hash)
 }
 
+// Hashes by their number, where it is that of a held entry.
+struct ByHash;
+
+impl Apart<u32> for ByHash {
+    ghost alike = { same_hash };
+
+    fn apart(hash: &u32, others: &[u32]) -> bool {
+        hash_once(*hash, others)
+    }
+}
+
 // Whether no two held entries have one hash.
 pub fn hashes_distinct(hashes: [u32; ENTRIES]) -> bool
     ensures { result ≡ distinct same_hash hashes }
 {
-    all_distinct(&hashes, |hash, others| hash_once(*hash, others))
+    all_distinct::<u32, ByHash>(&hashes)
 }

@@ -4,15 +4,23 @@ ghost use Rattle.lists.specs.Lists.{every, distinct};
 ghost use Rattle.store.specs.Store.{entry_keyed};
 ghost use Rattle.store.specs.Sound.{same_key};
 
-use lists::all_distinct;
+use lists::{Apart, all_distinct, same};
 use store::{ENTRIES, Entry, KEY_MAX};
 
 // Whether an entry is held by the table at this place with the key.
-#[tactic(auto, using(lists::proofs::Bytes::by_prefix), unfolding(lists::specs::Lists::eq_bytes, store::specs::Store::entry_keyed, store::specs::Store::entry_of, store::specs::Store::entry_held, store::specs::Store::key_of))]
+#[tactic(auto, unfolding(store::specs::Store::entry_keyed, store::specs::Store::entry_of, store::specs::Store::entry_held, store::specs::Store::key_of))]
 pub fn entry_keyed(e: &Entry, table: usize, key: &[u8]) -> bool
     ensures { result ≡ entry_keyed table key.now e.now }
 {
-    e.held == 1 && e.table == table && e.key_len == key.len() && e.key.starts_with(key)
+    let n = key.len();
+    if KEY_MAX < n {
+        return false;
+    }
+    if e.held != 1 || e.table != table || e.key_len != n {
+        return false;
+    }
+    let bytes = e.key;
+    same(&bytes[..n], key)
 }
 
 // Whether no entry is held with the table and the key.
@@ -28,12 +36,24 @@ fn entry_apart(e: &Entry, others: &[Entry]) -> bool
     ensures { result ≡ every (λ f. not (same_key e.now f)) others.now }
 {
     let n = e.key_len.min(KEY_MAX);
-    e.held != 1 || key_apart(others, e.table, &e.key[..n])
+    let key = e.key;
+    e.held != 1 || key_apart(others, e.table, &key[..n])
+}
+
+// Entries by table and key.
+struct ByKey;
+
+impl Apart<Entry> for ByKey {
+    ghost alike = { same_key };
+
+    fn apart(e: &Entry, others: &[Entry]) -> bool {
+        entry_apart(e, others)
+    }
 }
 
 // Whether no two held entries have one table and key.
 pub fn keys_distinct(entries: [Entry; ENTRIES]) -> bool
     ensures { result ≡ distinct same_key entries }
 {
-    all_distinct(&entries, |e, others| entry_apart(e, others))
+    all_distinct::<Entry, ByKey>(&entries)
 }

@@ -4,7 +4,7 @@ ghost use Rattle.lists.specs.Lists.{every, distinct};
 ghost use Rattle.store.specs.Store.{table_named};
 ghost use Rattle.store.specs.Sound.{same_name};
 
-use lists::all_distinct;
+use lists::{Apart, all_distinct};
 use store::tables::table_named;
 use store::{NAME_MAX, TABLES, Table};
 
@@ -25,9 +25,20 @@ fn table_apart(t: Table, others: &[Table]) -> bool
     t.held != 1 || name_apart(others, &name[..n])
 }
 
+// Tables by name.
+struct ByName;
+
+impl Apart<Table> for ByName {
+    ghost alike = { same_name };
+
+    fn apart(t: &Table, others: &[Table]) -> bool {
+        table_apart(*t, others)
+    }
+}
+
 // Whether no two held tables have one name.
 pub fn names_distinct(tables: [Table; TABLES]) -> bool
     ensures { result ≡ distinct same_name tables }
 {
-    all_distinct(&tables, |t, others| table_apart(*t, others))
+    all_distinct::<Table, ByName>(&tables)
 }

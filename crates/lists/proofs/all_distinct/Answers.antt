@@ -20,14 +20,14 @@ module _ {A : Type 0} (alike : A → A → Bool) where
   end (x ∷ xs) e = absurd (omega arith)
 
 pub returns-then-not-apart : goal.returns-then-not-apart
-returns-then-not-apart g c = λ alike told.
-    stop alike c.loop-x.rest.now c.in-Some.others.now c.in-Some.x.now c.apart.result (search rules) (told _ _ _ c.apart.ensures) (search rules)
-    ∙ sym (c.loop-x.invariant alike told)
+returns-then-not-apart g c =
+    stop g.A.Apart.alike c.loop-x.rest.now c.in-Some.others.now c.in-Some.x.now c.apart.result (search rules) c.apart.ensures (search rules)
+    ∙ sym c.loop-x.invariant
 
 pub loop-x-preserved : goal.loop-x-preserved
-loop-x-preserved g c = λ alike told.
-    c.loop-x.invariant alike told
-    ∙ step alike c.loop-x.rest.now c.in-Some.others.now c.in-Some.x.now c.apart.result (search rules) (told _ _ _ c.apart.ensures) (search rules)
+loop-x-preserved g c =
+    c.loop-x.invariant
+    ∙ step g.A.Apart.alike c.loop-x.rest.now c.in-Some.others.now c.in-Some.x.now c.apart.result (search rules) c.apart.ensures (search rules)
 
 pub returns : goal.returns
-returns g c = λ alike told. end alike c.loop-x.rest.now (search rules) ∙ sym (c.loop-x.invariant alike told)
+returns g c = end g.A.Apart.alike c.loop-x.rest.now (search rules) ∙ sym c.loop-x.invariant
