@@ -1,5 +1,5 @@
 -- What a reading call gives back, for each way that it ends, and the reply in the room.
-use Rattle.std.specs.Prelude.{ℕ, List, [], length}
+use Rattle.std.specs.Prelude.{ℕ, List, [], cond, ltb, length}
 use Rattle.wire.specs.Room.{put_room}
 use Rattle.store.specs.declared.Store.{Store}
 use Rattle.session.specs.declared.Connection.{Connection}
@@ -36,9 +36,9 @@ gives k count e = record {
   change = e.change;
 }
 
--- the room with a reply at its front; a reply longer than the room is not put
+-- the room with a reply at its front; a reply of more than twelve bytes, or than the room has, is not put
 unfoldable pub replied : List ℕ → List ℕ → List ℕ
-replied reply room = put_room room 0 reply
+replied reply room = cond (ltb 12 (length reply)) room (put_room room 0 reply)
 
 -- outcome, record and store of the model's call
 unfoldable pub step_of : Session → Call State Answer → Step

@@ -79,7 +79,9 @@ pub fn give(sending: Sending, effect: Effect, count: usize, reply: &mut [u8]) ->
     ensures content { reply.new ≡ replied effect.reply reply.old }
 {
     let written = effect.reply;
-    wire::buffer::fit_bytes(reply, 0, written.as_slice());
+    if written.len() <= 12 {
+        wire::buffer::fit_bytes(reply, 0, written.as_slice());
+    }
     StepChange {
         outcome: Outcome {
             taken: count,

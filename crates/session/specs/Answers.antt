@@ -90,6 +90,6 @@ is_protocol_error n = eqb n 20 || (eqb n 21 || (eqb n 23 || (eqb n 24 || (eqb n 
 unfoldable pub refusal_reply : ℕ → List ℕ
 refusal_reply n = cond (is_size_limit n) (0x01 ∷ 0x01 ∷ []) (cond (is_protocol_error n) (0x01 ∷ 0x00 ∷ []) (refusal_line n))
 
--- bytes of a reply, at most twelve
-abbrev pub reply_of : List ℕ → Bytes 12
+-- bytes of a reply
+abbrev pub reply_of : List ℕ → Bytes 16
 reply_of bytes = bytes

@@ -139,8 +139,8 @@ pub struct Values {
     pub count: u32,
 }
 
-// A reply: no reply of a call is longer than twelve bytes.
-pub type Reply = Bytes<12>;
+// A reply: no reply of a call is longer than twelve bytes. One that is can be given, and isn't put (`reading::results::give`).
+pub type Reply = Bytes<16>;
 
 // ---- the sending state
 

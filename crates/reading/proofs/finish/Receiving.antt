@@ -1,11 +1,11 @@
 -- A reading call on a sound open record: what was taken in one go, and what it came to, is the byte model's call.
-use Prim.Native.Nat.{ℕ, ◌+◌, ◌≤◌}
+use Prim.Native.Nat.{ℕ, ◌<◌, ◌+◌, ◌≤◌}
 use native.Mathlib.Omega.{arith}
 use mathlib.Core.Path.{◌≡◌, refl, sym, ap, ◌∙◌, subst}
 use mathlib.Core.Bool.{true, false}
 use mathlib.Core.List.{List, [], ◌∷◌}
 use lib.ListN.{length}
-use borrow.Author.Tests.{ne_eqb, le-leb}
+use borrow.Author.Tests.{ne_eqb, lt-ltb, le-ltb, le-leb}
 use Rattle.lists.specs.Lists.{front, overlay, every}
 use Rattle.lists.proofs.Cases.{and_first, and_second}
 use Rattle.lists.proofs.Every.{every-cons}
@@ -86,10 +86,16 @@ no_front : (room : List ℕ) → room ≡ front [] room
 unfolding front
 no_front room = refl
 
--- a reply that the room has place for stands at its front
-replied-front : (reply room : List ℕ) → length reply ≤ length room → replied reply room ≡ front reply room
+-- a reply of more than twelve bytes isn't put; another that the room has place for stands at its front
+pub replied-long : (reply room : List ℕ) → 12 < length reply → room ≡ replied reply room
+unfolding replied
+replied-long reply room h = rw (lt-ltb 12 (length reply) h)
+
+pub replied-front : (reply room : List ℕ) → length reply ≤ 12 → 12 ≤ length room → replied reply room ≡ front reply room
 unfolding replied put_room overlay front
-replied-front reply room l = let e : 0 + length reply ≡ length reply = omega arith in rw (e, le-leb (length reply) (length room) l)
+replied-front reply room l h =
+    let e : 0 + length reply ≡ length reply = omega arith in
+    rw (le-ltb 12 (length reply) l, e, le-leb (length reply) (length room) (omega (arith, l, h)))
 
 -- ---- the call
 
@@ -161,5 +167,5 @@ module _ (s : Session) (t : Store) (piece : List ℕ) (x : Part) (p : x ≡ take
           → final ≡ front model.reply room
       answers-room room final h q =
           q
-          ∙ (replied-front (effect_of s.connection judged).reply room (omega (arith, reply-short, h))
+          ∙ (replied-front (effect_of s.connection judged).reply room reply-short h
           ∙ ap (λ (l : List ℕ). front l room) (ap (λ (e : Effect). e.reply) effect_is ∙ sym reply-is))
