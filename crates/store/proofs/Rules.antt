@@ -1,5 +1,6 @@
 -- The rules of key types and data types: one law for each case.
 use Rattle.std.proofs.Common.{◌≡◌, ℕ, ◌/◌, ◌%◌, ◌^◌, ◌<◌, ◌≤◌, Bool, true, false, eqb, leb, List, [], ◌∷◌, length, get_or, sym, refl, ap, ◌∙◌, subst, arith, lit<, eqb-true, leb-true, None, Option, Some}
+use mathlib.Core.Logic.{◌⊎◌, inl, inr}
 use native.Mathlib.Nat.{div-eq_of_lt, pow-le-pow_right}
 use lib.ListN.{get_or-eq_default}
 use borrow.Author.Tests.{ne_eqb}
@@ -8,7 +9,7 @@ use Rattle.lists.proofs.Cases.{by-test, never, and_second}
 use Rattle.lists.proofs.Every.{every-at, up_at, up-length}
 use Rattle.store.specs.declared.types.KeyKind.{KeyKind}
 use Rattle.store.specs.declared.types.KeyKind.TheVariants.{Integer, Ipv4, Ipv6, Str, Binary}
-use Rattle.store.specs.Limits.{key_max, key_kind, key_type_of, is_known, key_length_fits, key_length_ok, present, is_rate, rate_types, slot_types, slots_for, integers_of}
+use Rattle.store.specs.Limits.{key_max, key_kind, key_type_of, is_known, key_length_fits, key_length_ok, present, is_rate, is_wide, rate_types, slot_types, slots_for, integers_of}
 
 -- a number that is none of these has no kind
 pub kind-unknown : (n : ℕ) → (n ≡ 2 → ⊥) → (n ≡ 4 → ⊥) → (n ≡ 5 → ⊥) → (n ≡ 6 → ⊥) → (n ≡ 7 → ⊥) → None ≡ key_kind n
@@ -93,6 +94,11 @@ present-past types t h l =
 pub present-at : (types t : ℕ) → t < 32 → eqb ((types / get_or powers t 0) % 2) 1 ≡ present types t
 unfolding present
 present-at types t h = rw (power_at t h)
+
+-- a data type that is none of these two takes 32 bits
+pub not_wide : (t : ℕ) → ((t ≡ 13) ⊎ (t ≡ 15) → ⊥) → false ≡ is_wide t
+unfolding is_wide among
+not_wide t h = rw (ne_eqb t 13 (λ e. h (inl e)), ne_eqb t 15 (λ e. h (inr e)))
 
 -- 10 single integers and 8 times 3: 34 slots, each of a data type from 1 to 18
 pub slot-count : length slot_types ≡ 34

@@ -225,6 +225,11 @@ written-change t (change.Entry i x) cs e = rw e
 
 -- ---- what the three parts of the reading call ensure gives its promise
 
+pub finished-so : (m : StepChange) (cs rs : List ℕ) → rs ≡ answered_counts m.outcome.answer cs
+    → ◌≡◌ {A = Finished} (record { outcome = m.outcome; session = m.session; counts = rs; change = m.change }) (finished_as cs m)
+unfolding finished_as
+finished-so m cs rs o = rw o
+
 pub promised : (s : Session) (t : Store) (piece : List ℕ) (x : Started) (y : (Option Place)) (room : List ℕ) (r : Finished) (h : Store) (final : List ℕ)
     → h ≡ written (with_counts t r.counts) r.change → StoreShape t → Starts s t.tables piece x → Scans (record { tables = t.tables; entry = sought x.asked }) t y
     → (r ≡ finished_as t.counts (end_step s x.part (end_of s x y (length room)))) × (final ≡ end_room room (end_of s x y (length room)))
