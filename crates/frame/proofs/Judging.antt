@@ -1,7 +1,7 @@
 -- Laws of `header_of`, of a length and of a whole frame. Where a law has an m, it is the number that the code tests, and the law holds
 -- for more numbers than that one.
 use Rattle.std.specs.Prelude.{Err, Ok, Option, Result, Some}
-use Prim.Native.Nat.{ℕ, ◌+◌, ◌≤◌, ◌<◌}
+use Prim.Native.Nat.{ℕ, ◌+◌, ◌^◌, ◌≤◌, ◌<◌}
 use native.Mathlib.Omega.{arith}
 use mathlib.Core.Path.{◌≡◌, sym}
 use mathlib.Core.List.{List}
@@ -28,7 +28,7 @@ stick-table class kind e h = rw (e, le-leb 128 kind h)
 
 -- ---- the length
 -- The end of a body fits: it begins at most ten bytes behind the header.
-pub end_fits : (s : List ℕ) (n start : ℕ) → Ok (n, start) ≡ read_int s 2 → n ≤ 1024 → Fits w64 (start + n)
+pub end_fits : (s : List ℕ) (n start : ℕ) → Ok (n, start) ≡ read_int s 2 → n < 2 ^ 32 → Fits w64 (start + n)
 end_fits s n start e h = let l : start ≤ 2 + 10 = at-most-ten s 2 n start (sym e) in record { fits = omega arith }
 
 -- i is what reads at position 2
