@@ -19,6 +19,7 @@ pub fn entry_keyed(e: &Entry, table: usize, key: &[u8]) -> bool
     if e.held != 1 || e.table != table || e.key_len != n {
         return false;
     }
+    // a copy, as in `entry_apart`: a loop over copies is compiled to wide instructions
     let bytes = e.key;
     same(&bytes[..n], key)
 }
