@@ -1,4 +1,4 @@
--- `distinct`: at two places, and from all pairs of places.
+-- `distinct`: at two places, from all pairs of places, and by each element with those behind it.
 use Prim.Native.Nat.{ℕ, zero, suc, ◌<◌}
 use native.Mathlib.Omega.{arith}
 use mathlib.Core.Path.{◌≡◌, refl, sym, ap, ◌∙◌}
@@ -6,7 +6,7 @@ use mathlib.Core.Bool.{Bool, true, false, not, ◌&&◌}
 use mathlib.Core.List.{List, [], ◌∷◌}
 use lib.ListN.{length, get_or}
 use borrow.Author.Tests.{not-true}
-use Rattle.lists.specs.Lists.{every, distinct}
+use Rattle.lists.specs.Lists.{every, distinct, behind}
 use Rattle.lists.proofs.Cases.{and_first, and_second, and_intro}
 use Rattle.lists.proofs.Every.{every-at, every-from}
 
@@ -40,3 +40,9 @@ module _ {A : Type 0} (alike : A → A → Bool) where
       ∙ and_intro (every (unlike x) xs) (distinct alike xs)
       (every-from (unlike x) xs d (λ i l. ap not (f 0 (suc i) (omega arith) (omega arith))))
       (distinct_from xs d (λ i j l m. f (suc i) (suc j) (omega arith) (omega arith)))
+
+  -- so a test of each element beside those behind it, in `all` over a `Behind`, tells whether no two are alike
+  pub distinct_behind : (xs : List A) → distinct alike xs ≡ every (λ p. every (unlike p.0) p.1) (behind xs)
+  unfolding distinct every behind
+  distinct_behind [] = refl
+  distinct_behind (x ∷ xs) = ap (λ b. every (unlike x) xs && b) (distinct_behind xs)

@@ -1,6 +1,7 @@
 -- Tests and searches over lists, and byte strings, for the definitions of other crates.
-use Rattle.std.specs.Prelude.{ℕ, zero, suc, ◌+◌, List, [], ◌∷◌, ◌++◌, Bool, true, false, not, ◌&&◌, ◌||◌, length, take, drop, eqb, Option, bytes_eq}
+use Rattle.std.specs.Prelude.{ℕ, zero, suc, ◌≡◌, ◌+◌, List, [], ◌∷◌, ◌++◌, Bool, true, false, not, ◌&&◌, ◌||◌, length, take, drop, eqb, Option, bytes_eq}
 use Rattle.std.specs.List.{list_all, position_from}
+use denote.Ref.{Bor}
 
 -- ---- tests
 
@@ -18,6 +19,15 @@ module _ {A : Type 0} where
   unfoldable pub distinct : (A → A → Bool) → List A → Bool
   distinct alike [] = true
   distinct alike (x ∷ xs) = every (λ y. not (alike x y)) xs && distinct alike xs
+
+  -- what `apart` answers of an element and others says whether it is alike to none of them
+  abbrev pub TellsApart : (Bor A → Bor (List A) → Bool → Type 0) → (A → A → Bool) → Type 0
+  TellsApart apart alike = (x : Bor A) (ys : Bor (List A)) (r : Bool) → apart x ys r → r ≡ every (λ y. not (alike x.now y)) ys.now
+
+  -- each element, with those behind it
+  unfoldable pub behind : List A → List (A × List A)
+  behind [] = []
+  behind (x ∷ xs) = (x, xs) ∷ behind xs
 
   -- ---- places
 

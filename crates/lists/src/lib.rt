@@ -1,6 +1,7 @@
 // Byte strings, a list of bytes in an array, and elements of a list compared: what the layers above share.
 #![tactic(auto)]
 
+pub mod behind;
 pub mod inline;
 
 ghost use Rattle.std.specs.Prelude.{◌≡◌, length, not, Bool};
@@ -54,7 +55,8 @@ pub trait Apart<T> {
         ensures { result ≡ every (λ y. not (alike x.now y)) others.now };
 }
 
-// Whether no element is alike to a later one. What is left of the list shrinks: no iterator gives each element with those after it.
+// Whether no element is alike to a later one. What is left of the list shrinks. A test that holds values is asked in `all` over
+// `behind::Behind`, which gives each element with those behind it.
 pub fn all_distinct<T, A: Apart<T>>(xs: &[T]) -> bool
     ensures { result ≡ distinct A.alike xs.now }
 {
