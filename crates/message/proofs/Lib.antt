@@ -3,3 +3,4 @@ pub mod Acknowledging
 pub mod Updating
 pub mod Kept
 pub mod Ignored
+pub mod Replies

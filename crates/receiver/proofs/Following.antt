@@ -1,5 +1,5 @@
 -- The ledger follows the record: after each message it says of every place what the record says, and the reply carries it.
-use Prim.Native.Nat.{ℕ, ◌+◌, ◌-◌, ◌≤◌, ◌<◌, ◌^◌}
+use Prim.Native.Nat.{ℕ, ◌+◌, ◌-◌, ◌<◌, ◌^◌}
 use native.Mathlib.Omega.{arith}
 use mathlib.Core.Path.{◌≡◌, refl, sym, ap, subst, ◌∙◌}
 use mathlib.Core.Logic.{⊎_elim}
@@ -21,11 +21,13 @@ use Rattle.session.specs.declared.Answer.{Answer}
 use Rattle.session.specs.declared.Answer.TheVariants as answer
 use Rattle.session.specs.Answers.{refusal_of, refusal_reply, is_size_limit, is_protocol_error}
 use Rattle.session.proofs.answers.Refusals.{of-refusal}
+use Rattle.session.proofs.Replies.{refusal-short, accepted-short}
 use Rattle.session.specs.Session.{binding_at, no_binding, is_bound, is_updated, bound_to, closed_with, establish, make_current, with_tables, bind, bind_to, unbind, committed, commit_to}
 use Rattle.session.proofs.CurrentTable.{current-within}
 use Rattle.session.proofs.Bindings.{bound-here, bound-lost, bound-kept, bind-cases, commit-cases, committed-here, committed-other}
 use Rattle.message.specs.declared.Effect.{Effect}
 use Rattle.message.specs.Effects.{refuse_with, note, peer_error, control, control_answer, control_reply, define_at, commit_at, acknowledge}
+use Rattle.message.proofs.Replies.{control-short}
 use Rattle.streams.specs.Model.{Ended}
 use Rattle.receiver.specs.Ledger.{Ledger, start_ledger, post, defines, switches, commits, without, at, table_id, update_id, is_acknowledgement, Carried, RightReply, NoAcknowledgement}
 
@@ -83,35 +85,11 @@ control-not type = by-test (leb 1 type && leb type 2) (λ a. rw a) (λ a. rw a)
 none-none : NoAcknowledgement []
 none-none = record { other = none-not; short = omega arith }
 
-line-short : (n : ℕ) → length (refusal_line n) ≤ 4
-unfolding refusal_line status_line hb.decimal hb.decimal_in lf
-line-short n =
-    by-test (eqb n 10)
-    (λ a. rw a (omega arith))
-    (λ a.
-    rw a
-    (by-test (eqb n 11)
-    (λ b. rw b (omega arith))
-    (λ b. rw b (by-test (eqb n 12) (λ d. rw d (omega arith)) (λ d. rw d (by-test (eqb n 13) (λ e. rw e (omega arith)) (λ e. rw e (omega arith))))))))
-
-refusal-short : (n : ℕ) → length (refusal_reply n) ≤ 4
-unfolding refusal_reply
-refusal-short n =
-    by-test (is_size_limit n) (λ a. rw a (omega arith)) (λ a. rw a (by-test (is_protocol_error n) (λ b. rw b (omega arith)) (λ b. rw b (line-short n))))
-
 pub refusal-none : (n : ℕ) → NoAcknowledgement (refusal_reply n)
 refusal-none n = record { other = refusal-not n; short = refusal-short n }
 
-accepted-short : length (status_line 200) ≤ 4
-unfolding status_line hb.decimal hb.decimal_in lf
-accepted-short = omega arith
-
 pub accepted-none : NoAcknowledgement (status_line 200)
 accepted-none = record { other = accepted-not; short = accepted-short }
-
-control-short : (type : ℕ) → length (control_reply type) ≤ 4
-unfolding control_reply
-control-short type = by-test (leb 1 type && leb type 2) (λ a. rw a (omega arith)) (λ a. rw a (omega arith))
 
 pub control-none : (type : ℕ) → NoAcknowledgement (control_reply type)
 control-none type = record { other = control-not type; short = control-short type }

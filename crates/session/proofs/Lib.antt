@@ -3,6 +3,7 @@ pub mod Bindings
 pub mod CurrentTable
 pub mod Holding
 pub mod Refusals
+pub mod Replies
 pub mod Shapes
 pub mod Typed
 pub mod Unfinished
