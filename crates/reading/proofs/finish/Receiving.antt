@@ -86,16 +86,20 @@ no_front : (room : List ℕ) → room ≡ front [] room
 unfolding front
 no_front room = refl
 
--- a reply of more than twelve bytes isn't put; another that the room has place for stands at its front
+-- a reply of more than twelve bytes isn't put; another is, where the room has place for it, and stands at its front
 pub replied-long : (reply room : List ℕ) → 12 < length reply → room ≡ replied reply room
 unfolding replied
 replied-long reply room h = rw (lt-ltb 12 (length reply) h)
 
-pub replied-front : (reply room : List ℕ) → length reply ≤ 12 → 12 ≤ length room → replied reply room ≡ front reply room
-unfolding replied put_room overlay front
+pub replied-short : (reply room : List ℕ) → length reply ≤ 12 → replied reply room ≡ put_room room 0 reply
+unfolding replied
+replied-short reply room l = rw (le-ltb 12 (length reply) l)
+
+pub replied-front : (reply room : List ℕ) → length reply ≤ 12 → length reply ≤ length room → replied reply room ≡ front reply room
+unfolding put_room overlay front
 replied-front reply room l h =
     let e : 0 + length reply ≡ length reply = omega arith in
-    rw (le-ltb 12 (length reply) l, e, le-leb (length reply) (length room) (omega (arith, l, h)))
+    rw (replied-short reply room l, e, le-leb (length reply) (length room) h)
 
 -- ---- the call
 
@@ -167,5 +171,5 @@ module _ (s : Session) (t : Store) (piece : List ℕ) (x : Part) (p : x ≡ take
           → final ≡ front model.reply room
       answers-room room final h q =
           q
-          ∙ (replied-front (effect_of s.connection judged).reply room reply-short h
+          ∙ (replied-front (effect_of s.connection judged).reply room reply-short (omega (arith, reply-short, h))
           ∙ ap (λ (l : List ℕ). front l room) (ap (λ (e : Effect). e.reply) effect_is ∙ sym reply-is))
